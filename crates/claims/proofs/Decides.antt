@@ -1,0 +1,47 @@
+-- Tests that decide a proposition: `test ≡ true` says the same as it.
+-- Assumes nothing.
+use mathlib.Core.Path.{_≡_, refl, subst, sym}
+use mathlib.Core.Bool.{Bool, true, false, _&&_, _||_}
+use mathlib.Core.Logic.{_⊎_, inl, inr, ⊎-elim, _↔_}
+use Prim.Native.Nat.{ℕ, _<_, _≤_}
+use borrow.Author.Tests.{eqb-true, leb-true, ltb-true, eq-eqb, le-leb, lt-ltb}
+use lib.Dec.{T, eqb, leb, ltb}
+use lib.IntN.{ℤ}
+use lib.Signed.{leZ, ltZ, _≤ℤ_, _<ℤ_}
+
+abbrev pub Decides : Bool → Type 0 → Type 0
+Decides b A = (b ≡ true) ↔ A
+
+pub decides-eq : (m n : ℕ) → Decides (eqb m n) (m ≡ n)
+decides-eq m n = (eqb-true m n, eq-eqb m n)
+
+pub decides-le : (m n : ℕ) → Decides (leb m n) (m ≤ n)
+decides-le m n = (leb-true m n, le-leb m n)
+
+pub decides-lt : (m n : ℕ) → Decides (ltb m n) (m < n)
+decides-lt m n = (ltb-true m n, lt-ltb m n)
+
+-- false is not true
+pub never : {A : Type 0} → false ≡ true → A
+never e = absurd (subst (λ (b : Bool). T b) (sym e) tt)
+
+pub is-true : (b : Bool) → T b → b ≡ true
+is-true true t = refl
+is-true false t = absurd t
+
+pub decides-T : (b : Bool) → Decides b (T b)
+decides-T b = (λ e. subst (λ (b : Bool). T b) (sym e) tt, is-true b)
+
+pub decides-leZ : (x y : ℤ) → Decides (leZ x y) (x ≤ℤ y)
+decides-leZ x y = (λ e. record { le = decides-T (leZ x y) .0 e }, λ h. is-true (leZ x y) (h .le))
+
+pub decides-ltZ : (x y : ℤ) → Decides (ltZ x y) (x <ℤ y)
+decides-ltZ x y = (λ e. record { lt = decides-T (ltZ x y) .0 e }, λ h. is-true (ltZ x y) (h .lt))
+
+pub decides-and : {a b : Bool} {A B : Type 0} → Decides a A → Decides b B → Decides (a && b) (A × B)
+decides-and {a = true} p q = (λ e. (p .0 refl, q .0 e), λ h. q .1 (h .1))
+decides-and {a = false} p q = (never, λ h. p .1 (h .0))
+
+pub decides-or : {a b : Bool} {A B : Type 0} → Decides a A → Decides b B → Decides (a || b) (A ⊎ B)
+decides-or {a = true} p q = (λ e. inl (p .0 refl), λ h. refl)
+decides-or {a = false} p q = (λ e. inr (q .0 e), ⊎-elim (λ h. never (p .1 h)) (λ h. q .1 h))

@@ -1,0 +1,9 @@
+pub mod Answers
+pub mod Contracts
+pub mod Decides
+pub mod Marked
+pub mod Unassigned
+pub mod Ranges
+pub mod Written
+pub mod Computed
+pub mod Instructions

@@ -1,0 +1,68 @@
+-- The unassigned words, by one test over opcode, e and f.
+-- Assumes nothing.
+use mathlib.Core.Path.{_≡_, refl, sym, _∙_, ap}
+use mathlib.Core.Bool.{Bool, true, false, not, _&&_, _||_}
+use mathlib.Core.Logic.{_↔_}
+use Prim.Native.Nat.{ℕ, _/_, _%_, _<_}
+use native.Mathlib.Omega.{arith}
+use lib.Dec.{T, eqb, leb}
+use Rattle.word.specs.Fields.{opcode, e-of, f-of}
+use Rattle.word.proofs.Computed.{all, all-at}
+use Rattle.isa.specs.declared.rows.Entry.{Entry}
+use Rattle.isa.specs.declared.rows.Entry.the-variants.{Unassigned as Empty, Assigned}
+use Rattle.isa.specs.Sheet.{kindAt}
+use Rattle.isa.specs.Instructions.{Read, instruction, unassigned, readAs, readOf}
+use Rattle.claims.specs.Instructions.{Unassigned}
+use Rattle.claims.proofs.Decides.{Decides, never, decides-eq, decides-le, decides-and, decides-or}
+
+is-empty : Entry → Bool
+is-empty Empty = true
+is-empty (Assigned k) = false
+
+-- the statement, as a test of opcode and f
+listed : ℕ → ℕ → Bool
+listed op f = (eqb op 1 && (eqb f 2 || (eqb f 6 || eqb f 7))) || leb 11 op
+
+same : Bool → Bool → Bool
+same true b = b
+same false b = not b
+
+same-is : (a b : Bool) → T (same a b) → a ≡ b
+unfolding same
+same-is true true t = refl
+same-is true false t = absurd t
+same-is false true t = absurd t
+same-is false false t = refl
+
+test : ℕ → ℕ → ℕ → Bool
+test op e f = same (is-empty (kindAt op e f)) (listed op f)
+
+tested : T (all 16 (λ op. all 2 (λ e. all 8 (λ f. test op e f))))
+unfolding all test same is-empty listed kindAt
+tested = tt
+
+agrees : (w : ℕ) → w < 65536 → is-empty (kindAt (opcode w) (e-of w) (f-of w)) ≡ listed (opcode w) (f-of w)
+unfolding test
+agrees w h =
+    same-is _ _
+    (all-at 8 (λ f. test (opcode w) (e-of w) f)
+    (all-at 2 (λ e. all 8 (λ f. test (opcode w) e f))
+    (all-at 16 (λ op. all 2 (λ e. all 8 (λ f. test op e f))) tested (opcode w) (omega arith)) (e-of w) (omega arith)) (f-of w) (omega arith))
+
+says : (w : ℕ) → Decides (listed (opcode w) (f-of w)) (Unassigned w)
+unfolding listed
+says w =
+    decides-or
+    (decides-and (decides-eq (opcode w) 1) (decides-or (decides-eq (f-of w) 2) (decides-or (decides-eq (f-of w) 6) (decides-eq (f-of w) 7))))
+    (decides-le 11 (opcode w))
+
+reads : (x : Entry) (w : ℕ) → Decides (is-empty x) (readAs x w ≡ unassigned)
+unfolding is-empty
+reads Empty w = (λ e. refl, λ e. refl)
+reads (Assigned k) w = (never, λ e. let z : _≡_ {A = ℕ} 0 1 = cc in absurd (omega arith))
+
+pub unassigned-words : (w : ℕ) → w < 65536 → (readOf w ≡ unassigned) ↔ Unassigned w
+unfolding readOf
+unassigned-words w h =
+    let x = kindAt (opcode w) (e-of w) (f-of w) in
+    (λ e. says w .0 (sym (agrees w h) ∙ reads x w .1 e), λ u. reads x w .0 (agrees w h ∙ says w .1 u))

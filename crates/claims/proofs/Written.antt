@@ -1,0 +1,142 @@
+-- A word that was written reads as the instruction: its fixed bits give the kind, and its fields give the parts.
+-- Assumes nothing.
+use mathlib.Core.Path.{_≡_, refl, sym, _∙_, ap}
+use mathlib.Core.Bool.{Bool, true, false}
+use Prim.Native.Nat.{ℕ, _*_, _/_, _%_, _<_}
+use native.Mathlib.Omega.{arith}
+use borrow.Author.Tests.{ltb-true, eq-eqb}
+use lib.Dec.{T, eqb, ltb}
+use lib.ListN.{getD}
+use Rattle.refusal.specs.declared.Refusal.the-variants.{InstructionPart}
+use Rattle.word.specs.Fields.{opcode, e-of, f-of}
+use Rattle.word.specs.Word.{pick}
+use Rattle.word.proofs.Computed.{all, all-at}
+use Rattle.isa.specs.declared.Kind.{Kind}
+use Rattle.isa.specs.declared.Kind.the-variants.{And}
+use Rattle.isa.specs.declared.Instruction.{Instruction}
+use Rattle.isa.specs.declared.Writing.{Writing}
+use Rattle.isa.specs.declared.Writing.the-variants.{Word, Refused}
+use Rattle.isa.specs.declared.rows.Entry.{Entry}
+use Rattle.isa.specs.declared.rows.Entry.the-variants.{Assigned}
+use Rattle.isa.specs.declared.layout.Form.{Form}
+use Rattle.isa.specs.declared.layout.Form.the-variants.{Three, Not, Load, Store, Jump, Branch, Output, Move, Input}
+use Rattle.isa.specs.declared.layout.Layout.{Layout}
+use Rattle.isa.specs.declared.parts.Low.{Low}
+use Rattle.isa.specs.declared.parts.Low.the-variants.{Nothing, Bits}
+use Rattle.isa.specs.Sheet.{kinds, kindAt, sheet}
+use Rattle.isa.specs.Instructions.{instruction, readAs, readOf, word, refused, shownWriting, writeOf}
+use Rattle.isa.specs.Layouts.{formOf, layoutOf, wordSum, numberOf, bitsOf, fieldsOf, writeBits, writeIn}
+use Rattle.isa.proofs.Every.{every}
+use Rattle.isa.proofs.Numbers.{back}
+use Rattle.isa.proofs.Lines.{rest, restOf, base-of, Fixed, fixed, sound, parts-are, write-is}
+use Rattle.isa.proofs.Opcodes.{same, same-is}
+
+-- ---- The kind
+
+-- w has the opcode of a form's fixed bits, and their f or e
+abbrev Keyed : Form → ℕ → Type 0
+Keyed y w = (w / 4096 ≡ base-of y / 4096) × (restOf y w ≡ restOf y (base-of y))
+
+unless : Bool → Bool → Bool
+unless true b = b
+unless false b = true
+
+-- where opcode, e and f are those of k's fixed bits, the kind is k
+test : Kind → ℕ → ℕ → ℕ → Bool
+test k op e f =
+    unless (eqb op (base-of (formOf k) / 4096)) (unless (eqb (rest (formOf k) e f) (restOf (formOf k) (base-of (formOf k)))) (same (kindAt op e f) (Assigned k)))
+
+tested : T (all 25 (λ n. all 16 (λ op. all 2 (λ e. all 8 (λ f. test (getD kinds n And) op e f)))))
+unfolding all test unless same kindAt
+tested = tt
+
+kind-found : (k : Kind) (w : ℕ) → w < 65536 → Keyed (formOf k) w → kindAt (opcode w) (e-of w) (f-of w) ≡ Assigned k
+unfolding test unless
+kind-found k w h q =
+    let t = every (λ k. all 16 (λ op. all 2 (λ e. all 8 (λ f. test k op e f)))) tested k in
+    let t₀ = all-at 16 (λ op. all 2 (λ e. all 8 (λ f. test k op e f))) t (w / 4096) (omega arith) in
+    let t₁ = all-at 2 (λ e. all 8 (λ f. test k (w / 4096) e f)) t₀ (w / 256 % 2) (omega arith) in
+    let t₂ = all-at 8 (λ f. test k (w / 4096) (w / 256 % 2) f) t₁ (w % 8) (omega arith) in
+    let op : opcode w ≡ w / 4096 = omega arith in
+    let f : f-of w ≡ w % 8 = omega arith in
+    (λ j. kindAt (op j) (e-of w) (f j)) ∙ same-is _ (Assigned k) (rw (eq-eqb _ _ (q .0), eq-eqb _ _ (q .1)) at t₂)
+
+-- ---- The parts
+
+record Placed (y : Form) (a b d x : ℕ) : Type 0 where
+  key : Keyed y (wordSum (layoutOf y) a b d x)
+  a-is : wordSum (layoutOf y) a b d x / 512 % (layoutOf y .a) ≡ a
+  b-is : wordSum (layoutOf y) a b d x / 64 % (layoutOf y .b) ≡ b
+  d-is : wordSum (layoutOf y) a b d x / (layoutOf y .at) % (layoutOf y .d) ≡ d
+  x-is : wordSum (layoutOf y) a b d x % (layoutOf y .size) ≡ x
+
+-- (with fewer facts in reach than `placed` has, which `omega` needs)
+placed-three : (v a b d x : ℕ) → v % 4096 < 8 → a < 8 → b < 8 → d < 8 → x < 1 → Placed (Three v) a b d x
+placed-three v a b d x g p q r s = omega arith
+
+placed-not : (v a b d x : ℕ) → v % 4096 < 8 → a < 8 → b < 1 → d < 8 → x < 1 → Placed (Not v) a b d x
+placed-not v a b d x g p q r s = omega arith
+
+placed : (y : Form) → Fixed y → (a b d x : ℕ) → a < layoutOf y .a → b < layoutOf y .b → d < layoutOf y .d → x < layoutOf y .size → Placed y a b d x
+placed (Three v) g a b d x p q r s = placed-three v a b d x (omega (arith, g .low)) p q r s
+placed (Not v) g a b d x p q r s = placed-not v a b d x (omega (arith, g .low)) p q r s
+placed (Load v) g a b d x p q r s = omega arith
+placed (Store v) g a b d x p q r s = omega arith
+placed (Jump v) g a b d x p q r s = omega arith
+placed (Branch v) g a b d x p q r s = omega arith
+placed (Output v) g a b d x p q r s = omega arith
+placed (Move v) g a b d x p q r s = omega arith
+placed (Input v) g a b d x p q r s = omega arith
+
+-- ---- What a written instruction has
+
+record Accepted (m : Layout) (i : Instruction) (w : ℕ) : Type 0 where
+  a-in : i .a < m .a
+  b-in : i .b < m .b
+  d-in : i .d < m .d
+  x : ℕ
+  bits : bitsOf (m .size) (m .below) (i .n) ≡ Bits x
+  is : wordSum m (i .a) (i .b) (i .d) x ≡ w
+
+pick-word : (t : Bool) (u : Writing) (w : ℕ) → pick t u (Refused InstructionPart) ≡ Word w → (t ≡ true) × (u ≡ Word w)
+pick-word true u w e = (refl, e)
+pick-word false u w e = let z : _≡_ {A = ℕ} 0 1 = cc in absurd (omega arith)
+
+word-bits : (m : Layout) (i : Instruction) (l : Low) (w : ℕ) → writeBits m i l ≡ Word w → (x : ℕ) × (l ≡ Bits x) × (wordSum m (i .a) (i .b) (i .d) x ≡ w)
+word-bits m i Nothing w e = let z : _≡_ {A = ℕ} 0 1 = cc in absurd (omega arith)
+word-bits m i (Bits x) w e = (x, refl, cc)
+
+accepted : (m : Layout) (i : Instruction) (w : ℕ) → writeIn m i ≡ Word w → Accepted m i w
+accepted m i w e =
+    let p = pick-word (ltb (i .a) (m .a)) _ w e in
+    let q = pick-word (ltb (i .b) (m .b)) _ w (p .1) in
+    let r = pick-word (ltb (i .d) (m .d)) _ w (q .1) in
+    let l = word-bits m i _ w (r .1) in
+    record { a-in = ltb-true _ _ (p .0); b-in = ltb-true _ _ (q .0); d-in = ltb-true _ _ (r .0); x = l .0; bits = l .1; is = l .2 }
+
+shown-word : (r : Writing) (w : ℕ) → shownWriting r ≡ word w → r ≡ Word w
+shown-word (Word v) w e = ap Word (cc)
+shown-word (Refused k) w e = let z : _≡_ {A = ℕ} 0 1 = cc in absurd (omega arith)
+
+-- the fields of a word that was placed are the parts
+fields-back : (y : Form) (i : Instruction) (w : ℕ) → Fixed y → (below : layoutOf y .below < layoutOf y .size) → Accepted (layoutOf y) i w
+    → Keyed y w × (fieldsOf (layoutOf y) (i .kind) w ≡ i)
+fields-back y i w g below h =
+    let n = back (layoutOf y .size) (layoutOf y .below) (i .n) (h .x) below (h .bits) in
+    let p = placed y g (i .a) (i .b) (i .d) (h .x) (h .a-in) (h .b-in) (h .d-in) (n .0) in (
+      rw (h .is) at (p .key),
+      rw (← (h .is)) (λ j. record { kind = i .kind; a = p .a-is j; b = p .b-is j; d = p .d-is j; n = (ap (numberOf (layoutOf y .size) (layoutOf y .below)) (p .x-is) ∙ n .1) j }),
+    )
+
+pub written-then-read : (i : Instruction) (w : ℕ) → writeOf i ≡ word w → (w < 65536) × (readOf w ≡ instruction i)
+unfolding readOf writeOf
+written-then-read i w e =
+    let k = i .kind in
+    let m = layoutOf (formOf k) in
+    let a = accepted m i w (shown-word _ w (write-is i ∙ e)) in
+    let x = back (m .size) (m .below) (i .n) (a .x) (sound k .below-few) (a .bits) in
+    let small : w < 65536 = rw (a .is) at (sound k .room (i .a) (i .b) (i .d) (a .x) (a .a-in) (a .b-in) (a .d-in) (x .0)) in
+    let h = fields-back (formOf k) i w (fixed k) (sound k .below-few) a in (
+      small,
+      ap (λ (x : Entry). readAs x w) (kind-found k w small (h .0)) ∙ ap instruction (sym (parts-are k w) ∙ h .1),
+    )

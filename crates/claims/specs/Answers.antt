@@ -1,0 +1,20 @@
+-- The definition that gives the paper's number and values for each case of an answer fixes the answer: two answers that
+-- it shows alike are one.
+use mathlib.Core.Path.{_≡_}
+use Prim.Native.Nat.{ℕ}
+use Rattle.refusal.specs.declared.Refusal.{Refusal}
+use Rattle.refusal.specs.Refusals.{refusalNumber}
+use Rattle.isa.specs.declared.Kind.{Kind}
+use Rattle.isa.specs.declared.Reading.{Reading}
+use Rattle.isa.specs.declared.Writing.{Writing}
+use Rattle.isa.specs.Sheet.{kindNumber}
+use Rattle.isa.specs.Instructions.{Read, Written, shownReading, shownWriting}
+
+abbrev pub Injective : {A B : Type 0} → (A → B) → Type 0
+Injective {A} f = (x y : A) → f x ≡ f y → x ≡ y
+
+pub record Answers : Type 0 where
+  pub refusal : Injective refusalNumber
+  pub kind : Injective kindNumber
+  pub reading : Injective shownReading
+  pub writing : Injective shownWriting

@@ -1,0 +1,53 @@
+-- Demand 2, reading and writing: every 16-bit word reads as one of the 25 instructions or as unassigned, and each
+-- instruction is written as the sheet's word and reads back as itself.
+use mathlib.Core.Path.{_≡_}
+use mathlib.Core.Logic.{_⊎_, _↔_}
+use Prim.Native.Nat.{ℕ, _-_, _^_, _<_, _≤_}
+use lib.Dec.{eqb}
+use lib.IntN.{ℤ, pos, negℤ}
+use lib.Signed.{_≤ℤ_, _<ℤ_}
+use Rattle.word.specs.Fields.{Bits, field, opcode, f-of}
+use Rattle.word.specs.Word.{pick}
+use Rattle.isa.specs.declared.Kind.{Kind}
+use Rattle.isa.specs.declared.Instruction.{Instruction}
+use Rattle.isa.specs.Sheet.{Number, signed-n, unsigned-n, Line, sheet}
+use Rattle.isa.specs.Instructions.{Read, instruction, unassigned, readOf, Written, word, refused, placed, writeOf}
+
+-- the unassigned words: opcode 1 with f = 2, 6 or 7, and opcodes 11 to 15
+abbrev pub Unassigned : ℕ → Type 0
+Unassigned w = ((opcode w ≡ 1) × ((f-of w ≡ 2) ⊎ (f-of w ≡ 6) ⊎ (f-of w ≡ 7))) ⊎ (11 ≤ opcode w)
+
+-- a register is 0 to 7; an unused one is 0
+abbrev pub Register : Bits → ℕ → Type 0
+Register p x = pick (eqb (p .count) 0) (x ≡ 0) (x < 8)
+
+-- n is -32..31 in 6 bits and -128..127 in 8 where it is signed, 0..255 in 8 bits where not; unused, 0
+abbrev pub Range : Number → Bits → ℤ → Type 0
+Range signed-n p n = (negℤ (pos (2 ^ (p .count - 1))) ≤ℤ n) × (n <ℤ pos (2 ^ (p .count - 1)))
+Range unsigned-n p n = (pos 0 ≤ℤ n) × (n <ℤ pos (2 ^ p .count))
+
+-- each part is in its range, and each unused part is 0
+pub record InRange (i : Instruction) : Type 0 where
+  pub a : Register (sheet (i .kind) .format .a) (i .a)
+  pub b : Register (sheet (i .kind) .format .b) (i .b)
+  pub d : Register (sheet (i .kind) .format .d) (i .d)
+  pub n : Range (sheet (i .kind) .number) (sheet (i .kind) .format .n) (i .n)
+
+-- w with the bits cleared that reading ignores: NOT's bits 8..6, JALR's bits 5..0
+abbrev pub cleared : Kind → ℕ → ℕ
+cleared k w = w - placed (sheet k .format .ignored) (field (sheet k .format .ignored) w)
+
+pub record Instructions : Type 0 where
+  -- Every 16-bit word reads as unassigned, just where it is,
+  pub unassigned-words : (w : ℕ) → w < 65536 → (readOf w ≡ unassigned) ↔ Unassigned w
+  -- or as one of the 25 instructions, its parts in their ranges.
+  pub assigned-words : (w : ℕ) → w < 65536 → (Unassigned w → ⊥) → (i : Instruction) × (readOf w ≡ instruction i) × InRange i
+  -- Writing what was read returns the word with the ignored bits cleared.
+  pub read-then-written : (w : ℕ) → w < 65536 → (i : Instruction) → readOf w ≡ instruction i → writeOf i ≡ word (cleared (i .kind) w)
+  -- An instruction that is written gives a 16-bit word, which reads back as that instruction.
+  pub written-then-read : (i : Instruction) (w : ℕ) → writeOf i ≡ word w → (w < 65536) × (readOf w ≡ instruction i)
+  -- It is written exactly when each part is in its range and each unused part is 0,
+  pub written : (i : Instruction) → InRange i ↔ ((w : ℕ) × (writeOf i ≡ word w))
+  -- and refused with 7 otherwise, and with no other number.
+  pub refused-7 : (i : Instruction) → (InRange i → ⊥) ↔ (writeOf i ≡ refused 7)
+  pub no-other : (i : Instruction) (k : ℕ) → writeOf i ≡ refused k → k ≡ 7

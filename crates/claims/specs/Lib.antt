@@ -1,0 +1,4 @@
+pub mod Answers
+pub mod Instructions
+pub mod Marked
+pub mod Contracts

@@ -1,0 +1,5 @@
+pub mod Every
+pub mod Numbers
+pub mod Lines
+pub mod Opcodes
+pub mod Signs

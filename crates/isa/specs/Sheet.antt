@@ -1,0 +1,203 @@
+-- The reference sheet (004): its instruction formats, its table, a line for each of the 25 instructions, and the opcodes.
+use Prim.Native.Nat.{ℕ}
+use mathlib.Core.List.{List, [], _∷_}
+use lib.Dec.{eqb}
+use lib.ListN.{getD}
+use Rattle.word.specs.Fields.{Bits, bits}
+use Rattle.word.specs.Word.{pick}
+use Rattle.isa.specs.declared.Kind.{Kind}
+use Rattle.isa.specs.declared.Kind.the-variants.{And, Or, Xor, Not, Add, Sub, Sha, Shl, Cmplt, Cmple, Cmpeq, Cmpltu, Cmpleu, Addi, Ld, St, Ldb, Stb, Jalr, Bz, Bnz, Movi, Movhi, In, Out}
+use Rattle.isa.specs.declared.rows.Entry.{Entry}
+use Rattle.isa.specs.declared.rows.Entry.the-variants.{Unassigned, Assigned}
+
+-- ---- Instruction formats: where the parts a, b, d and n stand in the word. A part that a format lacks is `none`: no
+-- instruction of that format uses it. `ignored` are the bits x, which reading ignores and writing sets to 0.
+pub record Format : Type 0 where
+  pub a : Bits
+  pub b : Bits
+  pub d : Bits
+  pub n : Bits
+  pub ignored : Bits
+
+-- no bits
+abbrev pub none : Bits
+none = record { lowest = 0; count = 0 }
+
+-- 3R   c c c c  a a a  b b b  d d d  f f f
+abbrev pub R3 : Format
+R3 = record { a = bits 11 9; b = bits 8 6; d = bits 5 3; n = none; ignored = none }
+
+-- 3R   c c c c  a a a  x x x  d d d  f f f            NOT, which has no Rb
+abbrev pub R3-NOT : Format
+R3-NOT = record { a = bits 11 9; b = none; d = bits 5 3; n = none; ignored = bits 8 6 }
+
+-- 2R   c c c c  a a a  b b b  n n n n n n             ST, STB
+abbrev pub R2-ab : Format
+R2-ab = record { a = bits 11 9; b = bits 8 6; d = none; n = bits 5 0; ignored = none }
+
+-- 2R   c c c c  a a a  d d d  n n n n n n             ADDI, LD, LDB
+abbrev pub R2-ad : Format
+R2-ad = record { a = bits 11 9; b = none; d = bits 8 6; n = bits 5 0; ignored = none }
+
+-- 2R   c c c c  a a a  d d d  x x x x x x             JALR, which has no N6
+abbrev pub R2-JALR : Format
+R2-JALR = record { a = bits 11 9; b = none; d = bits 8 6; n = none; ignored = bits 5 0 }
+
+-- 1R   c c c c  a a a  e  n n n n n n n n             BZ, BNZ, OUT
+abbrev pub R1-a : Format
+R1-a = record { a = bits 11 9; b = none; d = none; n = bits 7 0; ignored = none }
+
+-- 1R   c c c c  d d d  e  n n n n n n n n             MOVI, MOVHI, IN
+abbrev pub R1-d : Format
+R1-d = record { a = none; b = none; d = bits 11 9; n = bits 7 0; ignored = none }
+
+-- ---- The table: the columns Format, Op. Code, e and F, and how the bits of n are read (footnote 5).
+
+-- the sheet's F or e, or neither
+pub data Code : Type 0 where
+  F E : ℕ → Code
+  only : Code
+
+-- how n's k bits are read: as signed, -2^(k-1) to 2^(k-1) - 1, or as unsigned, 0 to 2^k - 1
+pub data Number : Type 0 where
+  signed-n unsigned-n : Number
+
+pub record Line : Type 0 where
+  pub format : Format
+  pub opcode : ℕ
+  pub code : Code
+  pub number : Number
+
+-- a line with n, and one without: of no bits, n is 0
+abbrev line-n : Format → ℕ → Code → Number → Line
+line-n r o c z = record { format = r; opcode = o; code = c; number = z }
+
+abbrev line : Format → ℕ → Code → Line
+line r o c = line-n r o c unsigned-n
+
+abbrev pub sheet : Kind → Line
+-- AND Rd, Ra, Rb      0000 aaa bbb ddd 000
+sheet And = line R3 0 (F 0)
+-- OR Rd, Ra, Rb       0000 aaa bbb ddd 001
+sheet Or = line R3 0 (F 1)
+-- XOR Rd, Ra, Rb      0000 aaa bbb ddd 010
+sheet Xor = line R3 0 (F 2)
+-- NOT Rd, Ra          0000 aaa xxx ddd 011
+sheet Not = line R3-NOT 0 (F 3)
+-- ADD Rd, Ra, Rb      0000 aaa bbb ddd 100
+sheet Add = line R3 0 (F 4)
+-- SUB Rd, Ra, Rb      0000 aaa bbb ddd 101
+sheet Sub = line R3 0 (F 5)
+-- SHA Rd, Ra, Rb      0000 aaa bbb ddd 110
+sheet Sha = line R3 0 (F 6)
+-- SHL Rd, Ra, Rb      0000 aaa bbb ddd 111
+sheet Shl = line R3 0 (F 7)
+-- CMPLT Rd, Ra, Rb    0001 aaa bbb ddd 000
+sheet Cmplt = line R3 1 (F 0)
+-- CMPLE Rd, Ra, Rb    0001 aaa bbb ddd 001
+sheet Cmple = line R3 1 (F 1)
+-- CMPEQ Rd, Ra, Rb    0001 aaa bbb ddd 011
+sheet Cmpeq = line R3 1 (F 3)
+-- CMPLTU Rd, Ra, Rb   0001 aaa bbb ddd 100
+sheet Cmpltu = line R3 1 (F 4)
+-- CMPLEU Rd, Ra, Rb   0001 aaa bbb ddd 101
+sheet Cmpleu = line R3 1 (F 5)
+-- ADDI Rd, Ra, N6     0010 aaa ddd nnnnnn
+sheet Addi = line-n R2-ad 2 only signed-n
+-- LD Rd, N6(Ra)       0011 aaa ddd nnnnnn
+sheet Ld = line-n R2-ad 3 only signed-n
+-- ST N6(Ra), Rb       0100 aaa bbb nnnnnn
+sheet St = line-n R2-ab 4 only signed-n
+-- LDB Rd, N6(Ra)      0101 aaa ddd nnnnnn
+sheet Ldb = line-n R2-ad 5 only signed-n
+-- STB N6(Ra), Rb      0110 aaa bbb nnnnnn
+sheet Stb = line-n R2-ab 6 only signed-n
+-- JALR Rd, Ra         0111 aaa ddd xxxxxx
+sheet Jalr = line R2-JALR 7 only
+-- BZ Ra, N8           1000 aaa 0 nnnnnnnn
+sheet Bz = line-n R1-a 8 (E 0) signed-n
+-- BNZ Ra, N8          1000 aaa 1 nnnnnnnn
+sheet Bnz = line-n R1-a 8 (E 1) signed-n
+-- MOVI Rd, N8         1001 ddd 0 nnnnnnnn
+sheet Movi = line-n R1-d 9 (E 0) signed-n
+-- MOVHI Rd, N8        1001 ddd 1 nnnnnnnn
+sheet Movhi = line-n R1-d 9 (E 1) unsigned-n
+-- IN Rd, N8           1010 ddd 0 nnnnnnnn
+sheet In = line-n R1-d 0xA (E 0) unsigned-n
+-- OUT N8, Ra          1010 aaa 1 nnnnnnnn
+sheet Out = line-n R1-a 0xA (E 1) unsigned-n
+
+-- ---- The opcodes: what tells the instructions of one opcode apart is f, nothing, or e; or the opcode is unassigned.
+
+pub data Row : Type 0 where
+  by-f : List Entry → Row
+  one : Kind → Row
+  by-e : Kind → Kind → Row
+  unassigned : Row
+
+abbrev pub rows : List Row
+rows =
+    -- 0, f = 0..7
+    by-f (Assigned And ∷ Assigned Or ∷ Assigned Xor ∷ Assigned Not ∷ Assigned Add ∷ Assigned Sub ∷ Assigned Sha ∷ Assigned Shl ∷ [])
+    -- 1, f = 2, 6, 7 unassigned
+    ∷ by-f (Assigned Cmplt ∷ Assigned Cmple ∷ Unassigned ∷ Assigned Cmpeq ∷ Assigned Cmpltu ∷ Assigned Cmpleu ∷ Unassigned ∷ Unassigned ∷ [])
+    -- 2 to 7
+    ∷ one Addi
+    ∷ one Ld
+    ∷ one St
+    ∷ one Ldb
+    ∷ one Stb
+    ∷ one Jalr
+    -- 8 to 10, e = 0, 1
+    ∷ by-e Bz Bnz
+    ∷ by-e Movi Movhi
+    ∷ by-e In Out
+    -- 11 to 15
+    ∷ unassigned
+    ∷ unassigned
+    ∷ unassigned
+    ∷ unassigned
+    ∷ unassigned
+    ∷ []
+
+abbrev pub inRow : Row → ℕ → ℕ → Entry
+inRow (by-f entries) e f = getD entries f Unassigned
+inRow (one k) e f = Assigned k
+inRow (by-e k₀ k₁) e f = pick (eqb e 0) (Assigned k₀) (Assigned k₁)
+inRow unassigned e f = Unassigned
+
+-- the kind of the words with this opcode, e and f
+unfoldable pub kindAt : ℕ → ℕ → ℕ → Entry
+kindAt op e f = inRow (getD rows op unassigned) e f
+
+-- ---- The kinds in the sheet's order, and each one's place in it, from 0 (the numbering is ours).
+
+abbrev pub kinds : List Kind
+kinds = And ∷ Or ∷ Xor ∷ Not ∷ Add ∷ Sub ∷ Sha ∷ Shl ∷ Cmplt ∷ Cmple ∷ Cmpeq ∷ Cmpltu ∷ Cmpleu ∷ Addi ∷ Ld ∷ St ∷ Ldb ∷ Stb ∷ Jalr ∷ Bz ∷ Bnz ∷ Movi ∷ Movhi ∷ In ∷ Out ∷ []
+
+abbrev pub kindNumber : Kind → ℕ
+kindNumber And = 0
+kindNumber Or = 1
+kindNumber Xor = 2
+kindNumber Not = 3
+kindNumber Add = 4
+kindNumber Sub = 5
+kindNumber Sha = 6
+kindNumber Shl = 7
+kindNumber Cmplt = 8
+kindNumber Cmple = 9
+kindNumber Cmpeq = 10
+kindNumber Cmpltu = 11
+kindNumber Cmpleu = 12
+kindNumber Addi = 13
+kindNumber Ld = 14
+kindNumber St = 15
+kindNumber Ldb = 16
+kindNumber Stb = 17
+kindNumber Jalr = 18
+kindNumber Bz = 19
+kindNumber Bnz = 20
+kindNumber Movi = 21
+kindNumber Movhi = 22
+kindNumber In = 23
+kindNumber Out = 24

@@ -1,0 +1,109 @@
+// Reading and writing one instruction.
+ghost use mathlib.Core.Path.{_≡_};
+ghost use Rattle.isa.specs.Sheet.{kindNumber};
+ghost use Rattle.isa.specs.Instructions.{readOf, writeOf, shownReading, shownWriting};
+use refusal::Refusal;
+
+mod layout;
+mod parts;
+mod rows;
+
+// The 25 kinds of instruction, in the sheet's order.
+pub enum Kind {
+    And,
+    Or,
+    Xor,
+    Not,
+    Add,
+    Sub,
+    Sha,
+    Shl,
+    Cmplt,
+    Cmple,
+    Cmpeq,
+    Cmpltu,
+    Cmpleu,
+    Addi,
+    Ld,
+    St,
+    Ldb,
+    Stb,
+    Jalr,
+    Bz,
+    Bnz,
+    Movi,
+    Movhi,
+    In,
+    Out,
+}
+
+// An instruction: its kind and its parts. A part that the kind does not use is 0.
+pub struct Instruction {
+    pub kind: Kind,
+    pub a: u8,
+    pub b: u8,
+    pub d: u8,
+    pub n: i16,
+}
+
+pub enum Reading {
+    Instruction(Instruction),
+    Unassigned,
+}
+
+pub enum Writing {
+    Word(u16),
+    Refused(Refusal),
+}
+
+// The kind's place in the sheet's table, from 0.
+pub fn kind_number(kind: Kind) -> u8
+    ensures { λ r. ⌜ r ≡ kindNumber kind ⌝ }
+{
+    match kind {
+        Kind::And => 0,
+        Kind::Or => 1,
+        Kind::Xor => 2,
+        Kind::Not => 3,
+        Kind::Add => 4,
+        Kind::Sub => 5,
+        Kind::Sha => 6,
+        Kind::Shl => 7,
+        Kind::Cmplt => 8,
+        Kind::Cmple => 9,
+        Kind::Cmpeq => 10,
+        Kind::Cmpltu => 11,
+        Kind::Cmpleu => 12,
+        Kind::Addi => 13,
+        Kind::Ld => 14,
+        Kind::St => 15,
+        Kind::Ldb => 16,
+        Kind::Stb => 17,
+        Kind::Jalr => 18,
+        Kind::Bz => 19,
+        Kind::Bnz => 20,
+        Kind::Movi => 21,
+        Kind::Movhi => 22,
+        Kind::In => 23,
+        Kind::Out => 24,
+    }
+}
+
+// The instruction that a word stands for.
+pub fn read(w: u16) -> Reading
+    ensures { λ r. ⌜ shownReading r ≡ readOf w ⌝ }
+{
+    match rows::kind_of(w) {
+        rows::Entry::Unassigned => Reading::Unassigned,
+        rows::Entry::Assigned(kind) => Reading::Instruction(parts::parts_of(kind, w)),
+    }
+}
+
+// The word of an instruction, or refusal 7.
+pub fn write(i: Instruction) -> Writing
+    ensures { λ r. ⌜ shownWriting r ≡ writeOf i ⌝ }
+{
+    let kind = i.kind;
+    let m = layout::layout_of(kind);
+    parts::word_of(m, i)
+}

@@ -1,0 +1,22 @@
+-- The refusal table of 01: the number of each refusal.
+use Prim.Native.Nat.{ℕ}
+use Rattle.refusal.specs.declared.Refusal.{Refusal}
+use Rattle.refusal.specs.declared.Refusal.the-variants.{LentLength, ShortFile, LargePart, PartOutside, OddPc, StepCount, InstructionPart, LongFile}
+
+abbrev pub refusalNumber : Refusal → ℕ
+-- P or D not 65,536 bytes, or I or O not 256 words (set looks at I only)
+refusalNumber LentLength = 1
+-- file under 16 bytes
+refusalNumber ShortFile = 2
+-- W or C over its limit
+refusalNumber LargePart = 3
+-- an offset or part end outside its bounds
+refusalNumber PartOutside = 4
+-- PC odd
+refusalNumber OddPc = 5
+-- n plus budget over 4,294,967,295
+refusalNumber StepCount = 6
+-- instruction with a part out of range, or an unused part not 0
+refusalNumber InstructionPart = 7
+-- the program's file exceeds 65,536 bytes
+refusalNumber LongFile = 8

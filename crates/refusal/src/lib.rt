@@ -1,0 +1,30 @@
+// The numbered refusals of paper 01's table; specs/Refusals.antt has the number and the condition of each.
+ghost use mathlib.Core.Path.{_≡_};
+ghost use Rattle.refusal.specs.Refusals.{refusalNumber};
+
+pub enum Refusal {
+    LentLength,
+    ShortFile,
+    LargePart,
+    PartOutside,
+    OddPc,
+    StepCount,
+    InstructionPart,
+    LongFile,
+}
+
+// The refusal's number in the table.
+pub fn number(refusal: Refusal) -> u8
+    ensures { λ r. ⌜ r ≡ refusalNumber refusal ⌝ }
+{
+    match refusal {
+        Refusal::LentLength => 1,
+        Refusal::ShortFile => 2,
+        Refusal::LargePart => 3,
+        Refusal::PartOutside => 4,
+        Refusal::OddPc => 5,
+        Refusal::StepCount => 6,
+        Refusal::InstructionPart => 7,
+        Refusal::LongFile => 8,
+    }
+}

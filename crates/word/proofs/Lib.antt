@@ -1,0 +1,4 @@
+pub mod Computed
+pub mod Signed
+pub mod Shifts
+pub mod Tables
