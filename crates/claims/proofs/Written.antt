@@ -26,10 +26,9 @@ use Rattle.isa.specs.declared.parts.Low.the-variants.{Nothing, Bits}
 use Rattle.isa.specs.Sheet.{kinds, kindAt, sheet}
 use Rattle.isa.specs.Instructions.{instruction, readAs, readOf, word, refused, shownWriting, writeOf}
 use Rattle.isa.specs.Layouts.{formOf, layoutOf, wordSum, numberOf, bitsOf, fieldsOf, writeBits, writeIn}
-use Rattle.isa.proofs.Every.{every}
+use Rattle.isa.proofs.Every.{every, same, same-is}
 use Rattle.isa.proofs.Numbers.{back}
 use Rattle.isa.proofs.Lines.{rest, restOf, base-of, Fixed, fixed, sound, parts-are, write-is}
-use Rattle.isa.proofs.Opcodes.{same, same-is}
 
 -- ---- The kind
 

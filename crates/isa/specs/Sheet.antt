@@ -135,12 +135,19 @@ pub data Row : Type 0 where
   by-e : Kind → Kind → Row
   unassigned : Row
 
+-- AND, OR, XOR, NOT, ADD, SUB, SHA, SHL
+abbrev pub operationKinds : List Entry
+operationKinds = Assigned And ∷ Assigned Or ∷ Assigned Xor ∷ Assigned Not ∷ Assigned Add ∷ Assigned Sub ∷ Assigned Sha ∷ Assigned Shl ∷ []
+
+-- CMPLT, CMPLE, -, CMPEQ, CMPLTU, CMPLEU, -, -
+abbrev pub comparisonKinds : List Entry
+comparisonKinds = Assigned Cmplt ∷ Assigned Cmple ∷ Unassigned ∷ Assigned Cmpeq ∷ Assigned Cmpltu ∷ Assigned Cmpleu ∷ Unassigned ∷ Unassigned ∷ []
+
 abbrev pub rows : List Row
 rows =
-    -- 0, f = 0..7
-    by-f (Assigned And ∷ Assigned Or ∷ Assigned Xor ∷ Assigned Not ∷ Assigned Add ∷ Assigned Sub ∷ Assigned Sha ∷ Assigned Shl ∷ [])
-    -- 1, f = 2, 6, 7 unassigned
-    ∷ by-f (Assigned Cmplt ∷ Assigned Cmple ∷ Unassigned ∷ Assigned Cmpeq ∷ Assigned Cmpltu ∷ Assigned Cmpleu ∷ Unassigned ∷ Unassigned ∷ [])
+    -- 0 and 1
+    by-f operationKinds
+    ∷ by-f comparisonKinds
     -- 2 to 7
     ∷ one Addi
     ∷ one Ld

@@ -37,34 +37,37 @@ pub struct Layout {
     pub below: u16,
 }
 
-// By the kind's number.
-const FORMS: [Form; 25] = [
-    Form::Three(0x0000),
-    Form::Three(0x0001),
-    Form::Three(0x0002),
-    Form::Not(0x0003),
-    Form::Three(0x0004),
-    Form::Three(0x0005),
-    Form::Three(0x0006),
-    Form::Three(0x0007),
-    Form::Three(0x1000),
-    Form::Three(0x1001),
-    Form::Three(0x1003),
-    Form::Three(0x1004),
-    Form::Three(0x1005),
-    Form::Load(0x2000),
-    Form::Load(0x3000),
-    Form::Store(0x4000),
-    Form::Load(0x5000),
-    Form::Store(0x6000),
-    Form::Jump(0x7000),
-    Form::Branch(0x8000),
-    Form::Branch(0x8100),
-    Form::Move(0x9000),
-    Form::Input(0x9100),
-    Form::Input(0xA000),
-    Form::Output(0xA100),
-];
+fn form_of(kind: Kind) -> Form
+    ensures { λ r. ⌜ r ≡ formOf kind ⌝ }
+{
+    match kind {
+        Kind::And => Form::Three(0x0000),
+        Kind::Or => Form::Three(0x0001),
+        Kind::Xor => Form::Three(0x0002),
+        Kind::Not => Form::Not(0x0003),
+        Kind::Add => Form::Three(0x0004),
+        Kind::Sub => Form::Three(0x0005),
+        Kind::Sha => Form::Three(0x0006),
+        Kind::Shl => Form::Three(0x0007),
+        Kind::Cmplt => Form::Three(0x1000),
+        Kind::Cmple => Form::Three(0x1001),
+        Kind::Cmpeq => Form::Three(0x1003),
+        Kind::Cmpltu => Form::Three(0x1004),
+        Kind::Cmpleu => Form::Three(0x1005),
+        Kind::Addi => Form::Load(0x2000),
+        Kind::Ld => Form::Load(0x3000),
+        Kind::St => Form::Store(0x4000),
+        Kind::Ldb => Form::Load(0x5000),
+        Kind::Stb => Form::Store(0x6000),
+        Kind::Jalr => Form::Jump(0x7000),
+        Kind::Bz => Form::Branch(0x8000),
+        Kind::Bnz => Form::Branch(0x8100),
+        Kind::Movi => Form::Move(0x9000),
+        Kind::Movhi => Form::Input(0x9100),
+        Kind::In => Form::Input(0xA000),
+        Kind::Out => Form::Output(0xA100),
+    }
+}
 
 fn numbers(base: u16, a: u16, b: u16, d: u16, at: u16, size: u16, below: u16) -> Layout
     ensures { λ r. ⌜ r ≡ numbersOf base a b d at size below ⌝ }
@@ -100,7 +103,5 @@ pub fn layout_of(kind: Kind) -> Layout
     ensures is { λ r. ⌜ r ≡ layoutOf (formOf kind) ⌝ }
     ensures sound { λ r. ⌜ Sound r ⌝ }
 {
-    let i = crate::kind_number(kind) as usize;
-    let form = FORMS[i];
-    in_numbers(form)
+    in_numbers(form_of(kind))
 }

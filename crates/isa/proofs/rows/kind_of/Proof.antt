@@ -1,76 +1,63 @@
--- Each arm is what `found` gives of its row, and `rows-are` says that this is the sheet's.
+-- Each arm is what stands in the row of its opcode (`at`); from 11 on there is none (`none`).
 -- Assumes nothing.
-use mathlib.Core.Path.{_≡_, sym, _∙_, ap}
-use Prim.Native.Nat.{ℕ, _/_, _%_, _<_, _≤_}
+use mathlib.Core.Path.{_≡_, refl, sym, _∙_, ap}
+use Prim.Native.Nat.{ℕ, zero, suc, _+_, _-_, _/_, _%_, _<_, _≤_}
 use native.Mathlib.Omega.{arith}
 use borrow.Author.Needs.{needs}
-use borrow.Author.Tests.{eq-eqb, ne-eqb}
-use lib.ListN.{getD}
+use lib.ListN.{getD, drop}
+use lib.Seq.{getD-drop}
 use Rattle.word.specs.Fields.{opcode, e-of, f-of}
-use Rattle.isa.specs.declared.rows.Row.{Row}
-use Rattle.isa.specs.declared.rows.Row.the-variants.{Unassigned as Empty, ByF}
-use Rattle.isa.specs.Sheet.{kindAt}
-use Rattle.isa.proofs.Opcodes.{table, found, rows-are, first-small}
+use Rattle.word.proofs.Tables.{past}
+use Rattle.isa.specs.declared.rows.Entry.{Entry}
+use Rattle.isa.specs.declared.rows.Entry.the-variants.{Unassigned}
+use Rattle.isa.specs.Sheet.{Row, rows, inRow, unassigned, kindAt}
 use Rattle.isa.proofs.rows.kind_of.Statement.{statement}
 use Rattle.isa.proofs.rows.kind_of.Tie as tie
 
--- where the row of w's opcode is r, what is found in r is the kind of w
-at-row : (w : ℕ) (r : Row) → w < 65536 → getD table (w / 4096) Empty ≡ r → found r (w / 256 % 2) (w % 8) ≡ kindAt (opcode w) (e-of w) (f-of w)
-at-row w r h e =
-    ap (λ (r : Row). found r (w / 256 % 2) (w % 8)) (sym e)
-    ∙ rows-are (w / 4096) (w / 256 % 2) (w % 8) (omega arith) (omega arith) (omega arith)
-    ∙ λ j. kindAt (op j) (w / 256 % 2) (f j)
-  where
-    op : w / 4096 ≡ opcode w
-    op = omega arith
+at : (w k : ℕ) → w < 65536 → w / 4096 ≡ k → {x : Entry} → x ≡ inRow (getD rows k unassigned) (w / 256 % 2) (w % 8) → x ≡ kindAt (opcode w) (e-of w) (f-of w)
+unfolding kindAt
+at w k h e p =
+    let op : k ≡ opcode w = omega arith in
+    let f : w % 8 ≡ f-of w = omega arith in
+    p ∙ λ j. inRow (getD rows (op j) unassigned) (w / 256 % 2) (f j)
 
-    f : w % 8 ≡ f-of w
-    f = omega arith
+rest : (k : ℕ) → getD (drop 11 rows) k unassigned ≡ unassigned
+rest zero = refl
+rest (suc zero) = refl
+rest (suc (suc zero)) = refl
+rest (suc (suc (suc zero))) = refl
+rest (suc (suc (suc (suc zero)))) = refl
+rest (suc (suc (suc (suc (suc k))))) = refl
 
-add-at : tie.Need-add-at
-add-at c =
-    let w = c .before .before .before .before .args .w in
-    let h = first-small (w / 4096) (c .before .row4 .given .0 .0) (omega arith) (c .before .row4 .given .1) in
-    omega (arith, h)
+none : (k : ℕ) → 11 ≤ k → getD rows k unassigned ≡ unassigned
+none k h =
+    let e : 11 + (k - 11) ≡ k = omega arith in
+    ap (λ (k : ℕ). getD rows k unassigned) (sym e) ∙ sym (getD-drop 11 rows (k - 11) unassigned) ∙ rest (k - 11)
 
-array-copy-out-result : tie.Need-array-copy-out-result
-array-copy-out-result c =
-    let w = c .before .before .before .before .args .w in
-    let h = first-small (w / 4096) (c .before .row4 .given .0 .0) (omega arith) (c .before .row4 .given .1) in
-    omega (arith, h)
-
-returns : tie.Need-returns
-returns c = at-row _ _ (omega arith) (c .enum-told .given .1)
-
-returns-2 : tie.Need-returns-2
-returns-2 c = at-row _ _ (omega arith) (c .before .row2 .given .1)
-
-returns-3 : tie.Need-returns-3
-returns-3 c = rw (eq-eqb _ _ (c .if1 .taken)) at (at-row (c .before .before .before .before .before .args .w) _ (omega arith) (c .before .before .row3 .given .1))
-
-returns-4 : tie.Need-returns-4
-returns-4 c = rw (ne-eqb _ _ (c .if1 .left)) at (at-row (c .before .before .before .before .before .args .w) _ (omega arith) (c .before .before .row3 .given .1))
-
-returns-5 : tie.Need-returns-5
-returns-5 c = at-row _ _ (omega arith) (c .before .before .row4 .given .1)
+returns-12 : tie.Need-returns-12
+returns-12 c =
+    let w = c .before .args .w in
+    at w (w / 4096) (omega arith) refl
+    (ap (λ (x : Row). inRow x (w / 256 % 2) (w % 8)) (sym (none (w / 4096) (past 11 (w / 4096) (c .match .rest)))))
 
 pub kind-of-spec : {M : Type 1} → statement M
 kind-of-spec =
     tie.close
     (tie.spec
-    (λ c. search needs)
-    (λ c. search needs)
-    (λ c. search needs)
-    (λ c. search needs)
-    (λ c. search needs)
-    (λ c. search needs)
-    (λ c. search needs)
-    add-at
-    (λ c. search needs)
-    (λ c. search needs)
-    array-copy-out-result
-    returns
-    returns-2
-    returns-3
-    returns-4
-    returns-5)
+    (λ c κs. search needs)
+    (λ c κs. search needs)
+    (λ c κs. search needs)
+    (λ c κs. search needs)
+    (λ c κs. search needs)
+    (λ c. at _ 0 (omega arith) (c .before .match .keys1) (c .operation .ensures))
+    (λ c. at _ 1 (omega arith) (c .before .match .keys2) (c .comparison .ensures))
+    (λ c. at _ 2 (omega arith) (c .match .keys3) refl)
+    (λ c. at _ 3 (omega arith) (c .match .keys4) refl)
+    (λ c. at _ 4 (omega arith) (c .match .keys5) refl)
+    (λ c. at _ 5 (omega arith) (c .match .keys6) refl)
+    (λ c. at _ 6 (omega arith) (c .match .keys7) refl)
+    (λ c. at _ 7 (omega arith) (c .match .keys8) refl)
+    (λ c. at _ 8 (omega arith) (c .before .match .keys9) (c .by-e .ensures))
+    (λ c. at _ 9 (omega arith) (c .before .match .keys10) (c .by-e2 .ensures))
+    (λ c. at _ 10 (omega arith) (c .before .match .keys11) (c .by-e3 .ensures))
+    returns-12)

@@ -1,0 +1,4 @@
+pub mod Filling
+pub mod Placing
+pub mod Fits
+pub mod Left

@@ -1,0 +1,107 @@
+-- The trim file, called an image here, and loading it (01, "Loading", "Refusal table").
+use Prim.Native.Nat.{ℕ, _+_, _-_, _*_}
+use mathlib.Core.Bool.{Bool, true, false, _&&_}
+use mathlib.Core.List.{List, [], _++_}
+use lib.Dec.{leb}
+use lib.ListN.{length, getD, take, drop, replicate}
+use Rattle.refusal.specs.Refusals.{refusalNumber}
+use Rattle.word.specs.Word.{pick}
+use Rattle.machine.specs.declared.State.{State}
+use Rattle.machine.specs.Machine.{Machine, reset}
+use Rattle.machine.specs.Calls.{lengthsFit}
+use Rattle.image.specs.declared.Loading.{Loading}
+use Rattle.image.specs.declared.Loading.the-variants.{Accepted, Refused}
+
+-- ---- The file
+
+-- a 32-bit little-endian number
+abbrev pub number32 : List ℕ → ℕ → ℕ
+number32 file k = getD file k 0 + 256 * getD file (k + 1) 0 + 65536 * getD file (k + 2) 0 + 16777216 * getD file (k + 3) 0
+
+-- Header: four 32-bit little-endian numbers: W program words, their offset, C data bytes, their offset.
+abbrev pub W : List ℕ → ℕ
+W file = number32 file 0
+
+abbrev pub programOffset : List ℕ → ℕ
+programOffset file = number32 file 4
+
+abbrev pub C : List ℕ → ℕ
+C file = number32 file 8
+
+abbrev pub dataOffset : List ℕ → ℕ
+dataOffset file = number32 file 12
+
+-- W is at most 32,768, C at most 65,536.
+abbrev pub partsFit : List ℕ → Bool
+partsFit file = leb (W file) 32768 && leb (C file) 65536
+
+-- Each offset is at least 16, and offset plus part length (2W bytes, C bytes) is at most the file length, also for an
+-- empty part.
+abbrev pub inside : List ℕ → ℕ → ℕ → Bool
+inside file offset count = leb 16 offset && leb (offset + count) (length file)
+
+abbrev pub partsInside : List ℕ → Bool
+partsInside file = inside file (programOffset file) (2 * W file) && inside file (dataOffset file) (C file)
+
+-- ---- The machine that 01 loads from a file
+
+-- a memory: the part, and zeros
+abbrev pub memoryOf : List ℕ → ℕ → ℕ → List ℕ
+memoryOf file offset count = take count (drop offset file) ++ replicate (65536 - count) 0
+
+-- Loading copies the parts to P[0..] and D[0..], zeroes all other memory and ports, and returns a reset machine.
+unfoldable pub loaded : List ℕ → Machine
+loaded file =
+    record {
+      state = reset;
+      P = memoryOf file (programOffset file) (2 * W file);
+      D = memoryOf file (dataOffset file) (C file);
+      I = replicate 256 0;
+      O = replicate 256 0;
+      L = [];
+    }
+
+-- ---- The call
+
+-- accepted, or the number of the refusal
+pub data LoadReply : Type 0 where
+  accepted : LoadReply
+  refused : ℕ → LoadReply
+
+abbrev pub shownLoading : Loading → LoadReply
+shownLoading Accepted = accepted
+shownLoading (Refused r) = refused (refusalNumber r)
+
+pub record LoadGiven : Type 0 where
+  pub file : List ℕ
+  pub P : List ℕ
+  pub D : List ℕ
+  pub I : List ℕ
+  pub O : List ℕ
+
+pub record LoadLeft : Type 0 where
+  pub reply : LoadReply
+  pub state : State
+  pub P : List ℕ
+  pub D : List ℕ
+  pub I : List ℕ
+  pub O : List ℕ
+
+-- Load 1 to 4: a number is given when its condition holds and no earlier test does.
+unfoldable pub loadReply : LoadGiven → LoadReply
+loadReply g =
+    pick (lengthsFit (g .P) (g .D) (g .I) (g .O))
+    (pick (leb 16 (length (g .file)))
+    (pick (partsFit (g .file)) (pick (partsInside (g .file)) accepted (refused 4)) (refused 3))
+    (refused 2))
+    (refused 1)
+
+-- A refused load changes nothing lent; the state beside its number is the reset one.
+abbrev pub leftBy : LoadReply → LoadGiven → LoadLeft
+leftBy accepted g =
+    let m = loaded (g .file) in
+    record { reply = accepted; state = m .state; P = m .P; D = m .D; I = m .I; O = m .O }
+leftBy (refused k) g = record { reply = refused k; state = reset; P = g .P; D = g .D; I = g .I; O = g .O }
+
+unfoldable pub loadLeft : LoadGiven → LoadLeft
+loadLeft g = leftBy (loadReply g) g

@@ -1,0 +1,200 @@
+// Loading a trim file, called an image here.
+ghost use mathlib.Core.Path.{_≡_};
+ghost use mathlib.Core.List.{_++_};
+ghost use Prim.Native.Nat.{_+_, _-_, _<_, _≤_};
+ghost use lib.ListN.{length, take, drop, replicate};
+ghost use Rattle.image.specs.Parts.{programPart, dataPart, ReadAs};
+ghost use Rattle.image.specs.Image.{number32, partsFit, inside, partsInside, LoadLeft, accepted, loadReply, leftBy, loadLeft, shownLoading};
+use machine::State;
+use machine::memory::lengths_fit;
+use refusal::Refusal;
+
+pub enum Loading {
+    Accepted,
+    Refused(Refusal),
+}
+
+// What a load replies. An enum cannot hold the state's array in covered form, so the state stands beside the reply; a
+// refused load's is the reset one.
+pub struct Loaded {
+    pub state: State,
+    pub reply: Loading,
+}
+
+// A part of the file, in bytes.
+struct Part {
+    offset: usize,
+    count: usize,
+}
+
+const HEADER_BYTES: usize = 16;
+
+// Where the header's numbers stand.
+const WORDS: usize = 0;
+
+const PROGRAM_OFFSET: usize = 4;
+
+const BYTES: usize = 8;
+
+const DATA_OFFSET: usize = 12;
+
+// A byte of a slice, with its bound.
+fn wide(x: u8) -> usize
+    ensures { λ v. ⌜ (v ≡ x) × (v < 256) ⌝ }
+{
+    x as usize
+}
+
+fn number32(file: &[u8], at: usize) -> usize
+    requires { ⌜ at + 4 ≤ length (now file) ⌝ }
+    ensures { λ v. ⌜ (v ≡ number32 (now (file .entry)) at) × (v < 4294967296) ⌝ }
+{
+    let low = wide(file[at]) + 256 * wide(file[at + 1]);
+    let high = wide(file[at + 2]) + 256 * wide(file[at + 3]);
+    low + 65536 * high
+}
+
+fn program_part(file: &[u8]) -> Part
+    requires { ⌜ 16 ≤ length (now file) ⌝ }
+    ensures { λ p. ⌜ ReadAs (programPart (now (file .entry))) p ⌝ }
+{
+    Part {
+        offset: number32(file, PROGRAM_OFFSET),
+        count: 2 * number32(file, WORDS),
+    }
+}
+
+fn data_part(file: &[u8]) -> Part
+    requires { ⌜ 16 ≤ length (now file) ⌝ }
+    ensures { λ p. ⌜ ReadAs (dataPart (now (file .entry))) p ⌝ }
+{
+    Part {
+        offset: number32(file, DATA_OFFSET),
+        count: number32(file, BYTES),
+    }
+}
+
+// Here and in the next two, `&` makes both tests, so that the answer has no branches.
+fn parts_fit(file: &[u8]) -> bool
+    requires { ⌜ 16 ≤ length (now file) ⌝ }
+    ensures { λ r. ⌜ r ≡ partsFit (now (file .entry)) ⌝ }
+{
+    (number32(file, WORDS) <= 32768) & (number32(file, BYTES) <= 65536)
+}
+
+fn inside(file: &[u8], part: Part) -> bool
+    requires { ⌜ part .offset + part .count < 18446744073709551616 ⌝ }
+    ensures { λ r. ⌜ r ≡ inside (now (file .entry)) (part .offset) (part .count) ⌝ }
+{
+    (HEADER_BYTES <= part.offset) & (part.offset + part.count <= file.len())
+}
+
+fn parts_inside(file: &[u8]) -> bool
+    requires { ⌜ 16 ≤ length (now file) ⌝ }
+    ensures { λ r. ⌜ r ≡ partsInside (now (file .entry)) ⌝ }
+{
+    inside(file, program_part(file)) & inside(file, data_part(file))
+}
+
+// The tests of the refusal table, in their order.
+fn verdict(file: &[u8], program: &[u8], memory: &[u8], inputs: &[u16], outputs: &[u16]) -> Loading
+    ensures { λ r. ⌜ shownLoading r ≡ loadReply (record { file = now (file .entry); P = now (program .entry); D = now (memory .entry); I = now (inputs .entry); O = now (outputs .entry) }) ⌝ }
+{
+    if !lengths_fit(program, memory, inputs, outputs) {
+        return Loading::Refused(Refusal::LentLength);
+    }
+    if file.len() < HEADER_BYTES {
+        return Loading::Refused(Refusal::ShortFile);
+    }
+    if !parts_fit(file) {
+        return Loading::Refused(Refusal::LargePart);
+    }
+    if !parts_inside(file) {
+        return Loading::Refused(Refusal::PartOutside);
+    }
+    Loading::Accepted
+}
+
+fn copy(source: &[u8], target: &mut [u8])
+    requires { ⌜ length (now source) ≡ length (now target) ⌝ }
+    ensures { λ _. ⌜ now (target .exit) ≡ now (source .entry) ⌝ }
+{
+    let mut i = 0;
+    while i < target.len() {
+        target[i] = source[i];
+        i += 1;
+    }
+}
+
+fn zero_bytes(bytes: &mut [u8])
+    ensures { λ _. ⌜ now (bytes .exit) ≡ replicate (length (now (bytes .entry))) 0 ⌝ }
+{
+    let mut at = 0;
+    while at < bytes.len() {
+        bytes[at] = 0;
+        at += 1;
+    }
+}
+
+fn zero_ports(ports: &mut [u16])
+    ensures { λ _. ⌜ now (ports .exit) ≡ replicate (length (now (ports .entry))) 0 ⌝ }
+{
+    let mut port = 0;
+    while port < ports.len() {
+        ports[port] = 0;
+        port += 1;
+    }
+}
+
+// The part of the file, and zeros to the end of the target.
+fn place(file: &[u8], part: Part, target: &mut [u8])
+    requires { ⌜ (part .offset + part .count ≤ length (now file)) × (part .count ≤ length (now target)) ⌝ }
+    ensures { λ _. ⌜ now (target .exit) ≡ take (part .count) (drop (part .offset) (now (file .entry))) ++ replicate (length (now (target .entry)) - part .count) 0 ⌝ }
+{
+    zero_bytes(target);
+    let offset = part.offset;
+    let count = part.count;
+    let end = offset + count;
+    copy(&file[offset..end], &mut target[..count]);
+}
+
+// The reply of an accepted load, and what it leaves.
+fn accept(
+    file: &[u8],
+    program: &mut [u8],
+    memory: &mut [u8],
+    inputs: &mut [u16],
+    outputs: &mut [u16],
+) -> Loaded
+    requires { ⌜ accepted ≡ loadReply (record { file = now file; P = now program; D = now memory; I = now inputs; O = now outputs }) ⌝ }
+    ensures { λ r. ⌜ _≡_ {A = LoadLeft} (record { reply = shownLoading (r .reply); state = r .state; P = now (program .exit); D = now (memory .exit); I = now (inputs .exit); O = now (outputs .exit) }) (leftBy accepted (record { file = now (file .entry); P = now (program .entry); D = now (memory .entry); I = now (inputs .entry); O = now (outputs .entry) })) ⌝ }
+{
+    place(file, program_part(file), program);
+    place(file, data_part(file), memory);
+    zero_ports(inputs);
+    zero_ports(outputs);
+    Loaded {
+        state: State::reset(),
+        reply: Loading::Accepted,
+    }
+}
+
+// The file's parts are copied to the program and the data memory; all other memory and both port arrays become zero.
+pub fn load(
+    file: &[u8],
+    program: &mut [u8],
+    memory: &mut [u8],
+    inputs: &mut [u16],
+    outputs: &mut [u16],
+) -> Loaded
+    ensures { λ r. ⌜ _≡_ {A = LoadLeft} (record { reply = shownLoading (r .reply); state = r .state; P = now (program .exit); D = now (memory .exit); I = now (inputs .exit); O = now (outputs .exit) }) (loadLeft (record { file = now (file .entry); P = now (program .entry); D = now (memory .entry); I = now (inputs .entry); O = now (outputs .entry) })) ⌝ }
+{
+    let reply = verdict(file, program, memory, inputs, outputs);
+    match reply {
+        Loading::Accepted => accept(file, program, memory, inputs, outputs),
+        Loading::Refused(refusal) => Loaded {
+            state: State::reset(),
+            reply: Loading::Refused(refusal),
+        },
+    }
+}

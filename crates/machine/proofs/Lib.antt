@@ -1,0 +1,6 @@
+pub mod Log
+pub mod Registers
+pub mod Runs
+pub mod Steps
+pub mod Rows
+pub mod Shift

@@ -1,0 +1,53 @@
+-- What setting an input and the window reply and leave, of what they are given (01, "Set", "The window", "Refusal table");
+-- and the test of refusal 1, which loads and runs share.
+use Prim.Native.Nat.{ℕ, _+_}
+use mathlib.Core.Bool.{Bool, _&&_}
+use mathlib.Core.List.{List, []}
+use lib.Dec.{eqb, leb}
+use lib.ListN.{length, set, take, drop}
+use Rattle.refusal.specs.Refusals.{refusalNumber}
+use Rattle.word.specs.Word.{pick}
+use Rattle.machine.specs.declared.Setting.{Setting}
+use Rattle.machine.specs.declared.Setting.the-variants.{Done, Refused}
+
+-- ---- Refusal 1: P or D not 65,536 bytes, or I or O not 256 words
+
+abbrev pub lengthsFit : List ℕ → List ℕ → List ℕ → List ℕ → Bool
+lengthsFit P D I O = eqb (length P) 65536 && eqb (length D) 65536 && eqb (length I) 256 && eqb (length O) 256
+
+-- ---- Setting an input
+
+-- done, or the number of the refusal
+pub data SetReply : Type 0 where
+  done : SetReply
+  refused : ℕ → SetReply
+
+abbrev pub shownSetting : Setting → SetReply
+shownSetting Done = done
+shownSetting (Refused r) = refused (refusalNumber r)
+
+pub record SetGiven : Type 0 where
+  pub I : List ℕ
+  pub port : ℕ
+  pub value : ℕ
+
+pub record SetLeft : Type 0 where
+  pub reply : SetReply
+  pub I : List ℕ
+
+-- Set (p, v): I[p] becomes v. 1: I not 256 words (set looks at I only).
+unfoldable pub setLeft : SetGiven → SetLeft
+setLeft g =
+    pick (eqb (length (g .I)) 256)
+    (record { reply = done; I = set (g .I) (g .port) (g .value) })
+    (record { reply = refused 1; I = g .I })
+
+-- ---- The window
+
+-- A part of the program or of the data memory, as chosen, by start and length: exactly those bytes, or the empty part
+-- where the window's end is beyond the memory lent.
+abbrev pub partOf : List ℕ → ℕ → ℕ → List ℕ
+partOf M start count = pick (leb (start + count) (length M)) (take count (drop start M)) []
+
+unfoldable pub windowOf : List ℕ → List ℕ → Bool → ℕ → ℕ → List ℕ
+windowOf P D ofData start count = partOf (pick ofData D P) start count

@@ -1,0 +1,75 @@
+-- The plain machine (01): its state, and what may be written in it.
+use Prim.Native.Nat.{ℕ, _+_, _*_, _/_, _%_}
+use mathlib.Core.List.{List, [], _∷_, _++_}
+use lib.ListN.{getD, set, replicate}
+use Rattle.word.specs.Word.{add}
+use Rattle.machine.specs.declared.State.{State}
+
+-- ---- The register state: R0 to R7 and PC (16 bits each); n, the steps done (32 bits).
+
+-- A reset machine has every register, PC and n at zero.
+abbrev pub reset : State
+reset = record { r = replicate 8 0; pc = 0; n = 0 }
+
+-- Rk
+abbrev pub R : State → ℕ → ℕ
+R s k = getD (s .r) k 0
+
+-- Rd becomes v
+abbrev pub putR : ℕ → ℕ → State → State
+putR d v s = record { r = set (s .r) d v; pc = s .pc; n = s .n }
+
+-- PC becomes v
+abbrev pub putPC : ℕ → State → State
+putPC v s = record { r = s .r; pc = v; n = s .n }
+
+-- n grows by 1
+abbrev pub count : State → State
+count s = record { r = s .r; pc = s .pc; n = s .n + 1 }
+
+-- ---- The machine: program P and data D, 65,536 bytes each; inputs I and outputs O, 256 words of 16 bits each; the log L.
+pub record Machine : Type 0 where
+  pub state : State
+  pub P : List ℕ
+  pub D : List ℕ
+  pub I : List ℕ
+  pub O : List ℕ
+  pub L : List ℕ
+
+-- the register state changes
+abbrev pub onState : (State → State) → Machine → Machine
+onState f m = record { state = f (m .state); P = m .P; D = m .D; I = m .I; O = m .O; L = m .L }
+
+-- the data memory becomes D
+abbrev pub putD : List ℕ → Machine → Machine
+putD D m = record { state = m .state; P = m .P; D = D; I = m .I; O = m .O; L = m .L }
+
+-- Set (p, v): I[p] becomes v. Nothing else changes.
+abbrev pub putI : ℕ → ℕ → Machine → Machine
+putI p v m = record { state = m .state; P = m .P; D = m .D; I = set (m .I) p v; O = m .O; L = m .L }
+
+-- O[p] becomes v, and L gains an entry: n before the step times 16,777,216, plus port times 65,536, plus value
+abbrev pub putO : ℕ → ℕ → Machine → Machine
+putO p v m =
+    record {
+      state = m .state;
+      P = m .P;
+      D = m .D;
+      I = m .I;
+      O = set (m .O) p v;
+      L = m .L ++ ((m .state .n * 16777216 + p * 65536 + v) ∷ []);
+    }
+
+-- ---- Bytes and words of a memory, a list of bytes
+
+-- the word at k and k+1, low byte first; k+1 is an address too, modulo 65,536
+abbrev pub wordAt : List ℕ → ℕ → ℕ
+wordAt M k = getD M k 0 + 256 * getD M (add k 1) 0
+
+-- the word at k becomes v, low byte first; k is even
+abbrev pub putWord : ℕ → ℕ → List ℕ → List ℕ
+putWord k v M = set (set M k (v % 256)) (k + 1) (v / 256)
+
+-- the byte at k becomes the low byte of v
+abbrev pub putByte : ℕ → ℕ → List ℕ → List ℕ
+putByte k v M = set M k (v % 256)

@@ -1,0 +1,181 @@
+-- A step of the plain machine (01, "Step" and the table of opcodes), each rule with the sheet's own line.
+use Prim.Native.Nat.{ℕ, _+_, _*_, _%_}
+use mathlib.Core.Bool.{Bool, true, false, _||_}
+use mathlib.Core.List.{List, [], _∷_}
+use lib.Dec.{eqb}
+use lib.ListN.{getD}
+use Rattle.word.specs.Fields.{bits, field, opcode, a-of, b-of, e-of, f-of, N6, N8}
+use Rattle.word.specs.Word.{pick, add, clear0, SE, operation, comparison}
+use Rattle.machine.specs.Machine.{Machine, R, putR, putPC, count, onState, putD, putO, wordAt, putWord, putByte}
+
+-- ---- What the rules are made of
+
+abbrev pub PC : Machine → ℕ
+PC m = m .state .pc
+
+-- Ra, Rb
+abbrev pub Ra : ℕ → Machine → ℕ
+Ra w m = R (m .state) (a-of w)
+
+abbrev pub Rb : ℕ → Machine → ℕ
+Rb w m = R (m .state) (b-of w)
+
+-- A is Ra+SE(N6); A' is A with bit 0 cleared
+abbrev pub A : ℕ → Machine → ℕ
+A w m = add (Ra w m) (SE 6 (N6 w))
+
+abbrev pub A' : ℕ → Machine → ℕ
+A' w m = clear0 (A w m)
+
+-- the destination d is 5..3 for opcodes 0 and 1, 8..6 for 2, 3, 5, 7, and 11..9 for 9 and IN
+abbrev pub d5-3 : ℕ → ℕ
+d5-3 w = field (bits 5 3) w
+
+abbrev pub d8-6 : ℕ → ℕ
+d8-6 w = field (bits 8 6) w
+
+abbrev pub d11-9 : ℕ → ℕ
+d11-9 w = field (bits 11 9) w
+
+-- Rd = v
+abbrev pub write : ℕ → ℕ → Machine → Machine
+write d v m = onState (putR d v) m
+
+-- PC = v
+abbrev pub jump : ℕ → Machine → Machine
+jump v m = onState (putPC v) m
+
+-- ---- The rules. A rule gets the machine with PC = PC+2 done, as the sheet has it (footnote 2; "PC=PC+2;" in JALR, BZ, BNZ).
+
+abbrev pub Rule : Type 0
+Rule = ℕ → Machine → Machine
+
+-- AND, OR, XOR, NOT, ADD, SUB, SHA, SHL by f
+unfoldable pub compute : Rule
+compute w m = write (d5-3 w) (operation (f-of w) (Ra w m) (Rb w m)) m
+
+-- CMPLT, CMPLE, CMPEQ, CMPLTU, CMPLEU by f
+unfoldable pub compare : Rule
+compare w m = write (d5-3 w) (comparison (f-of w) (Ra w m) (Rb w m)) m
+
+-- ADDI Rd, Ra, N6     Rd=Ra+SE(N6)
+unfoldable pub addi : Rule
+addi w m = write (d8-6 w) (A w m) m
+
+-- LD Rd, N6(Ra)       Rd=Mem_w[(Ra+SE(N6))&(~1)]
+unfoldable pub ld : Rule
+ld w m = write (d8-6 w) (wordAt (m .D) (A' w m)) m
+
+-- ST N6(Ra), Rb       Mem_w[(Ra+SE(N6))&(~1)]=Rb
+unfoldable pub st : Rule
+st w m = putD (putWord (A' w m) (Rb w m) (m .D)) m
+
+-- LDB Rd, N6(Ra)      Rd=SE(Mem_b[Ra+SE(N6)])
+unfoldable pub ldb : Rule
+ldb w m = write (d8-6 w) (SE 8 (getD (m .D) (A w m) 0)) m
+
+-- STB N6(Ra), Rb      Mem_b[Ra+SE(N6)]=Rb<7..0>
+unfoldable pub stb : Rule
+stb w m = putD (putByte (A w m) (Rb w m) (m .D)) m
+
+-- JALR Rd, Ra         PC=PC+2; tmp=Ra&(~1); Rd=PC; PC=tmp
+unfoldable pub jalr : Rule
+jalr w m = let tmp = clear0 (Ra w m) in jump tmp (write (d8-6 w) (PC m) m)
+
+-- BZ Ra, N8           PC=PC+2; if(Ra==0)PC=PC+SE(N8)*2
+unfoldable pub bz : Rule
+bz w m = pick (eqb (Ra w m) 0) (jump (add (PC m) (SE 8 (N8 w) * 2)) m) m
+
+-- BNZ Ra, N8          PC=PC+2; if(Ra!=0)PC=PC+SE(N8)*2
+unfoldable pub bnz : Rule
+bnz w m = pick (eqb (Ra w m) 0) m (jump (add (PC m) (SE 8 (N8 w) * 2)) m)
+
+-- MOVI Rd, N8         Rd=SE(N8)
+unfoldable pub movi : Rule
+movi w m = write (d11-9 w) (SE 8 (N8 w)) m
+
+-- MOVHI Rd, N8        Rd<15..8>=N8
+unfoldable pub movhi : Rule
+movhi w m = write (d11-9 w) (R (m .state) (d11-9 w) % 256 + N8 w * 256) m
+
+-- IN Rd, N8           Rd=Input[N8]
+unfoldable pub input : Rule
+input w m = write (d11-9 w) (getD (m .I) (N8 w) 0) m
+
+-- OUT N8, Ra          Output[N8]=Ra
+unfoldable pub output : Rule
+output w m = putO (N8 w) (Ra w m) m
+
+-- ---- The table of opcodes: a rule for the words with one of these f, one rule, one by e, or none.
+
+pub data Row : Type 0 where
+  by-f : List ℕ → Rule → Row
+  one : Rule → Row
+  by-e : Rule → Rule → Row
+  none : Row
+
+abbrev pub rows : List Row
+rows =
+    -- 0 to 3
+    by-f (0 ∷ 1 ∷ 2 ∷ 3 ∷ 4 ∷ 5 ∷ 6 ∷ 7 ∷ []) compute
+    ∷ by-f (0 ∷ 1 ∷ 3 ∷ 4 ∷ 5 ∷ []) compare
+    ∷ one addi
+    ∷ one ld
+    -- 4 to 7
+    ∷ one st
+    ∷ one ldb
+    ∷ one stb
+    ∷ one jalr
+    -- 8 to 10
+    ∷ by-e bz bnz
+    ∷ by-e movi movhi
+    ∷ by-e input output
+    -- 11 to 15 unassigned
+    ∷ none
+    ∷ none
+    ∷ none
+    ∷ none
+    ∷ none
+    ∷ []
+
+-- the rule of a word, or that it is unassigned
+pub data Choice : Type 0 where
+  rule : Rule → Choice
+  unassigned : Choice
+
+abbrev pub among : ℕ → List ℕ → Bool
+among f [] = false
+among f (g ∷ gs) = eqb f g || among f gs
+
+abbrev pub inRow : Row → ℕ → ℕ → Choice
+inRow (by-f fs r) e f = pick (among f fs) (rule r) unassigned
+inRow (one r) e f = rule r
+inRow (by-e r₀ r₁) e f = rule (pick (eqb e 0) r₀ r₁)
+inRow none e f = unassigned
+
+unfoldable pub choice : ℕ → Choice
+choice w = inRow (getD rows (opcode w) none) (e-of w) (f-of w)
+
+-- ---- Step
+
+-- the memory that instructions are fetched from
+abbrev pub fetchMemory : Machine → List ℕ
+fetchMemory m = m .P
+
+-- w is P[PC] + 256 times P[PC+1]
+unfoldable pub fetched : Machine → ℕ
+fetched m = wordAt (fetchMemory m) (PC m)
+
+-- A machine can't step, with the stop reason of a run that ends there, or it steps to another.
+pub data Next : Type 0 where
+  cannot : ℕ → Next
+  to : Machine → Next
+
+-- If w is unassigned, no step is possible (stop 1). Otherwise the rule is done and n grows by 1. Where the rule doesn't
+-- name PC, PC becomes PC+2.
+abbrev pub stepBy : Choice → ℕ → Machine → Next
+stepBy unassigned w m = cannot 1
+stepBy (rule r) w m = to (onState count (r w (jump (add (PC m) 2) m)))
+
+unfoldable pub step : Machine → Next
+step m = stepBy (choice (fetched m)) (fetched m) m

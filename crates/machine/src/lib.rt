@@ -1,0 +1,148 @@
+// The register state, memories and ports of the SISA trim processor.
+ghost use mathlib.Core.Path.{_≡_};
+ghost use Prim.Native.Nat.{_+_, _%_, _<_};
+ghost use lib.ListN.{length};
+ghost use Rattle.word.specs.Word.{pick};
+ghost use lib.Dec.{eqb};
+ghost use Rattle.machine.specs.Machine.{reset, R, putR, putPC, count};
+ghost use Rattle.machine.specs.Calls.{SetLeft, setLeft, shownSetting, partOf, windowOf};
+use refusal::Refusal;
+
+pub mod memory;
+
+// R0 to R7, PC, and n, the count of steps done.
+#[repr(C)]
+pub struct State {
+    pub r: [u16; 8],
+    pub pc: u16,
+    pub n: u32,
+}
+
+// What an engine's step hands back: the register state, and how many places of the log are filled.
+pub struct Stepped {
+    pub state: State,
+    pub entries: usize,
+}
+
+// A port number.
+pub struct Port(pub u8);
+
+// An address of data memory.
+pub struct Address(pub u16);
+
+pub enum Setting {
+    Done,
+    Refused(Refusal),
+}
+
+fn choose(d: u16, i: u16, v: u16, old: u16) -> u16
+    ensures { λ r. ⌜ r ≡ pick (eqb d i) v old ⌝ }
+{
+    if d == i { v } else { old }
+}
+
+impl State {
+    // The bytes of a memory, and the words of an array of ports.
+    pub const MEMORY_BYTES: usize = 65536;
+
+    pub const PORTS: usize = 256;
+
+    pub fn reset() -> Self
+        ensures { λ s. ⌜ s ≡ reset ⌝ }
+    {
+        Self {
+            r: [0; 8],
+            pc: 0,
+            n: 0,
+        }
+    }
+
+    // Register k modulo 8.
+    pub fn register(self, k: u16) -> u16
+        ensures { λ v. ⌜ v ≡ R self (k % 8) ⌝ }
+    {
+        let i = (k % 8) as usize;
+        self.r[i]
+    }
+
+    // Register k modulo 8 becomes v. (Choosing each element is faster than a store at an index that is not known.)
+    pub fn with_register(self, k: u16, v: u16) -> Self
+        ensures { λ s. ⌜ s ≡ putR (k % 8) v self ⌝ }
+    {
+        let d = k % 8;
+        let r = self.r;
+        let written = [
+            choose(d, 0, v, r[0]),
+            choose(d, 1, v, r[1]),
+            choose(d, 2, v, r[2]),
+            choose(d, 3, v, r[3]),
+            choose(d, 4, v, r[4]),
+            choose(d, 5, v, r[5]),
+            choose(d, 6, v, r[6]),
+            choose(d, 7, v, r[7]),
+        ];
+        State {
+            r: written,
+            pc: self.pc,
+            n: self.n,
+        }
+    }
+
+    pub fn with_pc(mut self, v: u16) -> Self
+        ensures { λ s. ⌜ s ≡ putPC v self ⌝ }
+    {
+        self.pc = v;
+        self
+    }
+
+    // One step more is done.
+    pub fn counted(mut self) -> Self
+        requires { ⌜ self .n < 4294967295 ⌝ }
+        ensures { λ s. ⌜ s ≡ count self ⌝ }
+    {
+        self.n = self.n + 1;
+        self
+    }
+}
+
+// The input at a port becomes the value.
+pub fn set_input(inputs: &mut [u16], port: Port, value: u16) -> Setting
+    ensures { λ r. ⌜ _≡_ {A = SetLeft} (record { reply = shownSetting r; I = now (inputs .exit) }) (setLeft (record { I = now (inputs .entry); port = port .0; value = value })) ⌝ }
+{
+    if inputs.len() != State::PORTS {
+        return Setting::Refused(Refusal::LentLength);
+    }
+    let at = port.0 as usize;
+    inputs[at] = value;
+    Setting::Done
+}
+
+fn part(bytes: &[u8], start: usize, count: usize) -> &[u8]
+    ensures { λ r. ⌜ now r ≡ partOf (now (bytes .entry)) start count ⌝ }
+{
+    if bytes.len() < start {
+        return &bytes[0..0];
+    }
+    if bytes.len() - start < count {
+        return &bytes[0..0];
+    }
+    let end = start + count;
+    &bytes[start..end]
+}
+
+// The bytes start .. start + count of the data memory or of the program, or the empty part where they end beyond it.
+pub fn window<'a>(
+    program: &'a [u8],
+    memory: &'a [u8],
+    of_data: bool,
+    start: usize,
+    count: usize,
+) -> &'a [u8]
+    ensures { λ r. ⌜ now r ≡ windowOf (now (program .entry)) (now (memory .entry)) «of_data» start count ⌝ }
+{
+    if of_data {
+        part(memory, start, count)
+    } else {
+        part(program, start, count)
+    }
+}

@@ -1,0 +1,90 @@
+// Loads and stores of data memory, and the ports. A word's address has bit 0 cleared; nothing is refused.
+ghost use mathlib.Core.Path.{_≡_};
+ghost use Prim.Native.Nat.{_+_, _*_, _<_};
+ghost use lib.ListN.{length, getD, set};
+ghost use Rattle.word.specs.Word.{clear0};
+ghost use Rattle.machine.specs.Calls.{lengthsFit};
+ghost use Rattle.machine.specs.Machine.{wordAt, putWord, putByte};
+use crate::Address;
+use crate::Port;
+use crate::State;
+
+// The memories and ports have the lengths of refusal 1.
+pub fn lengths_fit(program: &[u8], memory: &[u8], inputs: &[u16], outputs: &[u16]) -> bool
+    ensures { λ r. ⌜ r ≡ lengthsFit (now (program .entry)) (now (memory .entry)) (now (inputs .entry)) (now (outputs .entry)) ⌝ }
+{
+    if program.len() != State::MEMORY_BYTES {
+        return false;
+    }
+    if memory.len() != State::MEMORY_BYTES {
+        return false;
+    }
+    if inputs.len() != State::PORTS {
+        return false;
+    }
+    outputs.len() == State::PORTS
+}
+
+fn wide(x: u8) -> u16
+    ensures { λ v. ⌜ (v ≡ x) × (v < 256) ⌝ }
+{
+    x as u16
+}
+
+pub fn load_byte(bytes: &[u8], address: Address) -> u16
+    requires { ⌜ length (now bytes) ≡ 65536 ⌝ }
+    ensures { λ v. ⌜ v ≡ getD (now (bytes .entry)) (address .0) 0 ⌝ }
+{
+    let at = address.0 as usize;
+    wide(bytes[at])
+}
+
+pub fn load_word(bytes: &[u8], address: Address) -> u16
+    requires { ⌜ length (now bytes) ≡ 65536 ⌝ }
+    ensures { λ v. ⌜ v ≡ wordAt (now (bytes .entry)) (clear0 (address .0)) ⌝ }
+{
+    let at = (address.0 / 2 * 2) as usize;
+    let low = wide(bytes[at]);
+    let high = wide(bytes[at + 1]);
+    low + 256 * high
+}
+
+pub fn store_byte(bytes: &mut [u8], address: Address, v: u16)
+    requires { ⌜ length (now bytes) ≡ 65536 ⌝ }
+    ensures { λ _. ⌜ now (bytes .exit) ≡ putByte (address .0) v (now (bytes .entry)) ⌝ }
+{
+    let at = address.0 as usize;
+    bytes[at] = (v % 256) as u8;
+}
+
+pub fn store_word(bytes: &mut [u8], address: Address, v: u16)
+    requires { ⌜ length (now bytes) ≡ 65536 ⌝ }
+    ensures { λ _. ⌜ now (bytes .exit) ≡ putWord (clear0 (address .0)) v (now (bytes .entry)) ⌝ }
+{
+    let at = (address.0 / 2 * 2) as usize;
+    bytes[at] = (v % 256) as u8;
+    bytes[at + 1] = (v / 256) as u8;
+}
+
+pub fn read_port(ports: &[u16], port: Port) -> u16
+    requires { ⌜ length (now ports) ≡ 256 ⌝ }
+    ensures { λ v. ⌜ v ≡ getD (now (ports .entry)) (port .0) 0 ⌝ }
+{
+    let at = port.0 as usize;
+    ports[at]
+}
+
+pub fn write_port(ports: &mut [u16], port: Port, v: u16)
+    requires { ⌜ length (now ports) ≡ 256 ⌝ }
+    ensures { λ _. ⌜ now (ports .exit) ≡ set (now (ports .entry)) (port .0) v ⌝ }
+{
+    let at = port.0 as usize;
+    ports[at] = v;
+}
+
+// The log entry of a port write: n before the step, the port, the value.
+pub fn entry_of(n: u32, port: Port, v: u16) -> u64
+    ensures { λ r. ⌜ r ≡ n * 16777216 + port .0 * 65536 + v ⌝ }
+{
+    (n as u64) * 16777216 + (port.0 as u64) * 65536 + (v as u64)
+}
