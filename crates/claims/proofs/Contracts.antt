@@ -9,4 +9,14 @@ contracts =
       read = λ κs a r s. (λ h. h, λ h. h);
       write-asks = λ κs a. tt;
       write = λ κs a r s. (λ h. h, λ h. h);
+      load-asks = λ κs a. tt;
+      load = λ κs a r s. (λ h. h, λ h. h);
+      set-input-asks = λ κs a. tt;
+      set-input = λ κs a r s. (λ h. h, λ h. h);
+      window-asks = λ κs a. tt;
+      window = λ κs a r s. (λ h. h, λ h. h);
+      run-by-rules-asks = λ κs a. tt;
+      run-by-rules = λ κs a r s. (λ h. h, λ h. h);
+      run-by-table-asks = λ κs a. tt;
+      run-by-table = λ κs a r s. (λ h. h, λ h. h);
     }

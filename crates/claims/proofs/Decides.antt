@@ -4,7 +4,7 @@ use mathlib.Core.Path.{_≡_, refl, subst, sym}
 use mathlib.Core.Bool.{Bool, true, false, _&&_, _||_}
 use mathlib.Core.Logic.{_⊎_, inl, inr, ⊎-elim, _↔_}
 use Prim.Native.Nat.{ℕ, _<_, _≤_}
-use borrow.Author.Tests.{eqb-true, leb-true, ltb-true, eq-eqb, le-leb, lt-ltb}
+use borrow.Author.Tests.{eqb-true, leb-true, ltb-true, eq-eqb, le-leb, lt-ltb, leb-false, eqb-false, lt-leb, ne-eqb}
 use lib.Dec.{T, eqb, leb, ltb}
 use lib.IntN.{ℤ}
 use lib.Signed.{leZ, ltZ, _≤ℤ_, _<ℤ_}
@@ -45,3 +45,23 @@ decides-and {a = false} p q = (never, λ h. p .1 (h .0))
 pub decides-or : {a b : Bool} {A B : Type 0} → Decides a A → Decides b B → Decides (a || b) (A ⊎ B)
 decides-or {a = true} p q = (λ e. inl (p .0 refl), λ h. refl)
 decides-or {a = false} p q = (λ e. inr (q .0 e), ⊎-elim (λ h. never (p .1 h)) (λ h. q .1 h))
+
+-- ---- Tests that fail exactly where a proposition holds
+
+abbrev pub Fails : Bool → Type 0 → Type 0
+Fails b A = (b ≡ false) ↔ A
+
+pub fails-eq : (m n : ℕ) → Fails (eqb m n) (m ≡ n → ⊥)
+fails-eq m n = (eqb-false m n, ne-eqb m n)
+
+pub fails-le : (m n : ℕ) → Fails (leb m n) (n < m)
+fails-le m n = (leb-false m n, lt-leb m n)
+
+pub fails-and : {a b : Bool} {A B : Type 0} → Fails a A → Fails b B → Fails (a && b) (A ⊎ B)
+fails-and {a = true} p q = (λ e. inr (q .0 e), ⊎-elim (λ h. never (sym (p .1 h))) (λ h. q .1 h))
+fails-and {a = false} p q = (λ e. inl (p .0 refl), λ h. refl)
+
+-- what a test decides holds where it can't fail
+pub decides-stable : {b : Bool} {A : Type 0} → Decides b A → ((A → ⊥) → ⊥) → A
+decides-stable {b = true} d n = d .0 refl
+decides-stable {b = false} d n = absurd (n (λ a. never (d .1 a)))

@@ -7,6 +7,12 @@ use Rattle.refusal.specs.Refusals.{refusalNumber}
 use Rattle.isa.specs.declared.Kind.{Kind}
 use Rattle.isa.specs.declared.Reading.{Reading}
 use Rattle.isa.specs.declared.Writing.{Writing}
+use Rattle.machine.specs.declared.Setting.{Setting}
+use Rattle.machine.specs.Calls.{SetReply, shownSetting}
+use Rattle.image.specs.declared.Loading.{Loading}
+use Rattle.image.specs.Image.{LoadReply, shownLoading}
+use Rattle.engine.specs.declared.Answer.{Answer}
+use Rattle.engine.specs.Runs.{RunReply, shownAnswer}
 use Rattle.isa.specs.Sheet.{kindNumber}
 use Rattle.isa.specs.Instructions.{Read, Written, shownReading, shownWriting}
 
@@ -18,3 +24,6 @@ pub record Answers : Type 0 where
   pub kind : Injective kindNumber
   pub reading : Injective shownReading
   pub writing : Injective shownWriting
+  pub loading : Injective shownLoading
+  pub setting : Injective shownSetting
+  pub answer : Injective shownAnswer

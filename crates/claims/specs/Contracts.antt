@@ -1,14 +1,107 @@
--- What the check itself reads in each function's contract: that the caller is asked nothing (Asked), and what the caller
--- learns of the result r (Learnt). κs are the lifetimes, a the arguments, s the arguments at exit.
+-- What the check itself reads in each entry point's contract: that the caller is asked nothing (Asked), and what the caller
+-- learns (Learnt). κs are the lifetimes, a the arguments in their order, r the result, s the arguments at exit.
 use contract.Lifetimes.{Lfts}
+use denote.Ref.{now}
 use mathlib.Core.Logic.{_↔_}
 use mathlib.Core.Path.{_≡_}
+use Rattle.machine.specs.Calls.{SetLeft, shownSetting, setLeft, windowOf}
 use Rattle.isa.specs.Instructions.{shownReading, readOf, shownWriting, writeOf}
+use Rattle.image.specs.Image.{LoadLeft, shownLoading, loadLeft}
+use Rattle.engine.specs.Runs.{shownAnswer, RunMeets}
 use Rattle.isa.proofs.read.Reads as read
 use Rattle.isa.proofs.write.Reads as write
+use Rattle.machine.proofs.set_input.Reads as set-input
+use Rattle.machine.proofs.window.Reads as window
+use Rattle.image.proofs.load.Reads as load
+use Rattle.engine.proofs.run_by_rules.Reads as run-by-rules
+use Rattle.engine.proofs.run_by_table.Reads as run-by-table
 
 pub record Contracts : Type 1 where
+  -- read(w)
   pub read-asks : (κs : Lfts 0) (a : _) → read.Asked κs a
   pub read : (κs : Lfts 0) (a : _) (r : _) (s : _) → read.Learnt κs a r s ↔ (shownReading r ≡ readOf (a .0))
+  -- write(i)
   pub write-asks : (κs : Lfts 0) (a : _) → write.Asked κs a
   pub write : (κs : Lfts 0) (a : _) (r : _) (s : _) → write.Learnt κs a r s ↔ (shownWriting r ≡ writeOf (a .0))
+  -- load(file, program, memory, inputs, outputs)
+  pub load-asks : (κs : Lfts 5) (a : _) → load.Asked κs a
+  pub load :
+      (κs : Lfts 5) (a : _) (r : _) (s : _)
+      → load.Learnt κs a r s
+      ↔ (_≡_ {A = LoadLeft}
+      (record {
+        reply = shownLoading (r .reply);
+        state = r .state;
+        P = now (s .1 .0);
+        D = now (s .1 .1 .0);
+        I = now (s .1 .1 .1 .0);
+        O = now (s .1 .1 .1 .1 .0);
+      })
+      (loadLeft
+      (record {
+        file = now (a .0);
+        P = now (a .1 .0);
+        D = now (a .1 .1 .0);
+        I = now (a .1 .1 .1 .0);
+        O = now (a .1 .1 .1 .1 .0);
+      })))
+  -- set_input(inputs, port, value)
+  pub set-input-asks : (κs : Lfts 1) (a : _) → set-input.Asked κs a
+  pub set-input :
+      (κs : Lfts 1) (a : _) (r : _) (s : _)
+      → set-input.Learnt κs a r s
+      ↔ (_≡_ {A = SetLeft}
+      (record { reply = shownSetting r; I = now (s .0) })
+      (setLeft (record { I = now (a .0); port = a .1 .0 .0; value = a .1 .1 .0 })))
+  -- window(program, memory, of_data, start, count)
+  pub window-asks : (κs : Lfts 1) (a : _) → window.Asked κs a
+  pub window :
+      (κs : Lfts 1) (a : _) (r : _) (s : _)
+      → window.Learnt κs a r s
+      ↔ (now r ≡ windowOf (now (a .0)) (now (a .1 .0)) (a .1 .1 .0) (a .1 .1 .1 .0) (a .1 .1 .1 .1 .0))
+  -- run_by_rules(state, program, memory, inputs, outputs, budget, log)
+  pub run-by-rules-asks : (κs : Lfts 5) (a : _) → run-by-rules.Asked κs a
+  pub run-by-rules :
+      (κs : Lfts 5) (a : _) (r : _) (s : _)
+      → run-by-rules.Learnt κs a r s
+      ↔ RunMeets
+      (record {
+        state = a .0;
+        P = now (a .1 .0);
+        D = now (a .1 .1 .0);
+        I = now (a .1 .1 .1 .0);
+        O = now (a .1 .1 .1 .1 .0);
+        budget = a .1 .1 .1 .1 .1 .0;
+        log = now (a .1 .1 .1 .1 .1 .1 .0);
+      })
+      (record {
+        reply = shownAnswer (r .answer);
+        state = r .state;
+        D = now (s .1 .1 .0);
+        I = now (s .1 .1 .1 .0);
+        O = now (s .1 .1 .1 .1 .0);
+        log = now (s .1 .1 .1 .1 .1 .1 .0);
+      })
+  -- run_by_table(state, program, memory, inputs, outputs, budget, log)
+  pub run-by-table-asks : (κs : Lfts 5) (a : _) → run-by-table.Asked κs a
+  pub run-by-table :
+      (κs : Lfts 5) (a : _) (r : _) (s : _)
+      → run-by-table.Learnt κs a r s
+      ↔ RunMeets
+      (record {
+        state = a .0;
+        P = now (a .1 .0);
+        D = now (a .1 .1 .0);
+        I = now (a .1 .1 .1 .0);
+        O = now (a .1 .1 .1 .1 .0);
+        budget = a .1 .1 .1 .1 .1 .0;
+        log = now (a .1 .1 .1 .1 .1 .1 .0);
+      })
+      (record {
+        reply = shownAnswer (r .answer);
+        state = r .state;
+        D = now (s .1 .1 .0);
+        I = now (s .1 .1 .1 .0);
+        O = now (s .1 .1 .1 .1 .0);
+        log = now (s .1 .1 .1 .1 .1 .1 .0);
+      })

@@ -1,4 +1,10 @@
+pub mod Agreement
 pub mod Answers
+pub mod Contracts
 pub mod Instructions
 pub mod Marked
-pub mod Contracts
+pub mod Refusals
+pub mod Rules
+pub mod Runs
+pub mod Session
+pub mod Steps

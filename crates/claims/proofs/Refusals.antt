@@ -1,0 +1,137 @@
+-- The three calls' replies are chains of tests; each condition is where its test fails.
+-- Assumes nothing.
+use mathlib.Core.Path.{_≡_, refl, ap}
+use mathlib.Core.Bool.{and-assoc}
+use mathlib.Core.Logic.{_↔_}
+use mathlib.Core.List.{List}
+use Prim.Native.Nat.{ℕ, _+_, _*_, _%_}
+use native.Mathlib.Omega.{arith}
+use lib.ListN.{length, set}
+use Rattle.machine.specs.Calls.{lengthsFit, SetGiven, SetLeft, done, refused as set-refused, setLeft}
+use Rattle.image.specs.Image.{W, programOffset, C, dataOffset, LoadReply, LoadGiven, accepted as load-accepted, refused as load-refused, loadReply, leftBy as load-leftBy, loadLeft}
+use Rattle.engine.specs.Runs.{Given, stopped, refused as run-refused, Verdict, accepted as run-accepted, refused as verdict-refused, verdict, leftBy as run-leftBy, runLeft}
+use Rattle.claims.specs.Refusals.{Lengths, LoadRefusals, SetRefusals, RunRefusals, Refusals}
+use Rattle.claims.proofs.Decides.{Fails, fails-eq, fails-le, fails-and, decides-eq, decides-stable}
+use Rattle.claims.proofs.Chains.{Reply, Tests, last, _then_, at, number, none, one-of}
+
+-- ---- The products as 01's table has them
+
+flat3 : {X A B C : Type 0} → X ↔ (A × (B × C)) → X ↔ (A × B × C)
+flat3 e = (λ x. let h = e .0 x in (h .0, h .1 .0, h .1 .1), λ h. e .1 (h .0, (h .1, h .2)))
+
+flat4 : {X A B C D : Type 0} → X ↔ (A × (B × (C × D))) → X ↔ (A × B × C × D)
+flat4 e = (λ x. let h = e .0 x in (h .0, h .1 .0, h .1 .1 .0, h .1 .1 .1), λ h. e .1 (h .0, (h .1, (h .2, h .3))))
+
+lengths : (P D I O : List ℕ) → Fails (lengthsFit P D I O) (Lengths P D I O)
+lengths P D I O =
+    simp and-assoc
+    (fails-and (fails-eq (length P) 65536) (fails-and (fails-eq (length D) 65536) (fails-and (fails-eq (length I) 256) (fails-eq (length O) 256))))
+
+-- ---- Load
+
+module _ (g : LoadGiven) where
+  load-replies : Reply LoadReply
+  load-replies =
+      record {
+        accepted = load-accepted;
+        refused = load-refused;
+        Accepts = λ v. load-leftBy v g .reply ≡ load-accepted;
+        Gives = λ v k. load-leftBy v g .reply ≡ load-refused k;
+        accepts = refl;
+        gives = λ k. refl;
+        no-number = λ k e. let z : _≡_ {A = ℕ} 0 1 = cc in omega arith;
+        one-number = λ j k e. cc;
+        not-both = λ k e. let z : _≡_ {A = ℕ} 0 1 = cc in omega arith;
+      }
+
+  load-tests : Tests
+  load-tests =
+      let file = g .file in
+      at 1 (lengths (g .P) (g .D) (g .I) (g .O))
+      then at 2 (fails-le 16 (length file))
+      then at 3 (fails-and (fails-le (W file) 32768) (fails-le (C file) 65536))
+      then last (at 4 (fails-and
+      (fails-and (fails-le 16 (programOffset file)) (fails-le (programOffset file + 2 * W file) (length file)))
+      (fails-and (fails-le 16 (dataOffset file)) (fails-le (dataOffset file + C file) (length file)))))
+
+  load : LoadRefusals g
+  unfolding loadLeft loadReply load-replies load-tests
+  load =
+      record {
+        number-1 = number load-replies load-tests 0 1 refl;
+        number-2 = number load-replies load-tests 0 2 refl;
+        number-3 = flat3 (number load-replies load-tests 0 3 refl);
+        number-4 = flat4 (number load-replies load-tests 0 4 refl);
+        accepts = flat4 (none load-replies load-tests);
+        no-other = λ k e. one-of load-replies load-tests k e .0;
+        nothing-changes = λ k e. ap (λ v. load-leftBy v g) (one-of load-replies load-tests k e .1);
+      }
+
+-- ---- Set
+
+module _ (g : SetGiven) where
+  set-replies : Reply SetLeft
+  set-replies =
+      record {
+        accepted = record { reply = done; I = set (g .I) (g .port) (g .value) };
+        refused = λ k. record { reply = set-refused k; I = g .I };
+        Accepts = λ l. l .reply ≡ done;
+        Gives = λ l k. l .reply ≡ set-refused k;
+        accepts = refl;
+        gives = λ k. refl;
+        no-number = λ k e. let z : _≡_ {A = ℕ} 0 1 = cc in omega arith;
+        one-number = λ j k e. cc;
+        not-both = λ k e. let z : _≡_ {A = ℕ} 0 1 = cc in omega arith;
+      }
+
+  set-tests : Tests
+  set-tests = last (at 1 (fails-eq (length (g .I)) 256))
+
+  setting : SetRefusals g
+  unfolding setLeft set-replies set-tests
+  setting =
+      record {
+        number-1 = number set-replies set-tests 0 1 refl;
+        accepts = let h = none set-replies set-tests in
+            (λ e. decides-stable (decides-eq (length (g .I)) 256) (h .0 e), λ e. h .1 (λ n. n e));
+        no-other = λ k e. one-of set-replies set-tests k e .0;
+        nothing-changes = λ k e. one-of set-replies set-tests k e .1;
+      }
+
+-- ---- Runs
+
+module _ (g : Given) where
+  run-replies : Reply Verdict
+  run-replies =
+      record {
+        accepted = run-accepted;
+        refused = verdict-refused;
+        Accepts = λ v. (q : ℕ) × (s : ℕ) × (k : ℕ) × (run-leftBy v g .reply ≡ stopped q s k);
+        Gives = λ v k. run-leftBy v g .reply ≡ run-refused k;
+        accepts = (_, _, _, refl);
+        gives = λ k. refl;
+        no-number = λ k e. let z : _≡_ {A = ℕ} 0 1 = cc in omega arith;
+        one-number = λ j k e. cc;
+        not-both = λ k h. let e = h .3 in let z : _≡_ {A = ℕ} 0 1 = cc in omega arith;
+      }
+
+  run-tests : Tests
+  run-tests =
+      at 1 (lengths (g .P) (g .D) (g .I) (g .O))
+      then at 5 (fails-eq (g .state .pc % 2) 0)
+      then last (at 6 (fails-le (g .state .n + g .budget) 4294967295))
+
+  run : RunRefusals g
+  unfolding runLeft verdict run-replies run-tests
+  run =
+      record {
+        number-1 = number run-replies run-tests 0 1 refl;
+        number-5 = number run-replies run-tests 0 5 refl;
+        number-6 = flat3 (number run-replies run-tests 0 6 refl);
+        accepts = flat3 (none run-replies run-tests);
+        no-other = λ k e. one-of run-replies run-tests k e .0;
+        nothing-changes = λ k e. ap (λ v. run-leftBy v g) (one-of run-replies run-tests k e .1);
+      }
+
+pub refusals : Refusals
+refusals = record { load = load; setting = setting; run = run }

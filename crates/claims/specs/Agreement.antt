@@ -1,0 +1,12 @@
+-- The table's own word gives the plain machine's step, for every machine: what is fetched from P, and L with its entry, included.
+use mathlib.Core.Path.{_≡_}
+use Prim.Native.Nat.{ℕ}
+use Rattle.machine.specs.Machine.{Machine}
+use Rattle.machine.specs.Step.{fetched, step}
+use Rattle.machine.specs.Run.{isOut}
+use Rattle.control.specs.Control.{controlOf, controlStep, writesPort}
+
+pub record Agreement : Type 0 where
+  pub steps : (m : Machine) → controlStep (controlOf (fetched m)) (fetched m) m ≡ step m
+  -- and it writes a port exactly where the word is OUT
+  pub ports : (w : ℕ) → writesPort (controlOf w) ≡ isOut w

@@ -1,0 +1,184 @@
+-- Demand 3: lists of calls after an accepted load. What the host holds and is told, each call known by its contract alone;
+-- what the plain machine does and says, given the same calls; and that the two agree, whichever engine does each run.
+use mathlib.Core.Path.{_≡_}
+use mathlib.Core.List.{List, [], _∷_, _++_, map}
+use Prim.Native.Nat.{ℕ, _-_}
+use lib.Dec.{eqb}
+use lib.ListN.{length, take, drop, replicate}
+use Rattle.word.specs.Word.{pick}
+use Rattle.machine.specs.declared.State.{State}
+use Rattle.machine.specs.Machine.{Machine, putI}
+use Rattle.machine.specs.Run.{Outcome, run}
+use Rattle.machine.specs.Calls.{SetGiven, SetLeft, SetReply, done, refused, setLeft}
+use Rattle.image.specs.Image.{LoadGiven, LoadLeft, accepted, loaded, loadLeft}
+use Rattle.engine.specs.Runs.{Given, Left, RunReply, stopped, refused as run-refused, Verdict, accepted as run-accepted, refused as turned-away, verdictOn, RunMeets}
+
+-- ---- The calls
+
+-- the engine that does a run
+pub data Engine : Type 0 where
+  by-rules by-table : Engine
+
+-- what a run is lent besides what the host holds
+pub record Lent : Type 0 where
+  pub budget : ℕ
+  pub log : List ℕ
+
+pub data Call : Type 0 where
+  runs : Engine → Lent → Call
+  sets : ℕ → ℕ → Call
+
+-- what comes back: a run's reply and the log as it was returned; a setting's reply
+pub data Reply : Type 0 where
+  ran : RunReply → List ℕ → Reply
+  set : SetReply → Reply
+
+-- Lists that are alike have the same settings, budgets and lent logs: the engines are forgotten.
+abbrev pub plain : Call → Call
+plain (runs e lent) = runs by-rules lent
+plain (sets port value) = sets port value
+
+abbrev pub Alike : List Call → List Call → Type 0
+Alike cs₁ cs₂ = map plain cs₁ ≡ map plain cs₂
+
+-- ---- The host
+
+-- what the host holds between two calls
+pub record Host : Type 0 where
+  pub state : State
+  pub P : List ℕ
+  pub D : List ℕ
+  pub I : List ℕ
+  pub O : List ℕ
+
+-- The list starts from what the load returned and left.
+abbrev pub hostOf : LoadLeft → Host
+hostOf l = record { state = l .state; P = l .P; D = l .D; I = l .I; O = l .O }
+
+-- Each call gets what it takes of state, memories and ports as the load and the calls before it last returned or left it.
+abbrev pub givenTo : Host → Lent → Given
+givenTo h lent = record { state = h .state; P = h .P; D = h .D; I = h .I; O = h .O; budget = lent .budget; log = lent .log }
+
+abbrev pub afterRun : Host → Left → Host
+afterRun h l = record { state = l .state; P = h .P; D = l .D; I = l .I; O = l .O }
+
+abbrev pub afterSet : Host → SetLeft → Host
+afterSet h l = record { state = h .state; P = h .P; D = h .D; I = l .I; O = h .O }
+
+-- the contract of each engine's run (the theorem `contracts` says that it is this relation)
+abbrev pub Promise : Engine → Given → Left → Type 0
+Promise by-rules g l = RunMeets g l
+Promise by-table g l = RunMeets g l
+
+-- one call, of which only its contract is known
+pub data Does : Host → Call → Reply → Host → Type 0 where
+  a-run :
+      (h : Host) (e : Engine) (lent : Lent) (l : Left) → Promise e (givenTo h lent) l
+      → Does h (runs e lent) (ran (l .reply) (l .log)) (afterRun h l)
+  a-setting :
+      (h : Host) (port value : ℕ) (l : SetLeft) → l ≡ setLeft (record { I = h .I; port = port; value = value })
+      → Does h (sets port value) (set (l .reply)) (afterSet h l)
+
+-- a list of calls, one after the other
+pub data Calls : Host → List Call → List Reply → Host → Type 0 where
+  none : {h : Host} → Calls h [] [] h
+  more :
+      {h h₁ h₂ : Host} {c : Call} {r : Reply} {cs : List Call} {rs : List Reply}
+      → Does h c r h₁ → Calls h₁ cs rs h₂ → Calls h (c ∷ cs) (r ∷ rs) h₂
+
+-- the joining, in the order of the calls, of what the accepted runs wrote, each taken as its run returned
+abbrev pub wrote : Reply → List ℕ
+wrote (ran (stopped q steps entries) log) = take entries log
+wrote (ran (run-refused k) log) = []
+wrote (set r) = []
+
+unfoldable pub joined : List Reply → List ℕ
+joined [] = []
+joined (r ∷ rs) = wrote r ++ joined rs
+
+-- ---- The plain machine, given the same calls
+
+abbrev pub givenOf : Machine → Lent → Given
+givenOf m lent = record { state = m .state; P = m .P; D = m .D; I = m .I; O = m .O; budget = lent .budget; log = lent .log }
+
+abbrev pub outcome : Machine → Lent → Outcome
+outcome m lent = run (lent .budget) (length (lent .log)) m
+
+-- In an accepted run it takes steps until one of the tests holds. A call that the refusal table turns away changes nothing.
+abbrev pub runBy : Verdict → Machine → Lent → Machine
+runBy run-accepted m lent = outcome m lent .after
+runBy (turned-away k) m lent = m
+
+-- An accepted set is its Set.
+unfoldable pub machineCall : Machine → Call → Machine
+machineCall m (runs e lent) = runBy (verdictOn (givenOf m lent)) m lent
+machineCall m (sets port value) = pick (eqb (length (m .I)) 256) (putI port value m) m
+
+unfoldable pub machineCalls : Machine → List Call → Machine
+machineCalls m [] = m
+machineCalls m (c ∷ cs) = machineCalls (machineCall m c) cs
+
+-- What it says of a run: the first test that held is the stop reason, and the steps and entries are by how much n and L grew;
+-- the log as returned has the new entries, then the lent places as they were.
+abbrev pub saidBy : Verdict → Machine → Lent → Reply
+saidBy run-accepted m lent =
+    let z = outcome m lent in
+    let new = drop (length (m .L)) (z .after .L) in
+    ran (stopped (z .reason) (z .after .state .n - m .state .n) (length (z .after .L) - length (m .L))) (new ++ drop (length new) (lent .log))
+saidBy (turned-away k) m lent = ran (run-refused k) (lent .log)
+
+unfoldable pub machineSays : Machine → Call → Reply
+machineSays m (runs e lent) = saidBy (verdictOn (givenOf m lent)) m lent
+machineSays m (sets port value) = set (pick (eqb (length (m .I)) 256) done (refused 1))
+
+unfoldable pub machineReplies : Machine → List Call → List Reply
+machineReplies m [] = []
+machineReplies m (c ∷ cs) = machineSays m c ∷ machineReplies (machineCall m c) cs
+
+-- ---- The claim
+
+-- what the host holds, with a log, as a machine
+abbrev pub machineOn : Host → List ℕ → Machine
+machineOn h L = record { state = h .state; P = h .P; D = h .D; I = h .I; O = h .O; L = L }
+
+pub record Agreed (file : List ℕ) (cs : List Call) (rs₁ rs₂ : List Reply) (h₁ h₂ : Host) : Type 0 where
+  -- state (with n), P, D, I, O, and L are the machine's, started as 01 loads that file and given the same calls
+  pub machine : machineOn h₁ (joined rs₁) ≡ machineCalls (loaded file) cs
+  -- every reply, with its log as returned, is what that machine says of the call
+  pub replies : rs₁ ≡ machineReplies (loaded file) cs
+  -- the other list, alike in all but the engines, got the same replies and logs and left the same states, memories and ports
+  pub same-replies : rs₁ ≡ rs₂
+  pub same-host : h₁ ≡ h₂
+
+-- a refused run in a list is refused with 6, and no setting is refused
+abbrev pub Only6 : Reply → Type 0
+Only6 (ran (stopped q s k) log) = Unit {0}
+Only6 (ran (run-refused k) log) = k ≡ 6
+Only6 (set r) = r ≡ done
+
+pub data All (Q : Reply → Type 0) : List Reply → Type 0 where
+  nil : All Q []
+  cons : {r : Reply} {rs : List Reply} → Q r → All Q rs → All Q (r ∷ rs)
+
+-- 01's file: W 4, offset 16, C 0, offset 24 and words 0x9AF6, 0x9B3A, 0xAB03, 0xF000
+abbrev pub exampleFile : List ℕ
+exampleFile =
+    4 ∷ 0 ∷ 0 ∷ 0 ∷ 16 ∷ 0 ∷ 0 ∷ 0 ∷ 0 ∷ 0 ∷ 0 ∷ 0 ∷ 24 ∷ 0 ∷ 0 ∷ 0
+    ∷ 0xF6 ∷ 0x9A ∷ 0x3A ∷ 0x9B ∷ 0x03 ∷ 0xAB ∷ 0x00 ∷ 0xF0 ∷ []
+
+pub record Session : Type 0 where
+  -- DEMAND 3
+  pub agreed :
+      (g : LoadGiven) (l₁ l₂ : LoadLeft) → l₁ ≡ loadLeft g → l₁ .reply ≡ accepted → l₂ ≡ loadLeft g → l₂ .reply ≡ accepted
+      → (cs₁ cs₂ : List Call) → Alike cs₁ cs₂
+      → (rs₁ rs₂ : List Reply) (h₁ h₂ : Host) → Calls (hostOf l₁) cs₁ rs₁ h₁ → Calls (hostOf l₂) cs₂ rs₂ h₂
+      → Agreed (g .file) cs₁ rs₁ rs₂ h₁ h₂
+  -- such replies exist for every list,
+  pub replies-exist : (h : Host) (cs : List Call) → (rs : List Reply) × (after : Host) × Calls h cs rs after
+  -- and an accepted load exists
+  pub load-exists :
+      loadLeft (record { file = exampleFile; P = replicate 65536 0; D = replicate 65536 0; I = replicate 256 0; O = replicate 256 0 }) .reply ≡ accepted
+  -- after an accepted load only refusal 6 can occur in a list
+  pub only-6 :
+      (g : LoadGiven) (l : LoadLeft) → l ≡ loadLeft g → l .reply ≡ accepted
+      → (cs : List Call) (rs : List Reply) (h : Host) → Calls (hostOf l) cs rs h → All Only6 rs

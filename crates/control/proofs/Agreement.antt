@@ -1,0 +1,143 @@
+-- The control table agrees with the plain machine's rows: one computed test over its 32 entries, and a lemma.
+-- Assumes nothing.
+use mathlib.Core.Path.{_≡_, refl, sym, ap, _∙_}
+use mathlib.Core.Bool.{Bool, true, false, _&&_}
+use mathlib.Core.List.{List, [], _∷_, map}
+use Prim.Native.Nat.{ℕ, zero, suc, _+_, _*_, _/_, _%_, _<_}
+use native.Mathlib.Nat.{add-zero, zero-add, add-suc, suc-add, le-of-suc-le-suc, not-suc-le-zero}
+use native.Mathlib.Omega.{arith}
+use lib.Dec.{T, eqb}
+use lib.ListN.{getD, length, drop, List·getD-map}
+use Rattle.word.specs.Fields.{opcode, e-of, f-of, N8}
+use Rattle.word.specs.Word.{pick, add, SE}
+use Rattle.word.proofs.Computed.{all, all-at}
+use Rattle.word.proofs.Signed.{SE-is}
+use Rattle.machine.specs.Machine.{Machine, R, count, onState}
+use Rattle.machine.specs.Step.{PC, Ra, d11-9, write, jump, among, Rule, Row, by-f, one, by-e, none, rows, Choice, rule, unassigned, inRow, choice, Next, cannot, to, stepBy, compute, compare, addi, ld, st, ldb, stb, jalr, bz, bnz, movi, movhi, input, output}
+use Rattle.machine.specs.Run.{isOut}
+use Rattle.machine.specs.Held.{isRule}
+use Rattle.control.specs.Control.{second, unit, result, next, stored, written, performed, assigned, writesPort, controlStep, table, controlOf}
+
+-- ---- A table of two columns: what is done, and whether a port is written
+
+record Columns : Type 0 where
+  does : ℕ → Machine → Next
+  port : Bool
+
+by-control : ℕ → Columns
+by-control c = record { does = controlStep c; port = writesPort c }
+
+-- what a row says of the words with this e, the choice by f made last
+abbrev stepRow : Row → ℕ → ℕ → Machine → Next
+stepRow (by-f fs r) e w m = pick (among (f-of w) fs) (to (onState count (r w (jump (add (PC m) 2) m)))) (cannot 1)
+stepRow (one r) e w m = to (onState count (r w (jump (add (PC m) 2) m)))
+stepRow (by-e r₀ r₁) e w m = to (onState count (pick (eqb e 0) r₀ r₁ w (jump (add (PC m) 2) m)))
+stepRow none e w m = cannot 1
+
+row-is : (x : Row) (e w : ℕ) (m : Machine) → stepRow x e w m ≡ stepBy (inRow x e (f-of w)) w m
+row-is (by-f fs r) e w m = by-test (among (f-of w) fs)
+  where
+    by-test : (t : Bool) → pick t (to (onState count (r w (jump (add (PC m) 2) m)))) (cannot 1) ≡ stepBy (pick t (rule r) unassigned) w m
+    by-test true = refl
+    by-test false = refl
+row-is (one r) e w m = refl
+row-is (by-e r₀ r₁) e w m = refl
+row-is none e w m = refl
+
+-- opcode 0 takes every f, so the table does not look at it
+any-f : (w : ℕ) → among (f-of w) (0 ∷ 1 ∷ 2 ∷ 3 ∷ 4 ∷ 5 ∷ 6 ∷ 7 ∷ []) ≡ true
+unfolding all
+any-f w = passes _ (all-at 8 (λ f. among f (0 ∷ 1 ∷ 2 ∷ 3 ∷ 4 ∷ 5 ∷ 6 ∷ 7 ∷ [])) all-of-them (f-of w) (omega arith))
+  where
+    all-of-them : T (all 8 (λ f. among f (0 ∷ 1 ∷ 2 ∷ 3 ∷ 4 ∷ 5 ∷ 6 ∷ 7 ∷ [])))
+    all-of-them = tt
+
+    passes : (b : Bool) → T b → b ≡ true
+    passes true t = refl
+    passes false t = absurd t
+
+abbrev rowAt : ℕ → Row
+rowAt op = getD (one compute ∷ drop 1 rows) op none
+
+rowAt-is : (op e w : ℕ) (m : Machine) → stepRow (rowAt op) e w m ≡ stepRow (getD rows op none) e w m
+rowAt-is zero e w m = rw (any-f w)
+rowAt-is (suc op) e w m = refl
+
+by-row : ℕ → ℕ → Columns
+by-row op e = record { does = stepRow (rowAt op) e; port = eqb op 10 && eqb e 1 }
+
+-- ---- The rules that are not the control word's by computation
+
+branch : (t : Bool) (x : ℕ) (m : Machine) → pick t (jump x m) m ≡ jump (pick t x (PC m)) m
+branch true x m = refl
+branch false x m = refl
+
+stay : (t : Bool) (x : ℕ) (m : Machine) → pick t m (jump x m) ≡ jump (pick t (PC m) x) m
+stay true x m = refl
+stay false x m = refl
+
+bz-is : bz ≡ (λ w m. jump (pick (eqb (Ra w m) 0) (add (PC m) (SE 8 (N8 w) * 2)) (PC m)) m)
+unfolding bz
+bz-is = λ i w m. branch (eqb (Ra w m) 0) (add (PC m) (SE 8 (N8 w) * 2)) m i
+
+bnz-is : bnz ≡ (λ w m. jump (pick (eqb (Ra w m) 0) (PC m) (add (PC m) (SE 8 (N8 w) * 2))) m)
+unfolding bnz
+bnz-is = λ i w m. stay (eqb (Ra w m) 0) (add (PC m) (SE 8 (N8 w) * 2)) m i
+
+-- N8 is the low byte of SE(N8)
+low-byte : (w : ℕ) → N8 w ≡ SE 8 (N8 w) % 256
+low-byte w = let e = SE-is 8 (N8 w) (omega arith) (omega arith) (omega arith) in omega (arith, e)
+
+movhi-is : movhi ≡ (λ w m. write (d11-9 w) (R (m .state) (d11-9 w) % 256 + SE 8 (N8 w) % 256 * 256) m)
+unfolding movhi
+movhi-is = λ i w m. write (d11-9 w) (R (m .state) (d11-9 w) % 256 + low-byte w i * 256) m
+
+-- ---- The test: antt computes both lists, and compares what stands in them, functions of a word and a machine among it
+
+-- what g says at each place of the table, from place k on
+abbrev from : {A : Type 0} → (ℕ → ℕ → A) → ℕ → List ℕ → List A
+from g k [] = []
+from g k (x ∷ xs) = g (k / 2) (k % 2) ∷ from g (suc k) xs
+
+test : map by-control table ≡ from by-row 0 table
+unfolding by-control by-row compute compare addi ld st ldb stb jalr movi input output controlStep performed assigned second unit result next stored written
+test = rw (bz-is, bnz-is, movhi-is)
+
+-- ---- The lemma: the test, read at the place of a word
+
+from-at : {A : Type 0} (g : ℕ → ℕ → A) (i : ℕ) (xs : List ℕ) (k : ℕ) (d : A) → k < length xs → getD (from g i xs) k d ≡ g ((i + k) / 2) ((i + k) % 2)
+from-at g i [] k d h = absurd (not-suc-le-zero h)
+from-at g i (x ∷ xs) zero d h = rw add-zero
+from-at g i (x ∷ xs) (suc k) d h = from-at g (suc i) xs k d (le-of-suc-le-suc h) ∙ rw (suc-add, add-suc)
+
+at : (w : ℕ) → by-control (controlOf w) ≡ by-row (opcode w) (e-of w)
+unfolding controlOf
+at w =
+    let k = opcode w * 2 + e-of w in
+    let half : k / 2 ≡ opcode w = omega arith in
+    let odd : k % 2 ≡ e-of w = omega arith in
+    sym (List·getD-map by-control table k 0)
+    ∙ ap (λ (l : List Columns). getD l k (by-control 0)) test
+    ∙ from-at by-row 0 table k (by-control 0) (omega arith)
+    ∙ rw (zero-add, half, odd)
+
+pub agreement : (w : ℕ) (m : Machine) → controlStep (controlOf w) w m ≡ stepBy (choice w) w m
+unfolding by-control by-row choice
+agreement w m =
+    ap (λ (x : Columns). x .does w m) (at w)
+    ∙ rowAt-is (opcode w) (e-of w) w m
+    ∙ row-is (getD rows (opcode w) none) (e-of w) w m
+
+pub agreement-port : (w : ℕ) → writesPort (controlOf w) ≡ isOut w
+unfolding by-control by-row
+agreement-port w = ap (λ (x : Columns). x .port) (at w)
+
+-- where the word is assigned, the table's own word does the step
+pub performed-is : (w : ℕ) (m : Machine) → isRule (choice w) ≡ true → to (performed (controlOf w) w m) ≡ stepBy (choice w) w m
+unfolding controlStep
+performed-is w m h = by-test (choice w) (assigned (controlOf w) w) h (agreement w m)
+  where
+    by-test : (x : Choice) (t : Bool) → isRule x ≡ true → pick t (to (performed (controlOf w) w m)) (cannot 1) ≡ stepBy x w m → to (performed (controlOf w) w m) ≡ stepBy x w m
+    by-test x true h e = e
+    by-test (rule r) false h e = let z : _≡_ {A = ℕ} 0 1 = cc in absurd (omega arith)
+    by-test unassigned false h e = let z : _≡_ {A = ℕ} 0 1 = cc in absurd (omega arith)

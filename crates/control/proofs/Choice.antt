@@ -1,0 +1,22 @@
+-- A choice by a field of the control word: past the end of a list, and what none of the choices changes.
+-- Assumes nothing.
+use mathlib.Core.Path.{_≡_, refl, sym}
+use mathlib.Core.List.{[], _∷_}
+use Prim.Native.Nat.{ℕ, zero, suc}
+use lib.ListN.{getD, List·getD-eq-default}
+use Rattle.word.proofs.Tables.{NoneBelow, past}
+use Rattle.machine.specs.Machine.{Machine}
+
+pub past-five : (a b c d e k : ℕ) → NoneBelow 5 k → 0 ≡ getD (a ∷ b ∷ c ∷ d ∷ e ∷ []) k 0
+past-five a b c d e k h = sym (List·getD-eq-default (a ∷ b ∷ c ∷ d ∷ e ∷ []) 0 (past 5 k h))
+
+-- f is the same in the machine that is chosen as in m, where it is in each that may be
+pub stays :
+    {A : Type 0} (f : Machine → A) (k : ℕ) (m m₁ m₂ m₃ : Machine)
+    → (k ≡ 1 → f m₁ ≡ f m) → (k ≡ 2 → f m₂ ≡ f m) → (k ≡ 3 → f m₃ ≡ f m)
+    → f (getD (m ∷ m₁ ∷ m₂ ∷ m₃ ∷ []) k m) ≡ f m
+stays f zero m m₁ m₂ m₃ e₁ e₂ e₃ = refl
+stays f (suc zero) m m₁ m₂ m₃ e₁ e₂ e₃ = e₁ refl
+stays f (suc (suc zero)) m m₁ m₂ m₃ e₁ e₂ e₃ = e₂ refl
+stays f (suc (suc (suc zero))) m m₁ m₂ m₃ e₁ e₂ e₃ = e₃ refl
+stays f (suc (suc (suc (suc k)))) m m₁ m₂ m₃ e₁ e₂ e₃ = refl

@@ -1,0 +1,114 @@
+-- The control table (01): the fields of a control word c, a step by them, and the table's 32 words. w is the instruction
+-- word and m the machine before the step; registers are read before any is written.
+-- Open: a field value that 01 does not list (unit 5 to 7, result 5 to 7, second operand 3) stands for the number 0. No word
+-- of the table has one.
+use Prim.Native.Nat.{ℕ, _+_, _*_, _%_}
+use mathlib.Core.Bool.{Bool, true, false, _&&_}
+use mathlib.Core.List.{List, [], _∷_}
+use lib.Dec.{eqb}
+use lib.ListN.{getD}
+use Rattle.word.specs.Fields.{bits, field, opcode, e-of, f-of, N6, N8}
+use Rattle.word.specs.Word.{pick, add, clear0, SE, operation, comparison}
+use Rattle.machine.specs.Machine.{Machine, count, onState, putD, putO, wordAt, putWord, putByte}
+use Rattle.machine.specs.Step.{PC, Ra, Rb, d5-3, d8-6, d11-9, write, jump, among, Next, cannot, to}
+
+-- ---- What the step computes
+
+-- Bits 9..8 second operand: 0 Rb, 1 SE(N6), 2 SE(N8).
+unfoldable pub second : ℕ → ℕ → Machine → ℕ
+second c w m = getD (Rb w m ∷ SE 6 (N6 w) ∷ SE 8 (N8 w) ∷ []) (field (bits 9 8) c) 0
+
+-- Bits 7..5 unit: 0 opcode 0's operations by f, 1 comparisons by f, 2 sum, 3 second operand, 4 low byte of the first under
+-- low byte of the second. First operand: Ra.
+abbrev pub units : ℕ → ℕ → ℕ → List ℕ
+units f x y = operation f x y ∷ comparison f x y ∷ add x y ∷ y ∷ (x % 256 + y % 256 * 256) ∷ []
+
+abbrev pub unitField : ℕ → ℕ
+unitField c = field (bits 7 5) c
+
+unfoldable pub unit : ℕ → ℕ → Machine → ℕ
+unit c w m = getD (units (f-of w) (Ra w m) (second c w m)) (unitField c) 0
+
+-- Bits 4..2 result: 0 unit, 1 word read, 2 SE of the byte read, 3 PC+2, 4 input. The unit's result is the data address, with
+-- bit 0 cleared for a word; N8 is the port.
+unfoldable pub result : ℕ → ℕ → Machine → ℕ
+result c w m =
+    let u = unit c w m in
+    getD (u ∷ wordAt (m .D) (clear0 u) ∷ SE 8 (getD (m .D) u 0) ∷ add (PC m) 2 ∷ getD (m .I) (N8 w) 0 ∷ []) (field (bits 4 2) c) 0
+
+-- Bits 13..12 next: 0 PC+2, 1 branch if Ra is zero, 2 if not (both as rule 8), 3 jump to Ra with bit 0 cleared.
+unfoldable pub next : ℕ → ℕ → Machine → ℕ
+next c w m =
+    let on = add (PC m) 2 in
+    let target = add on (SE 8 (N8 w) * 2) in
+    let zero = eqb (Ra w m) 0 in
+    getD (on ∷ pick zero target on ∷ pick zero on target ∷ clear0 (Ra w m) ∷ []) (field (bits 13 12) c) 0
+
+-- ---- What the step changes
+
+-- Bits 11..10 store: 0 none, 1 word Rb, 2 byte Rb, 3 port from Ra.
+abbrev pub storeField : ℕ → ℕ
+storeField c = field (bits 11 10) c
+
+unfoldable pub stored : ℕ → ℕ → Machine → Machine
+stored c w m =
+    let u = unit c w m in
+    getD
+    (m
+    ∷ putD (putWord (clear0 u) (Rb w m) (m .D)) m
+    ∷ putD (putByte u (Rb w m) (m .D)) m
+    ∷ putO (N8 w) (Ra w m) m
+    ∷ [])
+    (storeField c) m
+
+-- Bits 1..0 destination: 0 none, 1 bits 5..3, 2 bits 8..6, 3 bits 11..9.
+unfoldable pub written : ℕ → ℕ → ℕ → Machine → Machine
+written c w v m = getD (m ∷ write (d5-3 w) v m ∷ write (d8-6 w) v m ∷ write (d11-9 w) v m ∷ []) (field (bits 1 0) c) m
+
+-- the machine after: the store, PC, the destination, and n grows by 1
+unfoldable pub performed : ℕ → ℕ → Machine → Machine
+performed c w m = onState count (written c w (result c w m) (jump (next c w m) (stored c w m)))
+
+-- ---- Whether it can be done
+
+-- a unit that goes by f takes these f; any other takes all
+abbrev pub takes : ℕ → ℕ → Bool
+takes u f = pick (eqb u 1) (among f (0 ∷ 1 ∷ 3 ∷ 4 ∷ 5 ∷ [])) true
+
+-- Bit 14: assigned, in unit 1 also by f.
+unfoldable pub assigned : ℕ → ℕ → Bool
+assigned c w = eqb (field (bits 14 14) c) 1 && takes (unitField c) (f-of w)
+
+-- the step writes a port
+abbrev pub writesPort : ℕ → Bool
+writesPort c = eqb (storeField c) 3
+
+unfoldable pub controlStep : ℕ → ℕ → Machine → Next
+controlStep c w m = pick (assigned c w) (to (performed c w m)) (cannot 1)
+
+-- ---- The table: 32 words, at opcode times 2 plus e
+
+abbrev pub table : List ℕ
+table =
+    -- opcodes 0 to 7, both e
+    0x4001 ∷ 0x4001
+    ∷ 0x4021 ∷ 0x4021
+    ∷ 0x4142 ∷ 0x4142
+    ∷ 0x4146 ∷ 0x4146
+    ∷ 0x4540 ∷ 0x4540
+    ∷ 0x414A ∷ 0x414A
+    ∷ 0x4940 ∷ 0x4940
+    ∷ 0x700E ∷ 0x700E
+    -- 8: BZ, BNZ
+    ∷ 0x5000 ∷ 0x6000
+    -- 9: MOVI, MOVHI
+    ∷ 0x4263 ∷ 0x4283
+    -- 10: IN, OUT
+    ∷ 0x4013 ∷ 0x4C00
+    -- the rest 0
+    ∷ 0 ∷ 0 ∷ 0 ∷ 0 ∷ 0 ∷ 0 ∷ 0 ∷ 0 ∷ 0 ∷ 0
+    ∷ []
+
+-- the table's word for an instruction word
+unfoldable pub controlOf : ℕ → ℕ
+controlOf w = getD table (opcode w * 2 + e-of w) 0

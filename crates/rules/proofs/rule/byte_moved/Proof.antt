@@ -1,0 +1,18 @@
+-- `rules::rule::byte_moved` meets its contract: e chooses.
+-- Assumes nothing.
+use native.Mathlib.Omega.{arith}
+use borrow.Author.Needs.{needs}
+use borrow.Author.Tests.{ne-eqb}
+use Rattle.rules.proofs.rule.byte_moved.Statement.{statement}
+use Rattle.rules.proofs.rule.byte_moved.Tie as tie
+
+pub byte-moved-spec : {M : Type 1} → statement M
+byte-moved-spec =
+    tie.close
+    (tie.spec
+    (λ c κs. search needs)
+    (λ c κs. search needs)
+    (λ c. search needs)
+    (λ c. search needs)
+    (λ c. rw (c .before .if1 .taken) (c .extend8 .ensures))
+    (λ c. rw (ne-eqb _ 0 (c .before .if1 .left)) (omega arith)))
