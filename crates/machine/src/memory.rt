@@ -31,6 +31,13 @@ fn wide(x: u8) -> u16
     x as u16
 }
 
+// The place of the word at an address.
+fn word_place(address: Address) -> usize
+    ensures { λ r. ⌜ r ≡ clear0 (address .0) ⌝ }
+{
+    (address.0 / 2 * 2) as usize
+}
+
 pub fn load_byte(bytes: &[u8], address: Address) -> u16
     requires { ⌜ length (now bytes) ≡ 65536 ⌝ }
     ensures { λ v. ⌜ v ≡ getD (now (bytes .entry)) (address .0) 0 ⌝ }
@@ -43,7 +50,7 @@ pub fn load_word(bytes: &[u8], address: Address) -> u16
     requires { ⌜ length (now bytes) ≡ 65536 ⌝ }
     ensures { λ v. ⌜ v ≡ wordAt (now (bytes .entry)) (clear0 (address .0)) ⌝ }
 {
-    let at = (address.0 / 2 * 2) as usize;
+    let at = word_place(address);
     let low = wide(bytes[at]);
     let high = wide(bytes[at + 1]);
     low + 256 * high
@@ -61,7 +68,7 @@ pub fn store_word(bytes: &mut [u8], address: Address, v: u16)
     requires { ⌜ length (now bytes) ≡ 65536 ⌝ }
     ensures { λ _. ⌜ now (bytes .exit) ≡ putWord (clear0 (address .0)) v (now (bytes .entry)) ⌝ }
 {
-    let at = (address.0 / 2 * 2) as usize;
+    let at = word_place(address);
     bytes[at] = (v % 256) as u8;
     bytes[at + 1] = (v / 256) as u8;
 }
