@@ -55,6 +55,7 @@ pub fn chosen_result(control: u16, w: u16, u: u16, pc: u16, memory: &[u8], input
     }
 }
 
+// PC+2 and SE(N8) times 2.
 fn branch_target(pc: u16, w: u16) -> u16
     ensures { λ r. ⌜ r ≡ add (add pc 2) (SE 8 (N8 w) * 2) ⌝ }
 {
@@ -96,13 +97,14 @@ pub fn store_data(control: u16, y: u16, u: u16, memory: &mut [u8])
     }
 }
 
+// Bits 11..10 are 3.
 pub fn writes_port(control: u16) -> bool
     ensures { λ r. ⌜ r ≡ writesPort control ⌝ }
 {
     control / 1024 % 4 == 3
 }
 
-// Bits 11..10, 3: a port, with an entry of the log. Hands back how many entries there are.
+// Where they are 3: the port's store, with an entry of the log. Hands back how many entries there are.
 pub fn store_port(
     control: u16,
     w: u16,

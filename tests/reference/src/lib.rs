@@ -1,0 +1,15 @@
+//! The SISA trim processor of paper 01 and the SISA reference sheet (004),
+//! written from those papers alone, to be compared with another build.
+//!
+//! Sentences in quotation marks are paper 01's unless "sheet" is said.
+#![forbid(unsafe_code)]
+
+pub mod control;
+pub mod instruction;
+pub mod load;
+pub mod machine;
+mod number;
+pub mod report;
+pub mod run;
+pub mod set;
+pub mod window;

@@ -1,0 +1,84 @@
+//! Loading a trim file.
+
+use crate::machine::{State, MEMORY, PORTS};
+
+/// "four 32-bit little-endian numbers: W program words, their offset, C data
+/// bytes, their offset"
+struct Header {
+    w: u64,
+    program_offset: u64,
+    c: u64,
+    data_offset: u64,
+}
+
+/// One 32-bit little-endian number.
+fn number_at(header: &[u8; 16], at: usize) -> u64 {
+    u64::from(header[at])
+        + 256 * u64::from(header[at + 1])
+        + 65_536 * u64::from(header[at + 2])
+        + 16_777_216 * u64::from(header[at + 3])
+}
+
+/// The header, or None for a "file under 16 bytes".
+fn header(file: &[u8]) -> Option<Header> {
+    let first: &[u8; 16] = file.get(..16)?.try_into().ok()?;
+    Some(Header {
+        w: number_at(first, 0),
+        program_offset: number_at(first, 4),
+        c: number_at(first, 8),
+        data_offset: number_at(first, 12),
+    })
+}
+
+/// "Each offset is at least 16, and offset plus part length (2W bytes, C
+/// bytes) is at most the file length, also for an empty part."
+/// Gives the part, or None if it breaks this.
+fn part(file: &[u8], offset: u64, length: u64) -> Option<&[u8]> {
+    if offset < 16 || offset + length > file.len() as u64 {
+        return None;
+    }
+    file.get(offset as usize..(offset + length) as usize)
+}
+
+/// "Loading copies them to P[0..] and D[0..], zeroes all other memory and
+/// ports": here one memory.
+fn fill(memory: &mut [u8], part: &[u8]) {
+    for (at, place) in memory.iter_mut().enumerate() {
+        *place = part.get(at).copied().unwrap_or(0);
+    }
+}
+
+/// Loads a file and "returns a reset machine", or the refusal's number.
+/// "Order is by number: load 1 to 4". "Nothing lent changes" on a refusal.
+pub fn load(
+    file: &[u8],
+    p: &mut [u8],
+    d: &mut [u8],
+    i: &mut [u16],
+    o: &mut [u16],
+) -> Result<State, u8> {
+    // "1 | P or D not 65,536 bytes, or I or O not 256 words"
+    if p.len() != MEMORY || d.len() != MEMORY || i.len() != PORTS || o.len() != PORTS {
+        return Err(1);
+    }
+    // "2 | file under 16 bytes"
+    let Some(header) = header(file) else {
+        return Err(2);
+    };
+    // "3 | W or C over its limit": "W is at most 32,768, C at most 65,536."
+    if header.w > 32_768 || header.c > 65_536 {
+        return Err(3);
+    }
+    // "4 | an offset or part end outside its bounds"
+    let Some(program) = part(file, header.program_offset, 2 * header.w) else {
+        return Err(4);
+    };
+    let Some(data) = part(file, header.data_offset, header.c) else {
+        return Err(4);
+    };
+    fill(p, program);
+    fill(d, data);
+    i.fill(0);
+    o.fill(0);
+    Ok(State::reset())
+}

@@ -1,0 +1,255 @@
+//! The plain machine: its state and its step.
+
+use crate::number::{bit_0_cleared, bits, modulo16, sign_extend, signed, unsigned};
+
+/// "program P and data D, 65,536 bytes each"
+pub const MEMORY: usize = 65_536;
+
+/// "inputs I and outputs O, 256 words of 16 bits each"
+pub const PORTS: usize = 256;
+
+/// "R0 to R7 and PC (16 bits each); n, the steps done (32 bits)"
+#[derive(Clone, Copy, Debug, PartialEq, Eq)]
+pub struct State {
+    pub r: [u16; 8],
+    pub pc: u16,
+    pub n: u32,
+}
+
+impl State {
+    /// "A reset machine has every register, PC and n at zero."
+    pub fn reset() -> State {
+        State {
+            r: [0; 8],
+            pc: 0,
+            n: 0,
+        }
+    }
+}
+
+/// P, D, I and O of exactly the machine's lengths.
+pub struct Places<'a> {
+    pub p: &'a [u8; MEMORY],
+    pub d: &'a mut [u8; MEMORY],
+    pub i: &'a [u16; PORTS],
+    pub o: &'a mut [u16; PORTS],
+}
+
+impl<'a> Places<'a> {
+    /// None if "P or D not 65,536 bytes, or I or O not 256 words".
+    pub fn of(p: &'a [u8], d: &'a mut [u8], i: &'a [u16], o: &'a mut [u16]) -> Option<Places<'a>> {
+        Some(Places {
+            p: p.try_into().ok()?,
+            d: d.try_into().ok()?,
+            i: i.try_into().ok()?,
+            o: o.try_into().ok()?,
+        })
+    }
+}
+
+/// What a step leaves: the state, and the entry that L gains, if any.
+#[derive(Clone, Copy, Debug, PartialEq, Eq)]
+pub struct Stepped {
+    pub state: State,
+    pub entry: Option<u64>,
+}
+
+/// "w is P[PC] + 256 times P[PC+1]."
+pub fn word(p: &[u8; MEMORY], pc: u16) -> u16 {
+    let low = p[usize::from(pc)];
+    let high = p[usize::from(modulo16(i64::from(pc) + 1))];
+    u16::from(low) + 256 * u16::from(high)
+}
+
+/// "opcode = bits 15..12"
+pub fn opcode(w: u16) -> i64 {
+    bits(w, 15, 12)
+}
+
+/// "e = bit 8"
+pub fn e(w: u16) -> i64 {
+    bits(w, 8, 8)
+}
+
+/// "f = 2..0"
+pub fn f(w: u16) -> i64 {
+    bits(w, 2, 0)
+}
+
+/// Whether w is one of the 25 instructions.
+pub fn assigned(w: u16) -> bool {
+    match opcode(w) {
+        // "f = 2, 6, 7 unassigned"
+        1 => comparison(f(w), 0, 0).is_some(),
+        // "11 to 15 | unassigned"
+        11..=15 => false,
+        _ => true,
+    }
+}
+
+/// "10 | e=1 OUT"
+pub fn is_out(w: u16) -> bool {
+    opcode(w) == 10 && e(w) == 1
+}
+
+/// "0 | f = 0..7: AND, OR, XOR, NOT (of Ra), ADD, SUB, SHA, SHL"
+pub fn operation(f: i64, ra: u16, rb: u16) -> u16 {
+    match f {
+        0 => ra & rb,
+        1 => ra | rb,
+        2 => ra ^ rb,
+        3 => !ra,
+        4 => modulo16(unsigned(ra) + unsigned(rb)),
+        5 => modulo16(unsigned(ra) - unsigned(rb)),
+        // Sheet: Rd = Ra (signed) * 2 ** Rb<4..0> (signed)
+        6 => shift(signed(ra), shift_amount(rb)),
+        // Sheet: Rd = Ra (unsigned) * 2 ** Rb<4..0> (signed)
+        _ => shift(unsigned(ra), shift_amount(rb)),
+    }
+}
+
+/// "SHA and SHL shift Ra by the low 5 bits of Rb read as signed, -16 to 15."
+fn shift_amount(rb: u16) -> i64 {
+    sign_extend(bits(rb, 4, 0), 5)
+}
+
+/// "Positive is left with zeros. Negative is right: SHA fills with Ra's
+/// bit 15, SHL with zeros."
+///
+/// A right shift is a division rounded down. Of a negative number (SHA, bit 15
+/// set) that fills with ones, of any other with zeros.
+fn shift(value: i64, amount: i64) -> u16 {
+    let power = 2_i64.pow(amount.unsigned_abs() as u32);
+    if amount >= 0 {
+        modulo16(value * power)
+    } else {
+        modulo16(value.div_euclid(power))
+    }
+}
+
+/// "1 | Rd is 1 or 0; f = 0 CMPLT, 1 CMPLE (signed), 3 CMPEQ, 4 CMPLTU,
+/// 5 CMPLEU (unsigned); f = 2, 6, 7 unassigned"
+pub fn comparison(f: i64, ra: u16, rb: u16) -> Option<u16> {
+    let holds = match f {
+        0 => signed(ra) < signed(rb),
+        1 => signed(ra) <= signed(rb),
+        3 => ra == rb,
+        4 => unsigned(ra) < unsigned(rb),
+        5 => unsigned(ra) <= unsigned(rb),
+        _ => return None,
+    };
+    Some(if holds { 1 } else { 0 })
+}
+
+/// "Rd = D[A'] + 256 times D[A'+1]", `even` being A'.
+pub fn data_word(d: &[u8; MEMORY], even: u16) -> u16 {
+    let at = usize::from(bit_0_cleared(even));
+    u16::from(d[at]) + 256 * u16::from(d[at + 1])
+}
+
+/// "the word at A' becomes Rb, low byte first", `even` being A'.
+pub fn store_data_word(d: &mut [u8; MEMORY], even: u16, rb: u16) {
+    let at = usize::from(bit_0_cleared(even));
+    d[at] = (rb % 256) as u8;
+    d[at + 1] = (rb / 256) as u8;
+}
+
+/// "n before the step times 16,777,216, plus port times 65,536, plus value"
+pub fn log_entry(n: u32, port: u8, value: u16) -> u64 {
+    u64::from(n) * 16_777_216 + u64::from(port) * 65_536 + u64::from(value)
+}
+
+/// "PC = PC+2+2·SE(N8)"
+pub fn branch_target(pc: u16, w: u16) -> u16 {
+    let n8 = sign_extend(bits(w, 7, 0), 8);
+    modulo16(i64::from(pc) + 2 + 2 * n8)
+}
+
+/// One step, or None: "If w is unassigned, no step is possible."
+pub fn step(state: State, places: &mut Places) -> Option<Stepped> {
+    let w = word(places.p, state.pc);
+    if !assigned(w) {
+        return None;
+    }
+
+    // "a = bits 11..9, b = 8..6"
+    let ra = state.r[bits(w, 11, 9) as usize];
+    let rb = state.r[bits(w, 8, 6) as usize];
+    // "The destination d is 5..3 for opcodes 0 and 1, 8..6 for 2, 3, 5, 7,
+    // and 11..9 for 9 and IN."
+    let d_5_3 = bits(w, 5, 3) as usize;
+    let d_8_6 = bits(w, 8, 6) as usize;
+    let d_11_9 = bits(w, 11, 9) as usize;
+    // "N6 and N8 are the low 6 and 8 bits, SE is sign extension to 16 bits."
+    let se_n6 = sign_extend(bits(w, 5, 0), 6);
+    let n8 = bits(w, 7, 0) as u8;
+    let se_n8 = sign_extend(bits(w, 7, 0), 8);
+    // "A is Ra+SE(N6); A' is A with bit 0 cleared."
+    let address = modulo16(unsigned(ra) + se_n6);
+    let even = bit_0_cleared(address);
+
+    let pc_plus_2 = modulo16(i64::from(state.pc) + 2);
+    let mut after = state;
+    let mut entry = None;
+    // "Otherwise the rule below is done and n grows by 1."
+    after.n = state.n.wrapping_add(1);
+    // "Where the rule doesn't name PC, PC becomes PC+2."
+    after.pc = pc_plus_2;
+
+    match (opcode(w), e(w)) {
+        // "0 | f = 0..7: AND, OR, XOR, NOT (of Ra), ADD, SUB, SHA, SHL"
+        (0, _) => after.r[d_5_3] = operation(f(w), ra, rb),
+        // "1 | Rd is 1 or 0; f = 0 CMPLT, 1 CMPLE (signed), 3 CMPEQ,
+        // 4 CMPLTU, 5 CMPLEU (unsigned); f = 2, 6, 7 unassigned"
+        (1, _) => after.r[d_5_3] = comparison(f(w), ra, rb)?,
+        // "2 ADDI | Rd = Ra+SE(N6)"
+        (2, _) => after.r[d_8_6] = modulo16(unsigned(ra) + se_n6),
+        // "3 LD | Rd = D[A'] + 256 times D[A'+1]"
+        (3, _) => after.r[d_8_6] = data_word(places.d, even),
+        // "4 ST | the word at A' becomes Rb, low byte first"
+        (4, _) => store_data_word(places.d, even, rb),
+        // "5 LDB | Rd = SE(D[A])"
+        (5, _) => {
+            let byte = places.d[usize::from(address)];
+            after.r[d_8_6] = modulo16(sign_extend(i64::from(byte), 8));
+        }
+        // "6 STB | D[A] = low byte of Rb"
+        (6, _) => places.d[usize::from(address)] = (rb % 256) as u8,
+        // "7 JALR | target = Ra with bit 0 cleared, read first; Rd = PC+2;
+        // PC = target; bits 5..0 ignored"
+        (7, _) => {
+            let target = bit_0_cleared(ra);
+            after.r[d_8_6] = pc_plus_2;
+            after.pc = target;
+        }
+        // "8 | e=0 BZ: if Ra is zero, PC = PC+2+2·SE(N8)"
+        (8, 0) => {
+            if ra == 0 {
+                after.pc = branch_target(state.pc, w);
+            }
+        }
+        // "8 | e=1 BNZ: if Ra is (not zero), PC = PC+2+2·SE(N8)"
+        (8, _) => {
+            if ra != 0 {
+                after.pc = branch_target(state.pc, w);
+            }
+        }
+        // "9 | e=0 MOVI: Rd = SE(N8)"
+        (9, 0) => after.r[d_11_9] = modulo16(se_n8),
+        // "9 | e=1 MOVHI: high byte of Rd = N8"
+        (9, _) => after.r[d_11_9] = 256 * u16::from(n8) + state.r[d_11_9] % 256,
+        // "10 | e=0 IN: Rd = I[N8]"; "IN changes no input."
+        (10, 0) => after.r[d_11_9] = places.i[usize::from(n8)],
+        // "10 | e=1 OUT: O[N8] = Ra, and L gains an entry"
+        (10, _) => {
+            places.o[usize::from(n8)] = ra;
+            entry = Some(log_entry(state.n, n8, ra));
+        }
+        // "11 to 15 | unassigned"
+        _ => return None,
+    }
+    Some(Stepped {
+        state: after,
+        entry,
+    })
+}

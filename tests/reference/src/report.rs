@@ -1,0 +1,69 @@
+//! The printed lines of the program `panelrun`.
+
+use crate::load::load;
+use crate::machine::{State, MEMORY, PORTS};
+use crate::run::{run, Reply};
+
+/// The lines for a file's bytes, without line ends.
+pub fn lines(file: &[u8]) -> Vec<String> {
+    match outcome(file) {
+        Ok(lines) => lines,
+        // "A refusal prints one line only, `refused`, a space and its number"
+        Err(number) => vec![format!("refused {number}")],
+    }
+}
+
+/// The lines as one text, each ended by a line feed.
+pub fn text(file: &[u8]) -> String {
+    lines(file).iter().map(|line| format!("{line}\n")).collect()
+}
+
+fn outcome(file: &[u8]) -> Result<Vec<String>, u8> {
+    // "8 | the program's file exceeds 65,536 bytes"; "the program tests 8
+    // before its load"
+    if file.len() > 65_536 {
+        return Err(8);
+    }
+    let mut p = vec![0; MEMORY];
+    let mut d = vec![0; MEMORY];
+    let mut i = vec![0; PORTS];
+    let mut o = vec![0; PORTS];
+    // "inputs zero, budget 1,000 and a 64-place log"
+    let mut log = [0; 64];
+    let state = load(file, &mut p, &mut d, &mut i, &mut o)?;
+    match run(state, &p, &mut d, &i, &mut o, 1_000, &mut log) {
+        Reply::Refused { number, .. } => Err(number),
+        Reply::Done {
+            state,
+            stop,
+            steps,
+            entries,
+        } => Ok(printed(state, stop, steps, entries, &log)),
+    }
+}
+
+fn printed(state: State, stop: u8, steps: u32, entries: u32, log: &[u64]) -> Vec<String> {
+    // "`run`: stop, steps, entries."
+    let mut lines = vec![format!("run {stop} {steps} {entries}")];
+    // "`out`, one per entry: n and port (decimal), value."
+    lines.extend(
+        log.iter()
+            .take(entries as usize)
+            .map(|&entry| out_line(entry)),
+    );
+    // "Then PC and R0 to R7. Value, PC and registers are four hexadecimal
+    // digits, capitals."
+    lines.push(format!("pc {:04X}", state.pc));
+    let registers: Vec<String> = state.r.iter().map(|x| format!("{x:04X}")).collect();
+    lines.push(format!("r {}", registers.join(" ")));
+    lines
+}
+
+/// An entry is "n before the step times 16,777,216, plus port times 65,536,
+/// plus value".
+fn out_line(entry: u64) -> String {
+    let n = entry / 16_777_216;
+    let port = entry / 65_536 % 256;
+    let value = entry % 65_536;
+    format!("out {n} {port} {value:04X}")
+}

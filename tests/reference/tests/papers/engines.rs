@@ -1,0 +1,264 @@
+//! Both engines agree, on random machines and on random lists of calls.
+
+use crate::board::{Board, Engine, BOTH};
+use crate::random::Random;
+use reference::control::{self, control_word, TABLE};
+use reference::machine::{Places, State};
+use reference::run::Reply;
+use reference::set::set;
+
+#[test]
+fn the_table_is_the_paper_s() {
+    let both_e = [
+        0x4001, 0x4021, 0x4142, 0x4146, 0x4540, 0x414A, 0x4940, 0x700E,
+    ];
+    for opcode in 0..8 {
+        assert_eq!(TABLE[2 * opcode], both_e[opcode]);
+        assert_eq!(TABLE[2 * opcode + 1], both_e[opcode]);
+    }
+    assert_eq!(
+        TABLE[16..22],
+        [0x5000, 0x6000, 0x4263, 0x4283, 0x4013, 0x4C00]
+    );
+    assert_eq!(TABLE[22..], [0; 10]);
+}
+
+#[test]
+fn one_step_of_every_word() {
+    let mut random = Random::new(0x57E9);
+    let mut rules = random.board();
+    let mut table = rules.clone();
+    for w in 0..=0xFFFF_u16 {
+        let mut state = State {
+            r: [0; 8],
+            pc: random.word() & 0xFFFE,
+            n: random.next() as u32,
+        };
+        for k in 0..8 {
+            state.r[k] = random.value();
+        }
+        for board in [&mut rules, &mut table] {
+            board.s = state;
+            board.put(state.pc, w);
+        }
+        assert_eq!(
+            rules.step(Engine::Rules),
+            table.step(Engine::Table),
+            "{w:04X} on {state:?}"
+        );
+    }
+    assert!(rules == table);
+}
+
+#[test]
+fn random_runs() {
+    let mut random = Random::new(0xC010_0123);
+    let mut stops = [0; 3];
+    let mut total = 0;
+    for _ in 0..300 {
+        let mut rules = random.board();
+        let mut table = rules.clone();
+        let places = random.below(40) as usize;
+        let budget = random.below(2_000) as u32;
+        let (mut rules_log, mut table_log) = (vec![0xEEEE; places], vec![0xEEEE; places]);
+        let by_rules = rules.run(Engine::Rules, budget, &mut rules_log);
+        let by_table = table.run(Engine::Table, budget, &mut table_log);
+        assert_eq!(by_rules, by_table);
+        assert_eq!(rules_log, table_log);
+        assert!(rules == table);
+        if let Reply::Done { stop, steps, .. } = by_rules {
+            stops[usize::from(stop)] += 1;
+            total += steps;
+        }
+    }
+    assert!(stops.iter().all(|&count| count > 10), "{stops:?}");
+    assert!(total > 20_000, "{total}");
+}
+
+#[test]
+fn any_control_word_of_the_table_beside_any_instruction_word() {
+    let mut random = Random::new(0xAB1E);
+    let mut board = random.board();
+    for c in TABLE {
+        for _ in 0..2_000 {
+            let w = random.word();
+            for k in 0..8 {
+                board.s.r[k] = random.value();
+            }
+            let before = board.s;
+            let mut places = Places::of(&board.p, &mut board.d, &board.i, &mut board.o).unwrap();
+            let stepped = control::step(c, w, before, &mut places);
+            let assigned = c != 0 && (c != 0x4021 || ![2, 6, 7].contains(&(w & 7)));
+            assert_eq!(stepped.is_some(), assigned);
+            if let Some(stepped) = stepped {
+                assert_eq!(stepped.state.n, before.n + 1);
+                assert_eq!(stepped.entry.is_some(), c == 0x4C00);
+                assert_eq!(stepped.state.pc % 2, 0);
+            }
+        }
+    }
+    assert_eq!(control_word(0xA3FF), 0x4C00);
+}
+
+#[test]
+fn any_control_word_at_all_does_not_panic() {
+    let mut random = Random::new(0xAB1F);
+    let mut board = random.board();
+    for c in 0..=0xFFFF_u16 {
+        let mut places = Places::of(&board.p, &mut board.d, &board.i, &mut board.o).unwrap();
+        control::step(c, random.word(), board.s, &mut places);
+    }
+}
+
+/// One call of a list.
+enum Call {
+    Run { budget: u32, places: usize },
+    Set { p: u8, v: u16, length: usize },
+}
+
+fn random_call(random: &mut Random) -> Call {
+    match random.below(4) {
+        0 => Call::Set {
+            p: random.word() as u8,
+            v: random.word(),
+            length: if random.below(5) == 0 { 255 } else { 256 },
+        },
+        // Refused with 6 unless n is 0.
+        1 if random.below(4) == 0 => Call::Run {
+            budget: u32::MAX,
+            places: 0,
+        },
+        _ => Call::Run {
+            budget: random.below(200) as u32,
+            places: random.below(12) as usize,
+        },
+    }
+}
+
+/// The plain machine given the same call: Set, or steps until a test holds.
+/// It works from the paper's words on lists of calls and has its own log L.
+fn plain(board: &mut Board, log: &mut Vec<u64>, call: &Call) -> Result<(u8, u32, usize), u8> {
+    match *call {
+        Call::Set { length, .. } if length != 256 => Err(1),
+        Call::Set { p, v, .. } => {
+            board.i[usize::from(p)] = v;
+            Ok((0, 0, 0))
+        }
+        Call::Run { budget, .. } if board.s.n.checked_add(budget).is_none() => Err(6),
+        Call::Run { budget, places } => {
+            let (n, l) = (board.s.n, log.len());
+            let stop = loop {
+                if board.s.n - n == budget {
+                    break 0;
+                }
+                let full = log.len() - l == places;
+                let before = board.clone();
+                match board.step(Engine::Rules) {
+                    None => break 1,
+                    Some(stepped) if stepped.entry.is_some() && full => {
+                        *board = before;
+                        break 2;
+                    }
+                    Some(stepped) => log.extend(stepped.entry),
+                }
+            };
+            Ok((stop, board.s.n - n, log.len() - l))
+        }
+    }
+}
+
+/// The library given the call, the entries of its log added to `joined`.
+fn library(
+    board: &mut Board,
+    joined: &mut Vec<u64>,
+    engine: Engine,
+    call: &Call,
+) -> Result<(u8, u32, usize), u8> {
+    match *call {
+        Call::Set { p, v, length } => {
+            let lent = &mut board.i[..length];
+            set(lent, p, v).map(|()| (0, 0, 0))
+        }
+        Call::Run { budget, places } => {
+            let mut log = vec![0xEEEE; places];
+            match board.run(engine, budget, &mut log) {
+                Reply::Refused { number, .. } => {
+                    assert!(log.iter().all(|&x| x == 0xEEEE));
+                    Err(number)
+                }
+                Reply::Done {
+                    stop,
+                    steps,
+                    entries,
+                    ..
+                } => {
+                    let entries = entries as usize;
+                    joined.extend(&log[..entries]);
+                    assert!(log[entries..].iter().all(|&x| x == 0xEEEE));
+                    Ok((stop, steps, entries))
+                }
+            }
+        }
+    }
+}
+
+#[test]
+fn random_lists_of_calls() {
+    let mut random = Random::new(0x1157);
+    for _ in 0..12 {
+        let start = random.board();
+        let mut machine = start.clone();
+        let mut l = Vec::new();
+        // By the rules, by the table, and by either as it falls.
+        let mut boards = [start.clone(), start.clone(), start];
+        let mut joined = [Vec::new(), Vec::new(), Vec::new()];
+        for _ in 0..12 {
+            let call = random_call(&mut random);
+            let expected = plain(&mut machine, &mut l, &call);
+            let mixed = BOTH[random.below(2) as usize];
+            let engines = [Engine::Rules, Engine::Table, mixed];
+            for (k, engine) in engines.into_iter().enumerate() {
+                assert_eq!(
+                    library(&mut boards[k], &mut joined[k], engine, &call),
+                    expected
+                );
+                assert!(boards[k] == machine);
+                assert_eq!(joined[k], l);
+            }
+        }
+    }
+}
+
+#[test]
+fn a_run_cut_in_pieces_is_the_same_run() {
+    let mut random = Random::new(0xC07);
+    for _ in 0..40 {
+        let start = random.board();
+        let mut whole = start.clone();
+        let mut pieces = start;
+        let mut log = vec![0; 600];
+        let reply = whole.run(Engine::Rules, 600, &mut log);
+        let Reply::Done { steps, entries, .. } = reply else {
+            panic!("refused")
+        };
+        let (mut done, mut joined) = (0, Vec::<u64>::new());
+        while done < steps {
+            let mut part = vec![0; 600];
+            let budget = (1 + random.below(50) as u32).min(steps - done);
+            match pieces.run(BOTH[random.below(2) as usize], budget, &mut part) {
+                Reply::Done {
+                    stop: 0,
+                    steps,
+                    entries,
+                    ..
+                } => {
+                    done += steps;
+                    joined.extend(&part[..entries as usize]);
+                }
+                other => panic!("{other:?}"),
+            }
+        }
+        assert!(pieces == whole);
+        assert_eq!(joined, log[..entries as usize]);
+    }
+}

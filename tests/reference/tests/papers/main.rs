@@ -1,0 +1,13 @@
+//! Tests of the reference against paper 01 and the sheet.
+#![allow(clippy::unusual_byte_groupings, clippy::identity_op)] // fields as the sheet groups them
+
+mod board;
+mod engines;
+mod marked;
+mod printed;
+mod random;
+mod refusals;
+mod rules;
+mod runs;
+mod slips;
+mod words;

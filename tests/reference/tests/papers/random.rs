@@ -1,0 +1,73 @@
+//! A small xorshift generator and random boards.
+
+use crate::board::Board;
+
+pub struct Random(u64);
+
+impl Random {
+    /// The seed must not be 0.
+    pub fn new(seed: u64) -> Random {
+        Random(seed)
+    }
+
+    pub fn next(&mut self) -> u64 {
+        self.0 ^= self.0 << 13;
+        self.0 ^= self.0 >> 7;
+        self.0 ^= self.0 << 17;
+        self.0
+    }
+
+    /// A number below the limit.
+    pub fn below(&mut self, limit: u64) -> u64 {
+        (self.next() >> 11) % limit
+    }
+
+    pub fn word(&mut self) -> u16 {
+        self.below(65_536) as u16
+    }
+
+    /// A register's content, edges more often than by chance.
+    pub fn value(&mut self) -> u16 {
+        const EDGES: [u16; 8] = [0, 1, 2, 0x7FFF, 0x8000, 0x8001, 0xFFFE, 0xFFFF];
+        match self.below(3) {
+            0 => EDGES[self.below(8) as usize],
+            1 => self.below(64) as u16,
+            _ => self.word(),
+        }
+    }
+
+    /// An instruction word, nearly always assigned.
+    pub fn instruction(&mut self) -> u16 {
+        if self.below(200) == 0 {
+            return self.word();
+        }
+        let w = (self.below(11) * 4_096 + self.below(4_096)) as u16;
+        match w / 4_096 {
+            1 => w - w % 8 + [0, 1, 3, 4, 5][self.below(5) as usize],
+            // Few jumps, or runs soon end in a short loop.
+            7 | 8 if self.below(2) == 0 => 0x2000 + w % 4_096,
+            _ => w,
+        }
+    }
+
+    pub fn board(&mut self) -> Board {
+        let mut board = Board::new();
+        for at in (0..board.p.len()).step_by(2) {
+            let w = self.instruction();
+            board.put(at as u16, w);
+        }
+        for byte in board.d.iter_mut() {
+            *byte = self.word() as u8;
+        }
+        for port in 0..256 {
+            board.i[port] = self.value();
+            board.o[port] = self.value();
+        }
+        for k in 0..8 {
+            board.s.r[k] = self.value();
+        }
+        board.s.pc = self.word() & 0xFFFE;
+        board.s.n = self.below(1 << 31) as u32;
+        board
+    }
+}
