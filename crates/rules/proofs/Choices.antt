@@ -2,6 +2,7 @@
 -- Assumes nothing.
 use mathlib.Core.Path.{_≡_, refl, sym, ap, ap₂, _∙_}
 use mathlib.Core.Bool.{Bool, true, false, Bool·beq, false≢true}
+use mathlib.Core.List.{List}
 use Prim.Native.Nat.{ℕ, _/_, _%_, _≤_, _<_}
 use native.Mathlib.Omega.{arith}
 use borrow.Author.Tests.{ltb-false}
@@ -10,9 +11,11 @@ use lib.ListN.{getD}
 use Rattle.word.specs.Fields.{opcode, e-of, f-of}
 use Rattle.word.specs.Word.{pick}
 use Rattle.word.proofs.Computed.{all, all-at}
+use Rattle.machine.specs.declared.State.{State}
 use Rattle.machine.specs.Machine.{Machine}
 use Rattle.machine.specs.Step.{Rule, Row, by-f, one, by-e, none, among, rows, Choice, rule, unassigned, inRow, choice, stepBy}
 use Rattle.machine.specs.Held.{isRule, stopIn}
+use Rattle.rules.specs.Parts.{Known}
 
 -- the rule of a row's words with this e
 abbrev pub ruleIn : Row → ℕ → Rule
@@ -38,7 +41,7 @@ ruled k w l e h =
     let o : opcode w ≡ k = omega arith in
     in-row (getD rows (opcode w) none) (e-of w) (f-of w) h ∙ ap (λ i. rule (ruleIn (getD rows i none) (e-of w))) o
 
--- ---- Which words are assigned
+-- ---- Which words are assigned: the code's test, and that the rows say the same, by one computed test
 
 abbrev pub assignedBy : ℕ → ℕ → Bool
 assignedBy op f =
@@ -62,19 +65,22 @@ unfolding choice agrees
 assigned-is w l =
     let o : opcode w ≡ w / 4096 = omega arith in
     let g : f-of w ≡ w % 8 = omega arith in
-    same _ _ (all-at 8 (agrees (e-of w) (opcode w)) (all-at 16 (λ op. all 8 (agrees (e-of w) op)) (test (e-of w)) (opcode w) (omega arith)) (f-of w) (omega arith))
-    ∙ ap₂ assignedBy o g
+    let row = all-at 16 (λ op. all 8 (agrees (e-of w) op)) (test (e-of w)) (opcode w) (omega arith) in
+    same _ _ (all-at 8 (agrees (e-of w) (opcode w)) row (f-of w) (omega arith)) ∙ ap₂ assignedBy o g
 
 not-first : (t u : Bool) → pick t false u ≡ true → t ≡ false
 not-first true u p = sym p
 not-first false u p = refl
 
--- past opcode 8 and not 10, an assigned word has opcode 9
-pub is-9 : (w : ℕ) → w < 65536 → isRule (choice w) ≡ true → (w / 4096 ≡ 10 → ⊥) → 9 ≤ w / 4096 → w / 4096 ≡ 9
-is-9 w l h n p = omega (arith, ltb-false 10 (w / 4096) (not-first _ _ (sym (assigned-is w l) ∙ h)))
+-- past opcode 8 and where no port is meant, an assigned word has opcode 9
+pub is-9 : {op w : ℕ} {s next : State} {D : List ℕ} → Known op w s next D → w < 65536 → 9 ≤ op → op ≡ 9
+is-9 {op} {w} known l p =
+    let t = ltb-false 10 (w / 4096) (not-first _ _ (sym (assigned-is w l) ∙ known .assigned)) in
+    omega arith
 
 -- ---- The test before a step
 
+-- the stop reason, by whether the word is assigned
 stop-by : (x : Choice) (w : ℕ) (m : Machine) (t : Bool) → stopIn (stepBy x w m) t ≡ pick (isRule x) (pick t 2 0) 1
 stop-by (rule r) w m t = refl
 stop-by unassigned w m t = refl

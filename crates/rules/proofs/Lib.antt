@@ -1,3 +1,3 @@
 pub mod Choices
 pub mod Effects
-pub mod Ports
+pub mod After

@@ -1,17 +1,28 @@
 -- What the private functions of a step promise. Nothing here is promised to a caller.
-use Prim.Native.Nat.{ℕ, _+_, _*_, _%_}
+use mathlib.Core.Path.{_≡_}
+use mathlib.Core.Bool.{true}
+use Prim.Native.Nat.{ℕ, _+_, _*_, _/_, _%_}
 use mathlib.Core.List.{List}
 use lib.Dec.{eqb}
-use lib.ListN.{getD}
+use lib.ListN.{length, getD}
 use Rattle.word.specs.Fields.{a-of, b-of, e-of, N6, N8}
 use Rattle.word.specs.Word.{pick, add, clear0, SE}
 use Rattle.machine.specs.declared.State.{State}
 use Rattle.machine.specs.Machine.{R, putR, putPC, count, wordAt}
-use Rattle.machine.specs.Step.{d8-6}
+use Rattle.machine.specs.Step.{d8-6, choice}
+use Rattle.machine.specs.Held.{isRule}
 
 -- PC becomes PC+2, n grows by 1
 abbrev pub onwardOf : State → State
 onwardOf s = putPC (add (s .pc) 2) (count s)
+
+-- what is known where the rule of an opcode other than 10 is done
+pub record Known (op w : ℕ) (s next : State) (D : List ℕ) : Type 0 where
+  pub opcode : w / 4096 ≡ op
+  pub no-port : op ≡ 10 → ⊥
+  pub assigned : isRule (choice w) ≡ true
+  pub onward : next ≡ onwardOf s
+  pub memory : length D ≡ 65536
 
 -- ---- What a rule writes, read from the state s before the step and the data D
 

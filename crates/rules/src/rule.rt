@@ -1,18 +1,15 @@
-// The rules of opcodes 0 to 9. They read the state before the step and write `next`, where PC+2 and the count are done.
+// The rules of opcodes 0 to 9: they read the state before the step and change `next`, where PC+2 and the count are done.
 ghost use mathlib.Core.Path.{_≡_};
-ghost use mathlib.Core.Bool.{true};
-ghost use Prim.Native.Nat.{_*_, _/_, _<_};
+ghost use Prim.Native.Nat.{_<_};
 ghost use lib.ListN.{length};
-ghost use Rattle.word.specs.Fields.{N8};
-ghost use Rattle.word.specs.Word.{add, SE};
 ghost use Rattle.machine.specs.Machine.{Machine, onState, putD};
 ghost use Rattle.machine.specs.Step.{choice, stepBy, to};
-ghost use Rattle.machine.specs.Held.{isRule};
-ghost use Rattle.rules.specs.Parts.{onwardOf, raOf, rbOf, sumOf, wordOf, byteOf, targetOf, branchOf, linkOf, moveOf};
+ghost use Rattle.rules.specs.Parts.{onwardOf, raOf, rbOf, sumOf, wordOf, byteOf, targetOf, branchOf, linkOf, moveOf, Known};
 use machine::Address;
 use machine::State;
 use machine::memory;
 
+// PC+2, and one step more.
 pub fn onward(state: State) -> State
     requires { ⌜ state .n < 4294967295 ⌝ }
     ensures { λ r. ⌜ r ≡ onwardOf state ⌝ }
@@ -20,7 +17,7 @@ pub fn onward(state: State) -> State
     state.counted().with_pc(word::sum(state.pc, 2))
 }
 
-fn ra(w: u16, state: State) -> u16
+pub fn ra(w: u16, state: State) -> u16
     ensures { λ r. ⌜ r ≡ raOf w state ⌝ }
 {
     state.register(w / 512)
@@ -39,6 +36,7 @@ fn sum(w: u16, state: State) -> u16
     word::sum(ra(w, state), word::extend6(w))
 }
 
+// LD's result.
 fn load_word(w: u16, state: State, memory: &[u8]) -> u16
     requires { ⌜ length (now memory) ≡ 65536 ⌝ }
     ensures { λ r. ⌜ r ≡ wordOf w state (now (memory .entry)) ⌝ }
@@ -46,6 +44,7 @@ fn load_word(w: u16, state: State, memory: &[u8]) -> u16
     memory::load_word(memory, Address(sum(w, state)))
 }
 
+// LDB's result.
 fn load_byte(w: u16, state: State, memory: &[u8]) -> u16
     requires { ⌜ length (now memory) ≡ 65536 ⌝ }
     ensures { λ r. ⌜ r ≡ byteOf w state (now (memory .entry)) ⌝ }
@@ -53,7 +52,7 @@ fn load_byte(w: u16, state: State, memory: &[u8]) -> u16
     word::extend8(memory::load_byte(memory, Address(sum(w, state))))
 }
 
-// JALR.
+// JALR. Ra is read before the link is written, so from the state before the step.
 fn link(w: u16, state: State, next: State) -> State
     ensures { λ r. ⌜ r ≡ linkOf w state next ⌝ }
 {
@@ -90,8 +89,8 @@ fn branch(w: u16, state: State, next: State) -> State
     }
 }
 
-// MOVI and MOVHI.
-fn byte_moved(w: u16, state: State) -> u16
+// The result of MOVI and MOVHI.
+fn moved(w: u16, state: State) -> u16
     ensures { λ r. ⌜ r ≡ moveOf w state ⌝ }
 {
     if w / 256 % 2 == 0 {
@@ -101,14 +100,11 @@ fn byte_moved(w: u16, state: State) -> u16
     }
 }
 
-pub fn ruled(w: u16, state: State, next: State, memory: &mut [u8]) -> State
-    requires { ⌜ isRule (choice w) ≡ true ⌝ }
-    requires { ⌜ (w / 4096 ≡ 10 → ⊥) ⌝ }
-    requires { ⌜ next ≡ onwardOf state ⌝ }
-    requires { ⌜ length (now memory) ≡ 65536 ⌝ }
+// The step of a word with opcode 0 to 9. (The opcode is handed on, so that the tests of it are compiled to one switch.)
+pub fn ruled(op: u16, w: u16, state: State, next: State, memory: &mut [u8]) -> State
+    requires { ⌜ Known op w state next (now memory) ⌝ }
     ensures { λ r. ⌜ ((m : Machine) → m .state ≡ state → m .D ≡ now (memory .entry) → stepBy (choice w) w m ≡ to (onState (λ s. r) (putD (now (memory .exit)) m))) ⌝ }
 {
-    let op = w / 4096;
     match op {
         0 => next.with_register(w / 8, word::operate(w % 8, ra(w, state), rb(w, state))),
         1 => next.with_register(w / 8, word::compare(w % 8, ra(w, state), rb(w, state))),
@@ -125,6 +121,6 @@ pub fn ruled(w: u16, state: State, next: State, memory: &mut [u8]) -> State
         },
         7 => link(w, state, next),
         8 => branch(w, state, next),
-        _ => next.with_register(w / 512, byte_moved(w, state)),
+        _ => next.with_register(w / 512, moved(w, state)),
     }
 }

@@ -13,15 +13,22 @@ returns c = λ m e. rw (stop-is _ m, sym (c .before .is-assigned .ensures) ∙ n
 
 returns-2 : tie.Need-returns-2
 returns-2 c =
-    λ m e. rw (stop-is _ m, sym (c .before .before .is-assigned .ensures) ∙ not-false _ (c .before .if1 .left), not-true (c .before .before .before .args .full) (c .if2 .taken), and-false)
+    let go = c .before in
+    let assigned = sym (go .before .is-assigned .ensures) ∙ not-false _ (go .if1 .left) in
+    λ m e. rw (stop-is _ m, assigned, not-true (go .before .before .args .full) (c .if2 .taken), and-false)
 
 returns-3 : tie.Need-returns-3
 returns-3 c =
-    λ m e. rw (stop-is _ m, sym (c .before .before .before .before .is-assigned .ensures) ∙ not-false _ (c .before .before .before .if1 .left), not-false (c .before .before .before .before .before .args .full) (c .before .before .if2 .left), sym (c .before .is-out .ensures) ∙ c .if3 .taken)
+    let go = c .before .before .before in
+    let assigned = sym (go .before .is-assigned .ensures) ∙ not-false _ (go .if1 .left) in
+    let full = not-false (go .before .before .args .full) (c .before .before .if2 .left) in
+    λ m e. rw (stop-is _ m, assigned, full, sym (c .before .is-out .ensures) ∙ c .if3 .taken)
 
 returns-4 : tie.Need-returns-4
 returns-4 c =
-    λ m e. rw (stop-is _ m, sym (c .before .before .before .before .is-assigned .ensures) ∙ not-false _ (c .before .before .before .if1 .left), sym (c .before .is-out .ensures) ∙ c .if3 .left)
+    let go = c .before .before .before in
+    let assigned = sym (go .before .is-assigned .ensures) ∙ not-false _ (go .if1 .left) in
+    λ m e. rw (stop-is _ m, assigned, sym (c .before .is-out .ensures) ∙ c .if3 .left)
 
 pub stop-before-spec : {M : Type 1} → statement M
 stop-before-spec =

@@ -1,13 +1,13 @@
--- `rules::rule::byte_moved` meets its contract: e chooses.
+-- `rules::rule::moved` meets its contract: e chooses.
 -- Assumes nothing.
 use native.Mathlib.Omega.{arith}
 use borrow.Author.Needs.{needs}
 use borrow.Author.Tests.{ne-eqb}
-use Rattle.rules.proofs.rule.byte_moved.Statement.{statement}
-use Rattle.rules.proofs.rule.byte_moved.Tie as tie
+use Rattle.rules.proofs.rule.moved.Statement.{statement}
+use Rattle.rules.proofs.rule.moved.Tie as tie
 
-pub byte-moved-spec : {M : Type 1} → statement M
-byte-moved-spec =
+pub moved-spec : {M : Type 1} → statement M
+moved-spec =
     tie.close
     (tie.spec
     (λ c κs. search needs)
