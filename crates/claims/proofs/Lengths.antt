@@ -10,7 +10,7 @@ use Rattle.word.specs.Word.{pick}
 use Rattle.machine.specs.Machine.{Machine}
 use Rattle.machine.specs.Step.{PC, to, step}
 use Rattle.machine.specs.Calls.{SetLeft, done, setLeft}
-use Rattle.machine.proofs.Shift.{step-keeps, run-keeps}
+use Rattle.claims.proofs.Shift.{step-keeps, run-keeps}
 use Rattle.machine.proofs.Steps.{even}
 use Rattle.engine.specs.Runs.{Left, Verdict, accepted, refused as turned-away, verdict, verdictOn, leftBy, runLeft}
 use Rattle.claims.specs.Session.{Call, Reply, ran, Host, Lent, givenTo, afterRun, afterSet, Does, a-run, a-setting, Calls, none, more, outcome, machineOn, Only6, All, nil, cons}

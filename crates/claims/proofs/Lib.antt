@@ -13,6 +13,7 @@ pub mod Refusals
 pub mod Rules
 pub mod Runs
 pub mod Session
+pub mod Shift
 pub mod Steps
 pub mod Together
 pub mod Unassigned

@@ -13,7 +13,7 @@ use Rattle.word.specs.Word.{pick}
 use Rattle.machine.specs.Machine.{Machine, putI}
 use Rattle.machine.specs.Run.{Outcome, runFrom}
 use Rattle.machine.specs.Calls.{SetLeft, done, refused, setLeft}
-use Rattle.machine.proofs.Shift.{shift, shiftOutcome, run-shift, step-keeps, run-keeps}
+use Rattle.claims.proofs.Shift.{shift, shiftOutcome, run-shift, step-keeps, run-keeps}
 use Rattle.engine.specs.Runs.{Given, Left, stopped, Verdict, accepted, refused as turned-away, verdictOn, leftOf, leftBy, runLeft}
 use Rattle.claims.specs.Session.{Engine, by-rules, by-table, Lent, Call, runs, sets, Reply, ran, set as a-set, Host, givenTo, afterRun, afterSet, Promise, Does, a-run, a-setting, Calls, none, more, wrote, joined, outcome, runBy, machineCall, machineCalls, saidBy, machineSays, machineReplies, machineOn}
 

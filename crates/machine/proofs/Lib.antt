@@ -3,4 +3,3 @@ pub mod Registers
 pub mod Runs
 pub mod Steps
 pub mod Rows
-pub mod Shift
