@@ -42,8 +42,8 @@ pub fn load_byte(bytes: &[u8], address: Address) -> u16
     requires { ⌜ length (now bytes) ≡ 65536 ⌝ }
     ensures { λ v. ⌜ v ≡ getD (now (bytes .entry)) (address .0) 0 ⌝ }
 {
-    let at = address.0 as usize;
-    wide(bytes[at])
+    let from = address.0 as usize;
+    wide(bytes[from])
 }
 
 pub fn load_word(bytes: &[u8], address: Address) -> u16
@@ -60,8 +60,8 @@ pub fn store_byte(bytes: &mut [u8], address: Address, v: u16)
     requires { ⌜ length (now bytes) ≡ 65536 ⌝ }
     ensures { λ _. ⌜ now (bytes .exit) ≡ putByte (address .0) v (now (bytes .entry)) ⌝ }
 {
-    let at = address.0 as usize;
-    bytes[at] = (v % 256) as u8;
+    let to = address.0 as usize;
+    bytes[to] = (v % 256) as u8;
 }
 
 pub fn store_word(bytes: &mut [u8], address: Address, v: u16)
@@ -77,16 +77,16 @@ pub fn read_port(ports: &[u16], port: Port) -> u16
     requires { ⌜ length (now ports) ≡ 256 ⌝ }
     ensures { λ v. ⌜ v ≡ getD (now (ports .entry)) (port .0) 0 ⌝ }
 {
-    let at = port.0 as usize;
-    ports[at]
+    let from = port.0 as usize;
+    ports[from]
 }
 
 pub fn write_port(ports: &mut [u16], port: Port, v: u16)
     requires { ⌜ length (now ports) ≡ 256 ⌝ }
     ensures { λ _. ⌜ now (ports .exit) ≡ set (now (ports .entry)) (port .0) v ⌝ }
 {
-    let at = port.0 as usize;
-    ports[at] = v;
+    let to = port.0 as usize;
+    ports[to] = v;
 }
 
 // The log entry of a port write: n before the step, the port, the value.
