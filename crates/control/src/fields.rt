@@ -12,7 +12,6 @@ ghost use Rattle.control.specs.Control.{second, unit, result, next, stor
 use machine::Address;
 use machine::Port;
 use machine::State;
-use machine::memory;
 
 // Bits 9..8.
 pub fn second_operand(control: u16, w: u16, y: u16) -> u16
@@ -47,10 +46,10 @@ pub fn chosen_result(control: u16, w: u16, u: u16, pc: u16, memory: &[u8], input
 {
     match control / 4 % 8 {
         0 => u,
-        1 => memory::load_word(memory, Address(u)),
-        2 => word::extend8(memory::load_byte(memory, Address(u))),
+        1 => bus::load_word(memory, Address(u)),
+        2 => word::extend8(bus::load_byte(memory, Address(u))),
         3 => word::sum(pc, 2),
-        4 => memory::read_port(inputs, Port((w % 256) as u8)),
+        4 => bus::read_port(inputs, Port((w % 256) as u8)),
         _ => 0,
     }
 }
@@ -91,9 +90,9 @@ pub fn store_data(control: u16, y: u16, u: u16, memory: &mut [u8])
 {
     let k = control / 1024 % 4;
     if k == 1 {
-        memory::store_word(memory, Address(u), y);
+        bus::store_word(memory, Address(u), y);
     } else if k == 2 {
-        memory::store_byte(memory, Address(u), y);
+        bus::store_byte(memory, Address(u), y);
     }
 }
 
@@ -122,8 +121,8 @@ pub fn store_port(
         return entries;
     }
     let port = Port((w % 256) as u8);
-    memory::write_port(outputs, port, x);
-    log[entries] = memory::entry_of(n, port, x);
+    bus::write_port(outputs, port, x);
+    log[entries] = bus::entry_of(n, port, x);
     entries + 1
 }
 

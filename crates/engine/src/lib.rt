@@ -97,7 +97,7 @@ fn run_accepted(
     let mut steps: u32 = 0;
     let mut entries: usize = 0;
     while steps < budget {
-        let w = machine::memory::load_word(program, Address(state.pc));
+        let w = bus::load_word(program, Address(state.pc));
         let full = log.len() <= entries;
         let stop = stop_before(by_table, w, state, full);
         if stop != 0 {
@@ -136,7 +136,7 @@ fn checked(
 ) -> Check
     ensures { λ r. ⌜ shownVerdict r ≡ verdict (state .pc) (state .n) (now (program .entry)) (now (memory .entry)) (now (inputs .entry)) (now (outputs .entry)) budget ⌝ }
 {
-    if !machine::memory::lengths_fit(program, memory, inputs, outputs) {
+    if !bus::lengths_fit(program, memory, inputs, outputs) {
         return Check::Refused(Refusal::LentLength);
     }
     if state.pc % 2 != 0 {

@@ -5,8 +5,8 @@ ghost use Prim.Native.Nat.{_+_, _-_, _<_, _≤_};
 ghost use lib.ListN.{length, take, drop, replicate};
 ghost use Rattle.image.specs.Parts.{programPart, dataPart, ReadAs};
 ghost use Rattle.image.specs.Image.{number32, partsFit, inside, partsInside, LoadLeft, accepted, loadReply, leftBy, loadLeft, shownLoading};
+use bus::lengths_fit;
 use machine::State;
-use machine::memory::lengths_fit;
 use refusal::Refusal;
 
 pub enum Loading {

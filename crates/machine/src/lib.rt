@@ -8,8 +8,6 @@ ghost use Rattle.machine.specs.Machine.{reset, R, putR, putPC, count};
 ghost use Rattle.machine.specs.Calls.{SetLeft, setLeft, shownSetting, partOf, windowOf};
 use refusal::Refusal;
 
-pub mod memory;
-
 // R0 to R7, PC, and n, the count of steps done.
 #[repr(C)]
 pub struct State {

@@ -8,7 +8,6 @@ ghost use Rattle.machine.specs.Held.{Held, Ready, Becomes, isRule, stopIn, mach
 use machine::Port;
 use machine::State;
 use machine::Stepped;
-use machine::memory;
 
 mod rule;
 mod tests;
@@ -45,12 +44,12 @@ pub fn step(
     if op == 10 {
         let port = Port((w % 256) as u8);
         if w / 256 % 2 == 0 {
-            let state = next.with_register(w / 512, memory::read_port(inputs, port));
+            let state = next.with_register(w / 512, bus::read_port(inputs, port));
             Stepped { state, entries }
         } else {
             let x = rule::ra(w, state);
-            memory::write_port(outputs, port, x);
-            log[entries] = memory::entry_of(state.n, port, x);
+            bus::write_port(outputs, port, x);
+            log[entries] = bus::entry_of(state.n, port, x);
             Stepped {
                 state: next,
                 entries: entries + 1,

@@ -7,7 +7,6 @@ ghost use Rattle.machine.specs.Step.{choice, stepBy, to};
 ghost use Rattle.rules.specs.Parts.{onwardOf, raOf, rbOf, sumOf, wordOf, byteOf, targetOf, branchOf, linkOf, moveOf, Known};
 use machine::Address;
 use machine::State;
-use machine::memory;
 
 // PC+2, and one step more.
 pub fn onward(state: State) -> State
@@ -41,7 +40,7 @@ fn load_word(w: u16, state: State, memory: &[u8]) -> u16
     requires { ⌜ length (now memory) ≡ 65536 ⌝ }
     ensures { λ r. ⌜ r ≡ wordOf w state (now (memory .entry)) ⌝ }
 {
-    memory::load_word(memory, Address(sum(w, state)))
+    bus::load_word(memory, Address(sum(w, state)))
 }
 
 // LDB's result.
@@ -49,7 +48,7 @@ fn load_byte(w: u16, state: State, memory: &[u8]) -> u16
     requires { ⌜ length (now memory) ≡ 65536 ⌝ }
     ensures { λ r. ⌜ r ≡ byteOf w state (now (memory .entry)) ⌝ }
 {
-    word::extend8(memory::load_byte(memory, Address(sum(w, state))))
+    word::extend8(bus::load_byte(memory, Address(sum(w, state))))
 }
 
 // JALR. Ra is read before the link is written, so from the state before the step.
@@ -111,12 +110,12 @@ pub fn ruled(op: u16, w: u16, state: State, next: State, memory: &mut [u8]) -> S
         2 => next.with_register(w / 64, sum(w, state)),
         3 => next.with_register(w / 64, load_word(w, state, memory)),
         4 => {
-            memory::store_word(memory, Address(sum(w, state)), rb(w, state));
+            bus::store_word(memory, Address(sum(w, state)), rb(w, state));
             next
         },
         5 => next.with_register(w / 64, load_byte(w, state, memory)),
         6 => {
-            memory::store_byte(memory, Address(sum(w, state)), rb(w, state));
+            bus::store_byte(memory, Address(sum(w, state)), rb(w, state));
             next
         },
         7 => link(w, state, next),

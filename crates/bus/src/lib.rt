@@ -3,11 +3,11 @@ ghost use mathlib.Core.Path.{_≡_};
 ghost use Prim.Native.Nat.{_+_, _*_, _<_};
 ghost use lib.ListN.{length, getD, set};
 ghost use Rattle.word.specs.Word.{clear0};
 ghost use Rattle.machine.specs.Calls.{lengthsFit};
 ghost use Rattle.machine.specs.Machine.{wordAt, putWord, putByte};
-use crate::Address;
-use crate::Port;
-use crate::State;
+use machine::Address;
+use machine::Port;
+use machine::State;
 
 // The memories and ports have the lengths of refusal 1.
 pub fn lengths_fit(program: &[u8], memory: &[u8], inputs: &[u16], outputs: &[u16]) -> bool

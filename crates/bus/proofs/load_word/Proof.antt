@@ -7,9 +7,9 @@ use native.Mathlib.Omega.{arith}
 use borrow.Author.Needs.{needs}
 use lib.ListN.{getD}
 use Rattle.word.specs.Word.{add, clear0}
 use Rattle.machine.specs.Machine.{wordAt}
-use Rattle.machine.proofs.memory.load_word.Statement.{statement}
-use Rattle.machine.proofs.memory.load_word.Tie as tie
+use Rattle.bus.proofs.load_word.Statement.{statement}
+use Rattle.bus.proofs.load_word.Tie as tie
 
 is-word : (M : List ℕ) (x at low high : ℕ) → x < 65536 → at ≡ clear0 x → low ≡ getD M at 0 → high ≡ getD M (at + 1) 0 → low + 256 * high ≡ wordAt M (clear0 x)
 is-word M x at low high h e p q =

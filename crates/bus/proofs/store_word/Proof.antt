@@ -5,9 +5,9 @@ use Prim.Native.Nat.{ℕ}
 use native.Mathlib.Omega.{arith}
 use borrow.Author.Needs.{needs}
 use lib.ListN.{length-set}
 use Rattle.machine.specs.Machine.{putWord}
-use Rattle.machine.proofs.memory.store_word.Statement.{statement}
-use Rattle.machine.proofs.memory.store_word.Tie as tie
+use Rattle.bus.proofs.store_word.Statement.{statement}
+use Rattle.bus.proofs.store_word.Tie as tie
 
 slice-write-bytes-2 : tie.Need-slice-write-bytes-2
 slice-write-bytes-2 c = simp length-set (omega arith)

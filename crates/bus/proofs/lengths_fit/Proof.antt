@@ -1,8 +1,8 @@
 -- Test after test.
 -- Assumes nothing.
 use borrow.Author.Tests.{eq-eqb, ne-eqb}
-use Rattle.machine.proofs.memory.lengths_fit.Statement.{statement}
-use Rattle.machine.proofs.memory.lengths_fit.Tie as tie
+use Rattle.bus.proofs.lengths_fit.Statement.{statement}
+use Rattle.bus.proofs.lengths_fit.Tie as tie
 
 returns : tie.Need-returns
 returns c = rw (ne-eqb _ _ (c .if1 .taken))
