@@ -1,14 +1,13 @@
-//! A second engine, by the control table.
+//! The step by the control table.
 //!
 //! "Except by f in units 0 and 1, the table engine learns only from this word
 //! what to do."
 
 use crate::machine::{
     branch_target, comparison, data_word, e, f, log_entry, opcode, operation, store_data_word,
-    word, Places, State, Stepped,
+    Places, State, Stepped,
 };
 use crate::number::{bit_0_cleared, bits, modulo16, sign_extend, unsigned};
-use crate::run::{admit, Reply};
 
 /// "32 words, at opcode times 2 plus e."
 pub const TABLE: [u16; 32] = [
@@ -71,47 +70,88 @@ fn unit_result(c: u16, w: u16, first: u16, second: u16) -> u16 {
     }
 }
 
+/// What a step has read before it writes.
+struct Read {
+    ra: u16,
+    rb: u16,
+    unit: u16,
+    port: u8,
+    pc_plus_2: u16,
+}
+
+impl Read {
+    fn of(c: u16, w: u16, state: &State) -> Read {
+        // "First operand: Ra."
+        let ra = state.r[bits(w, 11, 9) as usize];
+        let rb = state.r[bits(w, 8, 6) as usize];
+        Read {
+            ra,
+            rb,
+            unit: unit_result(c, w, ra, second_operand(c, w, rb)),
+            // "N8 is the port."
+            port: bits(w, 7, 0) as u8,
+            pc_plus_2: modulo16(i64::from(state.pc) + 2),
+        }
+    }
+}
+
+/// "Bits 4..2 result: 0 unit, 1 word read, 2 SE of the byte read, 3 PC+2,
+/// 4 input." 5 to 7 are in none of the 32 words; here they give 0.
+/// "The unit's result is the data address, with bit 0 cleared for a word".
+fn result(c: u16, x: &Read, places: &Places) -> u16 {
+    match bits(c, 4, 2) {
+        0 => x.unit,
+        1 => data_word(places.d, bit_0_cleared(x.unit)),
+        2 => {
+            let byte = i64::from(places.d[usize::from(x.unit)]);
+            modulo16(sign_extend(byte, 8))
+        }
+        3 => x.pc_plus_2,
+        4 => places.i[usize::from(x.port)],
+        _ => 0,
+    }
+}
+
+/// "Bits 11..10 store: 0 none, 1 word Rb, 2 byte Rb, 3 port from Ra."
+/// Gives the entry that L gains, if any.
+fn store(c: u16, x: &Read, n: u32, places: &mut Places) -> Option<u64> {
+    match bits(c, 11, 10) {
+        1 => store_data_word(places.d, bit_0_cleared(x.unit), x.rb),
+        2 => places.d[usize::from(x.unit)] = (x.rb % 256) as u8,
+        3 => {
+            places.o[usize::from(x.port)] = x.ra;
+            return Some(log_entry(n, x.port, x.ra));
+        }
+        _ => {}
+    }
+    None
+}
+
+/// "Bits 13..12 next: 0 PC+2, 1 branch if Ra is zero, 2 if not (both as
+/// rule 8), 3 jump to Ra with bit 0 cleared."
+fn next(c: u16, w: u16, x: &Read, pc: u16) -> u16 {
+    match bits(c, 13, 12) {
+        1 if x.ra == 0 => branch_target(pc, w),
+        2 if x.ra != 0 => branch_target(pc, w),
+        3 => bit_0_cleared(x.ra),
+        _ => x.pc_plus_2,
+    }
+}
+
 /// One step, with the control word as an argument; None if unassigned.
 pub fn step(c: u16, w: u16, state: State, places: &mut Places) -> Option<Stepped> {
     if !assigned(c, w) {
         return None;
     }
-    // "First operand: Ra. Registers are read before any is written."
-    let ra = state.r[bits(w, 11, 9) as usize];
-    let rb = state.r[bits(w, 8, 6) as usize];
-    let of_unit = unit_result(c, w, ra, second_operand(c, w, rb));
-    // "The unit's result is the data address, with bit 0 cleared for a word;
-    // N8 is the port."
-    let address = usize::from(of_unit);
-    let even = bit_0_cleared(of_unit);
-    let port = bits(w, 7, 0) as u8;
-    let pc_plus_2 = modulo16(i64::from(state.pc) + 2);
-
-    // "Bits 4..2 result: 0 unit, 1 word read, 2 SE of the byte read, 3 PC+2,
-    // 4 input." 5 to 7 are in none of the 32 words; here they give 0.
-    let result = match bits(c, 4, 2) {
-        0 => of_unit,
-        1 => data_word(places.d, even),
-        2 => modulo16(sign_extend(i64::from(places.d[address]), 8)),
-        3 => pc_plus_2,
-        4 => places.i[usize::from(port)],
-        _ => 0,
+    // "Registers are read before any is written."
+    let x = Read::of(c, w, &state);
+    let result = result(c, &x, places);
+    let entry = store(c, &x, state.n, places);
+    let mut after = State {
+        n: state.n.wrapping_add(1),
+        pc: next(c, w, &x, state.pc),
+        ..state
     };
-
-    // "Bits 11..10 store: 0 none, 1 word Rb, 2 byte Rb, 3 port from Ra."
-    let mut entry = None;
-    match bits(c, 11, 10) {
-        1 => store_data_word(places.d, even, rb),
-        2 => places.d[address] = (rb % 256) as u8,
-        3 => {
-            places.o[usize::from(port)] = ra;
-            entry = Some(log_entry(state.n, port, ra));
-        }
-        _ => {}
-    }
-
-    let mut after = state;
-    after.n = state.n.wrapping_add(1);
     // "Bits 1..0 destination: 0 none, 1 bits 5..3, 2 bits 8..6, 3 bits 11..9."
     match bits(c, 1, 0) {
         1 => after.r[bits(w, 5, 3) as usize] = result,
@@ -119,79 +159,8 @@ pub fn step(c: u16, w: u16, state: State, places: &mut Places) -> Option<Stepped
         3 => after.r[bits(w, 11, 9) as usize] = result,
         _ => {}
     }
-    // "Bits 13..12 next: 0 PC+2, 1 branch if Ra is zero, 2 if not (both as
-    // rule 8), 3 jump to Ra with bit 0 cleared."
-    after.pc = match bits(c, 13, 12) {
-        1 if ra == 0 => branch_target(state.pc, w),
-        2 if ra != 0 => branch_target(state.pc, w),
-        3 => bit_0_cleared(ra),
-        _ => pc_plus_2,
-    };
     Some(Stepped {
         state: after,
         entry,
     })
-}
-
-/// A run by the table: the same refusals, order of tests and reply as
-/// `run::run`.
-pub fn run(
-    state: State,
-    p: &[u8],
-    d: &mut [u8],
-    i: &[u16],
-    o: &mut [u16],
-    budget: u32,
-    log: &mut [u64],
-) -> Reply {
-    let mut places = match admit(state, p, d, i, o, budget) {
-        Ok(places) => places,
-        Err(number) => return Reply::Refused { state, number },
-    };
-    let mut state = state;
-    let mut steps: u32 = 0;
-    let mut entries: u32 = 0;
-    let stop = loop {
-        if steps == budget {
-            break 0;
-        }
-        let w = word(places.p, state.pc);
-        let c = control_word(w);
-        if !assigned(c, w) {
-            break 1;
-        }
-        if writes_port(c) && entries as usize >= log.len() {
-            break 2;
-        }
-        let Some(stepped) = step(c, w, state, &mut places) else {
-            break 1;
-        };
-        if let Some(entry) = stepped.entry {
-            log[entries as usize] = entry;
-            entries += 1;
-        }
-        state = stepped.state;
-        steps += 1;
-    };
-    Reply::Done {
-        state,
-        stop,
-        steps,
-        entries,
-    }
-}
-
-/// "A host step is a run by the table with budget 1 over registers that the
-/// host holds."
-pub fn host_step(
-    held: &mut State,
-    p: &[u8],
-    d: &mut [u8],
-    i: &[u16],
-    o: &mut [u16],
-    log: &mut [u64],
-) -> Reply {
-    let reply = run(*held, p, d, i, o, 1, log);
-    *held = reply.state();
-    reply
 }

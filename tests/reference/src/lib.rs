@@ -4,6 +4,7 @@
 //! Sentences in quotation marks are paper 01's unless "sheet" is said.
 #![forbid(unsafe_code)]
 
+pub mod conformance;
 pub mod control;
 pub mod instruction;
 pub mod load;

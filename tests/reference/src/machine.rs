@@ -165,91 +165,137 @@ pub fn branch_target(pc: u16, w: u16) -> u16 {
     modulo16(i64::from(pc) + 2 + 2 * n8)
 }
 
+/// The fields of w, and the registers that a and b name.
+struct Fields {
+    ra: u16,
+    rb: u16,
+    d_5_3: usize,
+    d_8_6: usize,
+    d_11_9: usize,
+    se_n6: i64,
+    n8: u8,
+    se_n8: i64,
+}
+
+impl Fields {
+    fn of(w: u16, state: &State) -> Fields {
+        Fields {
+            // "a = bits 11..9, b = 8..6"
+            ra: state.r[bits(w, 11, 9) as usize],
+            rb: state.r[bits(w, 8, 6) as usize],
+            // "The destination d is 5..3 for opcodes 0 and 1, 8..6 for 2, 3,
+            // 5, 7, and 11..9 for 9 and IN."
+            d_5_3: bits(w, 5, 3) as usize,
+            d_8_6: bits(w, 8, 6) as usize,
+            d_11_9: bits(w, 11, 9) as usize,
+            // "N6 and N8 are the low 6 and 8 bits, SE is sign extension to 16
+            // bits."
+            se_n6: sign_extend(bits(w, 5, 0), 6),
+            n8: bits(w, 7, 0) as u8,
+            se_n8: sign_extend(bits(w, 7, 0), 8),
+        }
+    }
+}
+
 /// One step, or None: "If w is unassigned, no step is possible."
 pub fn step(state: State, places: &mut Places) -> Option<Stepped> {
     let w = word(places.p, state.pc);
     if !assigned(w) {
         return None;
     }
-
-    // "a = bits 11..9, b = 8..6"
-    let ra = state.r[bits(w, 11, 9) as usize];
-    let rb = state.r[bits(w, 8, 6) as usize];
-    // "The destination d is 5..3 for opcodes 0 and 1, 8..6 for 2, 3, 5, 7,
-    // and 11..9 for 9 and IN."
-    let d_5_3 = bits(w, 5, 3) as usize;
-    let d_8_6 = bits(w, 8, 6) as usize;
-    let d_11_9 = bits(w, 11, 9) as usize;
-    // "N6 and N8 are the low 6 and 8 bits, SE is sign extension to 16 bits."
-    let se_n6 = sign_extend(bits(w, 5, 0), 6);
-    let n8 = bits(w, 7, 0) as u8;
-    let se_n8 = sign_extend(bits(w, 7, 0), 8);
-    // "A is Ra+SE(N6); A' is A with bit 0 cleared."
-    let address = modulo16(unsigned(ra) + se_n6);
-    let even = bit_0_cleared(address);
-
-    let pc_plus_2 = modulo16(i64::from(state.pc) + 2);
-    let mut after = state;
+    let x = Fields::of(w, &state);
+    // "Otherwise the rule below is done and n grows by 1. Where the rule
+    // doesn't name PC, PC becomes PC+2."
+    let mut after = State {
+        n: state.n.wrapping_add(1),
+        pc: modulo16(i64::from(state.pc) + 2),
+        ..state
+    };
     let mut entry = None;
-    // "Otherwise the rule below is done and n grows by 1."
-    after.n = state.n.wrapping_add(1);
-    // "Where the rule doesn't name PC, PC becomes PC+2."
-    after.pc = pc_plus_2;
-
-    match (opcode(w), e(w)) {
-        // "0 | f = 0..7: AND, OR, XOR, NOT (of Ra), ADD, SUB, SHA, SHL"
-        (0, _) => after.r[d_5_3] = operation(f(w), ra, rb),
-        // "1 | Rd is 1 or 0; f = 0 CMPLT, 1 CMPLE (signed), 3 CMPEQ,
-        // 4 CMPLTU, 5 CMPLEU (unsigned); f = 2, 6, 7 unassigned"
-        (1, _) => after.r[d_5_3] = comparison(f(w), ra, rb)?,
-        // "2 ADDI | Rd = Ra+SE(N6)"
-        (2, _) => after.r[d_8_6] = modulo16(unsigned(ra) + se_n6),
-        // "3 LD | Rd = D[A'] + 256 times D[A'+1]"
-        (3, _) => after.r[d_8_6] = data_word(places.d, even),
-        // "4 ST | the word at A' becomes Rb, low byte first"
-        (4, _) => store_data_word(places.d, even, rb),
-        // "5 LDB | Rd = SE(D[A])"
-        (5, _) => {
-            let byte = places.d[usize::from(address)];
-            after.r[d_8_6] = modulo16(sign_extend(i64::from(byte), 8));
-        }
-        // "6 STB | D[A] = low byte of Rb"
-        (6, _) => places.d[usize::from(address)] = (rb % 256) as u8,
-        // "7 JALR | target = Ra with bit 0 cleared, read first; Rd = PC+2;
-        // PC = target; bits 5..0 ignored"
-        (7, _) => {
-            let target = bit_0_cleared(ra);
-            after.r[d_8_6] = pc_plus_2;
-            after.pc = target;
-        }
-        // "8 | e=0 BZ: if Ra is zero, PC = PC+2+2·SE(N8)"
-        (8, 0) => {
-            if ra == 0 {
-                after.pc = branch_target(state.pc, w);
-            }
-        }
-        // "8 | e=1 BNZ: if Ra is (not zero), PC = PC+2+2·SE(N8)"
-        (8, _) => {
-            if ra != 0 {
-                after.pc = branch_target(state.pc, w);
-            }
-        }
-        // "9 | e=0 MOVI: Rd = SE(N8)"
-        (9, 0) => after.r[d_11_9] = modulo16(se_n8),
-        // "9 | e=1 MOVHI: high byte of Rd = N8"
-        (9, _) => after.r[d_11_9] = 256 * u16::from(n8) + state.r[d_11_9] % 256,
-        // "10 | e=0 IN: Rd = I[N8]"; "IN changes no input."
-        (10, 0) => after.r[d_11_9] = places.i[usize::from(n8)],
-        // "10 | e=1 OUT: O[N8] = Ra, and L gains an entry"
-        (10, _) => {
-            places.o[usize::from(n8)] = ra;
-            entry = Some(log_entry(state.n, n8, ra));
-        }
-        // "11 to 15 | unassigned"
-        _ => return None,
+    match opcode(w) {
+        0..=2 => calculate(w, &x, &mut after)?,
+        3..=6 => access_memory(w, &x, places.d, &mut after),
+        7 | 8 => break_sequence(w, &x, state.pc, &mut after),
+        9 => move_immediate(w, &x, &mut after),
+        _ => entry = access_port(w, &x, state.n, places, &mut after),
     }
     Some(Stepped {
         state: after,
         entry,
     })
+}
+
+/// Opcodes 0 to 2.
+fn calculate(w: u16, x: &Fields, after: &mut State) -> Option<()> {
+    match opcode(w) {
+        // "0 | f = 0..7: AND, OR, XOR, NOT (of Ra), ADD, SUB, SHA, SHL"
+        0 => after.r[x.d_5_3] = operation(f(w), x.ra, x.rb),
+        // "1 | Rd is 1 or 0; f = 0 CMPLT, 1 CMPLE (signed), 3 CMPEQ,
+        // 4 CMPLTU, 5 CMPLEU (unsigned); f = 2, 6, 7 unassigned"
+        1 => after.r[x.d_5_3] = comparison(f(w), x.ra, x.rb)?,
+        // "2 ADDI | Rd = Ra+SE(N6)"
+        _ => after.r[x.d_8_6] = modulo16(unsigned(x.ra) + x.se_n6),
+    }
+    Some(())
+}
+
+/// Opcodes 3 to 6.
+fn access_memory(w: u16, x: &Fields, d: &mut [u8; MEMORY], after: &mut State) {
+    // "A is Ra+SE(N6); A' is A with bit 0 cleared."
+    let address = modulo16(unsigned(x.ra) + x.se_n6);
+    let even = bit_0_cleared(address);
+    match opcode(w) {
+        // "3 LD | Rd = D[A'] + 256 times D[A'+1]"
+        3 => after.r[x.d_8_6] = data_word(d, even),
+        // "4 ST | the word at A' becomes Rb, low byte first"
+        4 => store_data_word(d, even, x.rb),
+        // "5 LDB | Rd = SE(D[A])"
+        5 => {
+            let byte = i64::from(d[usize::from(address)]);
+            after.r[x.d_8_6] = modulo16(sign_extend(byte, 8));
+        }
+        // "6 STB | D[A] = low byte of Rb"
+        _ => d[usize::from(address)] = (x.rb % 256) as u8,
+    }
+}
+
+/// Opcodes 7 and 8.
+fn break_sequence(w: u16, x: &Fields, pc: u16, after: &mut State) {
+    match (opcode(w), e(w)) {
+        // "7 JALR | target = Ra with bit 0 cleared, read first; Rd = PC+2;
+        // PC = target; bits 5..0 ignored"
+        (7, _) => {
+            let target = bit_0_cleared(x.ra);
+            after.r[x.d_8_6] = modulo16(i64::from(pc) + 2);
+            after.pc = target;
+        }
+        // "8 | e=0 BZ, e=1 BNZ: if Ra is zero (not zero), PC =
+        // PC+2+2·SE(N8)"
+        (_, 0) if x.ra == 0 => after.pc = branch_target(pc, w),
+        (_, 1) if x.ra != 0 => after.pc = branch_target(pc, w),
+        _ => {}
+    }
+}
+
+/// Opcode 9.
+fn move_immediate(w: u16, x: &Fields, after: &mut State) {
+    let rd = &mut after.r[x.d_11_9];
+    *rd = match e(w) {
+        // "e=0 MOVI: Rd = SE(N8)"
+        0 => modulo16(x.se_n8),
+        // "e=1 MOVHI: high byte of Rd = N8"
+        _ => 256 * u16::from(x.n8) + *rd % 256,
+    };
+}
+
+/// Opcode 10: the entry that L gains, if any.
+fn access_port(w: u16, x: &Fields, n: u32, places: &mut Places, after: &mut State) -> Option<u64> {
+    if e(w) == 0 {
+        // "e=0 IN: Rd = I[N8]"; "IN changes no input."
+        after.r[x.d_11_9] = places.i[usize::from(x.n8)];
+        return None;
+    }
+    // "e=1 OUT: O[N8] = Ra, and L gains an entry"
+    places.o[usize::from(x.n8)] = x.ra;
+    Some(log_entry(n, x.n8, x.ra))
 }

@@ -2,7 +2,7 @@
 
 use crate::load::load;
 use crate::machine::{State, MEMORY, PORTS};
-use crate::run::{run, Reply};
+use crate::run::{run, Engine, Reply};
 
 /// The lines for a file's bytes, without line ends.
 pub fn lines(file: &[u8]) -> Vec<String> {
@@ -28,10 +28,11 @@ fn outcome(file: &[u8]) -> Result<Vec<String>, u8> {
     let mut d = vec![0; MEMORY];
     let mut i = vec![0; PORTS];
     let mut o = vec![0; PORTS];
-    // "inputs zero, budget 1,000 and a 64-place log"
     let mut log = [0; 64];
     let state = load(file, &mut p, &mut d, &mut i, &mut o)?;
-    match run(state, &p, &mut d, &i, &mut o, 1_000, &mut log) {
+    // "runs the table engine with inputs zero, budget 1,000 and a 64-place log"
+    let table = Engine::Table;
+    match run(table, state, &p, &mut d, &i, &mut o, 1_000, &mut log) {
         Reply::Refused { number, .. } => Err(number),
         Reply::Done {
             state,

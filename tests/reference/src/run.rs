@@ -1,6 +1,44 @@
-//! A run by the rules.
+//! A run, by the rules or by the control table, and the host step.
 
-use crate::machine::{assigned, is_out, step, word, Places, State};
+use crate::control;
+use crate::machine::{self, word, Places, State, Stepped};
+
+/// What decides a step: "one engine from the rules, one from the control
+/// table".
+#[derive(Clone, Copy, Debug, PartialEq, Eq)]
+pub enum Engine {
+    Rules,
+    Table,
+}
+
+impl Engine {
+    /// Whether a step is possible on the word.
+    fn assigned(self, w: u16) -> bool {
+        match self {
+            Engine::Rules => machine::assigned(w),
+            Engine::Table => control::assigned(control::control_word(w), w),
+        }
+    }
+
+    /// Whether the word is OUT.
+    fn is_out(self, w: u16) -> bool {
+        match self {
+            Engine::Rules => machine::is_out(w),
+            Engine::Table => control::writes_port(control::control_word(w)),
+        }
+    }
+
+    /// One step; None if the word at PC is unassigned.
+    pub fn step(self, state: State, places: &mut Places) -> Option<Stepped> {
+        match self {
+            Engine::Rules => machine::step(state, places),
+            Engine::Table => {
+                let w = word(places.p, state.pc);
+                control::step(control::control_word(w), w, state, places)
+            }
+        }
+    }
+}
 
 /// What a run replies.
 #[derive(Clone, Copy, Debug, PartialEq, Eq)]
@@ -27,7 +65,7 @@ impl Reply {
 }
 
 /// The tests of the refusal table, "run 1, 5, 6": the places, or the number.
-pub fn admit<'a>(
+fn admit<'a>(
     state: State,
     p: &'a [u8],
     d: &'a mut [u8],
@@ -52,7 +90,9 @@ pub fn admit<'a>(
 
 /// "A run gets a state, the memories and ports, a 32-bit budget and a log of
 /// any length that it fills from place 0."
+#[allow(clippy::too_many_arguments)] // the paper's, and the engine
 pub fn run(
+    engine: Engine,
     state: State,
     p: &[u8],
     d: &mut [u8],
@@ -61,11 +101,20 @@ pub fn run(
     budget: u32,
     log: &mut [u64],
 ) -> Reply {
-    let mut places = match admit(state, p, d, i, o, budget) {
-        Ok(places) => places,
-        Err(number) => return Reply::Refused { state, number },
-    };
-    let mut state = state;
+    match admit(state, p, d, i, o, budget) {
+        Ok(mut places) => admitted(engine, state, &mut places, budget, log),
+        Err(number) => Reply::Refused { state, number },
+    }
+}
+
+/// The run that no test of the refusal table turns away.
+fn admitted(
+    engine: Engine,
+    mut state: State,
+    places: &mut Places,
+    budget: u32,
+    log: &mut [u64],
+) -> Reply {
     let mut steps: u32 = 0;
     let mut entries: u32 = 0;
     // "Before each step, in this order:"
@@ -76,14 +125,14 @@ pub fn run(
         }
         // "word unassigned, stop 1"
         let w = word(places.p, state.pc);
-        if !assigned(w) {
+        if !engine.assigned(w) {
             break 1;
         }
         // "word is OUT and the log has no free place, stop 2"
-        if is_out(w) && entries as usize >= log.len() {
+        if engine.is_out(w) && entries as usize >= log.len() {
             break 2;
         }
-        let Some(stepped) = step(state, &mut places) else {
+        let Some(stepped) = engine.step(state, places) else {
             break 1;
         };
         if let Some(entry) = stepped.entry {
@@ -99,4 +148,19 @@ pub fn run(
         steps,
         entries,
     }
+}
+
+/// "A host step is a run by the table with budget 1 over registers that the
+/// host holds."
+pub fn host_step(
+    held: &mut State,
+    p: &[u8],
+    d: &mut [u8],
+    i: &[u16],
+    o: &mut [u16],
+    log: &mut [u64],
+) -> Reply {
+    let reply = run(Engine::Table, *held, p, d, i, o, 1, log);
+    *held = reply.state();
+    reply
 }

@@ -1,8 +1,10 @@
 //! A machine with its memories and ports, for the tests.
 
-use reference::control;
-use reference::machine::{self, Places, State, Stepped, MEMORY, PORTS};
-use reference::run::{self, Reply};
+use crate::random::Random;
+use reference::machine::{Places, State, Stepped, MEMORY, PORTS};
+use reference::run::{run, Reply};
+
+pub use reference::run::Engine;
 
 #[derive(Clone, Debug, PartialEq, Eq)]
 pub struct Board {
@@ -11,12 +13,6 @@ pub struct Board {
     pub d: Vec<u8>,
     pub i: Vec<u16>,
     pub o: Vec<u16>,
-}
-
-#[derive(Clone, Copy, Debug, PartialEq, Eq)]
-pub enum Engine {
-    Rules,
-    Table,
 }
 
 pub const BOTH: [Engine; 2] = [Engine::Rules, Engine::Table];
@@ -52,6 +48,28 @@ impl Board {
         board
     }
 
+    /// Any state and memories, the program nearly all assigned words.
+    pub fn random(random: &mut Random) -> Board {
+        let mut board = Board::new();
+        for at in (0..board.p.len()).step_by(2) {
+            let w = random.instruction();
+            board.put(at as u16, w);
+        }
+        for byte in board.d.iter_mut() {
+            *byte = random.word() as u8;
+        }
+        for port in 0..256 {
+            board.i[port] = random.value();
+            board.o[port] = random.value();
+        }
+        for k in 0..8 {
+            board.s.r[k] = random.value();
+        }
+        board.s.pc = random.word() & 0xFFFE;
+        board.s.n = random.below(1 << 31) as u32;
+        board
+    }
+
     pub fn put(&mut self, pc: u16, w: u16) {
         self.p[usize::from(pc)] = w.to_le_bytes()[0];
         self.p[usize::from(pc.wrapping_add(1))] = w.to_le_bytes()[1];
@@ -61,24 +79,15 @@ impl Board {
     pub fn step(&mut self, engine: Engine) -> Option<Stepped> {
         let s = self.s;
         let mut places = Places::of(&self.p, &mut self.d, &self.i, &mut self.o).unwrap();
-        let stepped = match engine {
-            Engine::Rules => machine::step(s, &mut places)?,
-            Engine::Table => {
-                let w = machine::word(places.p, s.pc);
-                control::step(control::control_word(w), w, s, &mut places)?
-            }
-        };
+        let stepped = engine.step(s, &mut places)?;
         self.s = stepped.state;
         Some(stepped)
     }
 
     /// A run of the engine; the board keeps the state it replies.
     pub fn run(&mut self, engine: Engine, budget: u32, log: &mut [u64]) -> Reply {
-        let run = match engine {
-            Engine::Rules => run::run,
-            Engine::Table => control::run,
-        };
         let reply = run(
+            engine,
             self.s,
             &self.p,
             &mut self.d,

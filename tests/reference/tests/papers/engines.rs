@@ -26,7 +26,7 @@ fn the_table_is_the_paper_s() {
 #[test]
 fn one_step_of_every_word() {
     let mut random = Random::new(0x57E9);
-    let mut rules = random.board();
+    let mut rules = Board::random(&mut random);
     let mut table = rules.clone();
     for w in 0..=0xFFFF_u16 {
         let mut state = State {
@@ -56,7 +56,7 @@ fn random_runs() {
     let mut stops = [0; 3];
     let mut total = 0;
     for _ in 0..300 {
-        let mut rules = random.board();
+        let mut rules = Board::random(&mut random);
         let mut table = rules.clone();
         let places = random.below(40) as usize;
         let budget = random.below(2_000) as u32;
@@ -78,7 +78,7 @@ fn random_runs() {
 #[test]
 fn any_control_word_of_the_table_beside_any_instruction_word() {
     let mut random = Random::new(0xAB1E);
-    let mut board = random.board();
+    let mut board = Board::random(&mut random);
     for c in TABLE {
         for _ in 0..2_000 {
             let w = random.word();
@@ -103,7 +103,7 @@ fn any_control_word_of_the_table_beside_any_instruction_word() {
 #[test]
 fn any_control_word_at_all_does_not_panic() {
     let mut random = Random::new(0xAB1F);
-    let mut board = random.board();
+    let mut board = Board::random(&mut random);
     for c in 0..=0xFFFF_u16 {
         let mut places = Places::of(&board.p, &mut board.d, &board.i, &mut board.o).unwrap();
         control::step(c, random.word(), board.s, &mut places);
@@ -206,7 +206,7 @@ fn library(
 fn random_lists_of_calls() {
     let mut random = Random::new(0x1157);
     for _ in 0..12 {
-        let start = random.board();
+        let start = Board::random(&mut random);
         let mut machine = start.clone();
         let mut l = Vec::new();
         // By the rules, by the table, and by either as it falls.
@@ -233,7 +233,7 @@ fn random_lists_of_calls() {
 fn a_run_cut_in_pieces_is_the_same_run() {
     let mut random = Random::new(0xC07);
     for _ in 0..40 {
-        let start = random.board();
+        let start = Board::random(&mut random);
         let mut whole = start.clone();
         let mut pieces = start;
         let mut log = vec![0; 600];

@@ -2,9 +2,11 @@
 #![allow(clippy::unusual_byte_groupings, clippy::identity_op)] // fields as the sheet groups them
 
 mod board;
+mod conformance;
 mod engines;
 mod marked;
 mod printed;
+#[path = "../shared/random.rs"]
 mod random;
 mod refusals;
 mod rules;

@@ -2,16 +2,15 @@
 
 use crate::board::{bytes_of, file, Board, Engine, BOTH};
 use crate::random::Random;
-use reference::control::host_step;
 use reference::load::load;
 use reference::machine::State;
-use reference::run::Reply;
+use reference::run::{host_step, Reply};
 use reference::set::set;
 use reference::window::{window, Memory};
 
 /// A board full of noise, so that a change would show.
 fn noisy() -> Board {
-    Random::new(0x5EED_0001).board()
+    Board::random(&mut Random::new(0x5EED_0001))
 }
 
 /// The load's answer on a noisy board, which a refusal must leave as it was.

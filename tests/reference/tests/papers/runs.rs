@@ -1,9 +1,8 @@
 //! Budgets, stop reasons and the log.
 
 use crate::board::{Board, BOTH};
-use reference::control::host_step;
 use reference::machine::State;
-use reference::run::Reply;
+use reference::run::{host_step, Reply};
 
 fn done(reply: Reply) -> (u8, u32, u32) {
     match reply {

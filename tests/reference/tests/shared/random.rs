@@ -1,6 +1,4 @@
-//! A small xorshift generator and random boards.
-
-use crate::board::Board;
+//! A small xorshift generator, shared by the test programs.
 
 pub struct Random(u64);
 
@@ -48,26 +46,5 @@ impl Random {
             7 | 8 if self.below(2) == 0 => 0x2000 + w % 4_096,
             _ => w,
         }
-    }
-
-    pub fn board(&mut self) -> Board {
-        let mut board = Board::new();
-        for at in (0..board.p.len()).step_by(2) {
-            let w = self.instruction();
-            board.put(at as u16, w);
-        }
-        for byte in board.d.iter_mut() {
-            *byte = self.word() as u8;
-        }
-        for port in 0..256 {
-            board.i[port] = self.value();
-            board.o[port] = self.value();
-        }
-        for k in 0..8 {
-            board.s.r[k] = self.value();
-        }
-        board.s.pc = self.word() & 0xFFFE;
-        board.s.n = self.below(1 << 31) as u32;
-        board
     }
 }

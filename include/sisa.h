@@ -1,0 +1,123 @@
+/* The SISA trim processor: loading a trim, running it by the rules or by the control table, and reading and writing
+   one instruction. Link libsisa.a (rt staticlib sisa).
+
+   A slice is passed as a pointer and the number of its elements. A pointer is never null, also where the number is 0,
+   and no two slices of a call overlap. Beyond that every value of every argument is allowed. A memory is 65,536 bytes, an array of
+   ports 256 words; any other length is refused with 1. A refusal is its number in document 01's table, 0 where the call
+   was accepted; a refused call changes nothing lent. Fields that a case does not speak of are 0. */
+#ifndef SISA_H
+#define SISA_H
+
+#include <stddef.h>
+#include <stdint.h>
+
+#ifdef __cplusplus
+extern "C" {
+#endif
+
+/* R0 to R7, PC, and n, the count of steps done. */
+typedef struct {
+    uint16_t r[8];
+    uint16_t pc;
+    uint32_t n;
+} SisaState;
+
+/* What a load replies. The state is the reset one. */
+typedef struct {
+    SisaState state;
+    uint8_t refusal;
+} SisaLoad;
+
+/* What a run replies: the state (as handed, where the run is refused), the refusal, the stop reason (0 budget used,
+   1 unassigned word, 2 OUT with the log full), the steps taken and the entries written to the log. */
+typedef struct {
+    SisaState state;
+    uint8_t refusal;
+    uint8_t stop;
+    uint32_t steps;
+    uint64_t entries;
+} SisaRun;
+
+/* What a host step replies: SisaRun without the state, which the host holds. */
+typedef struct {
+    uint8_t refusal;
+    uint8_t stop;
+    uint32_t steps;
+    uint64_t entries;
+} SisaAnswer;
+
+/* An instruction: its kind, 0 to 24 in the reference sheet's order (AND 0, .. OUT 24), and its parts; or assigned 0. */
+typedef struct {
+    uint8_t assigned;
+    uint8_t kind;
+    uint8_t a;
+    uint8_t b;
+    uint8_t d;
+    int16_t n;
+} SisaInstruction;
+
+typedef struct {
+    uint8_t refusal;
+    uint16_t word;
+} SisaWord;
+
+/* A part of the memory chosen: its bytes start .. start + count. Both are 0 for the empty part. */
+typedef struct {
+    size_t start;
+    size_t count;
+} SisaWindow;
+
+/* Copies the file's parts to the program and the data memory, and zeroes all other memory and both arrays of ports. */
+SisaLoad sisa_load(const uint8_t *file, size_t file_len,
+                   uint8_t *program, size_t program_len,
+                   uint8_t *memory, size_t memory_len,
+                   uint16_t *inputs, size_t inputs_len,
+                   uint16_t *outputs, size_t outputs_len);
+
+/* The input at a port becomes the value. Replies 0 or the refusal. */
+uint8_t sisa_set_input(uint16_t *inputs, size_t inputs_len, uint8_t port, uint16_t value);
+
+/* A run of at most `budget` steps by the rules. An entry of the log is n before the step times 16,777,216, plus the port
+   times 65,536, plus the value. Places of the log after the entries written keep their content. */
+SisaRun sisa_run_by_rules(SisaState state,
+                          const uint8_t *program, size_t program_len,
+                          uint8_t *memory, size_t memory_len,
+                          uint16_t *inputs, size_t inputs_len,
+                          uint16_t *outputs, size_t outputs_len,
+                          uint32_t budget,
+                          uint64_t *log, size_t log_len);
+
+/* The same run by the control table. */
+SisaRun sisa_run_by_table(SisaState state,
+                          const uint8_t *program, size_t program_len,
+                          uint8_t *memory, size_t memory_len,
+                          uint16_t *inputs, size_t inputs_len,
+                          uint16_t *outputs, size_t outputs_len,
+                          uint32_t budget,
+                          uint64_t *log, size_t log_len);
+
+/* A run by the table with budget 1, over the state that the host holds. */
+SisaAnswer sisa_host_step(SisaState *state,
+                          const uint8_t *program, size_t program_len,
+                          uint8_t *memory, size_t memory_len,
+                          uint16_t *inputs, size_t inputs_len,
+                          uint16_t *outputs, size_t outputs_len,
+                          uint64_t *log, size_t log_len);
+
+/* The instruction that a word is. */
+SisaInstruction sisa_read(uint16_t word);
+
+/* The word of an instruction. A kind over 24, a part out of range and an unused part that is not 0 are refused with 7. */
+SisaWord sisa_write(uint8_t kind, uint8_t a, uint8_t b, uint8_t d, int16_t n);
+
+/* The bytes start .. start + count of the data memory (of_data not 0) or of the program (of_data 0); the empty part
+   where they end beyond the memory lent, whatever its length. */
+SisaWindow sisa_window(const uint8_t *program, size_t program_len,
+                       const uint8_t *memory, size_t memory_len,
+                       uint8_t of_data, size_t start, size_t count);
+
+#ifdef __cplusplus
+}
+#endif
+
+#endif

@@ -1,0 +1,219 @@
+//! One call, made of the reference and of the library.
+
+use crate::ffi::{self, Lent};
+use crate::world::{Lengths, World};
+use reference::load::load;
+use reference::machine::State;
+use reference::run::{host_step, run, Engine, Reply};
+use reference::set::set;
+use reference::window::{window, Memory};
+use std::fmt;
+
+/// A trim file, printed in hexadecimal.
+#[derive(Clone)]
+pub struct File(pub Vec<u8>);
+
+impl fmt::Debug for File {
+    fn fmt(&self, f: &mut fmt::Formatter) -> fmt::Result {
+        write!(f, "{} bytes ", self.0.len())?;
+        self.0
+            .iter()
+            .take(600)
+            .try_for_each(|byte| write!(f, "{byte:02x}"))?;
+        f.write_str(if self.0.len() > 600 { ".." } else { "" })
+    }
+}
+
+#[derive(Clone, Debug)]
+pub enum Call {
+    Load(File),
+    Set(u8, u16),
+    Run(Engine, State, u32),
+    HostStep(State),
+    Window(u8, usize, usize),
+}
+
+/// A reply in the header's types.
+#[derive(Clone, Copy, Debug, PartialEq, Eq)]
+pub enum Answer {
+    Load(ffi::Load),
+    Set(u8),
+    Run(ffi::Run),
+    HostStep(ffi::State, ffi::Answer),
+    Window(ffi::Window),
+}
+
+impl Answer {
+    pub fn refusal(&self) -> u8 {
+        match self {
+            Answer::Load(load) => load.refusal,
+            Answer::Set(refusal) => *refusal,
+            Answer::Run(run) => run.refusal,
+            Answer::HostStep(_, answer) => answer.refusal,
+            Answer::Window(_) => 0,
+        }
+    }
+}
+
+pub fn header_state(state: State) -> ffi::State {
+    ffi::State {
+        r: state.r,
+        pc: state.pc,
+        n: state.n,
+    }
+}
+
+/// "Fields that a case does not speak of are 0."
+fn header_run(reply: Reply) -> ffi::Run {
+    let mut answer = ffi::Run {
+        state: header_state(reply.state()),
+        refusal: 0,
+        stop: 0,
+        steps: 0,
+        entries: 0,
+    };
+    match reply {
+        Reply::Refused { number, .. } => answer.refusal = number,
+        Reply::Done {
+            stop,
+            steps,
+            entries,
+            ..
+        } => {
+            answer.stop = stop;
+            answer.steps = steps;
+            answer.entries = u64::from(entries);
+        }
+    }
+    answer
+}
+
+/// The place of the part that the reference shows; 0 and 0 for the empty part.
+pub fn header_window(
+    program: &[u8],
+    data: &[u8],
+    of_data: u8,
+    start: usize,
+    count: usize,
+) -> ffi::Window {
+    let (chosen, memory) = match of_data {
+        0 => (Memory::Program, program),
+        _ => (Memory::Data, data),
+    };
+    let part = window(chosen, program, data, start, count);
+    match part.len() {
+        0 => ffi::Window { start: 0, count: 0 },
+        count => ffi::Window {
+            start: part.as_ptr() as usize - memory.as_ptr() as usize,
+            count,
+        },
+    }
+}
+
+pub fn of_reference(call: &Call, lent: &mut Lent) -> Answer {
+    let (p, d, i, o) = (
+        &mut *lent.program,
+        &mut *lent.memory,
+        &mut *lent.inputs,
+        &mut *lent.outputs,
+    );
+    match *call {
+        Call::Load(ref file) => {
+            let loaded = load(&file.0, p, d, i, o);
+            Answer::Load(ffi::Load {
+                // All zero where the load is refused.
+                state: header_state(loaded.unwrap_or(State::reset())),
+                refusal: loaded.err().unwrap_or(0),
+            })
+        }
+        Call::Set(port, value) => Answer::Set(set(i, port, value).err().unwrap_or(0)),
+        Call::Run(engine, state, budget) => {
+            Answer::Run(header_run(run(engine, state, p, d, i, o, budget, lent.log)))
+        }
+        Call::HostStep(state) => {
+            let mut held = state;
+            let answer = header_run(host_step(&mut held, p, d, i, o, lent.log));
+            let answer = ffi::Answer {
+                refusal: answer.refusal,
+                stop: answer.stop,
+                steps: answer.steps,
+                entries: answer.entries,
+            };
+            Answer::HostStep(header_state(held), answer)
+        }
+        Call::Window(of_data, start, count) => {
+            Answer::Window(header_window(p, d, of_data, start, count))
+        }
+    }
+}
+
+pub fn of_library(call: &Call, lent: &mut Lent) -> Answer {
+    match *call {
+        Call::Load(ref file) => Answer::Load(ffi::load(&file.0, lent)),
+        Call::Set(port, value) => Answer::Set(ffi::set_input(lent.inputs, port, value)),
+        Call::Run(Engine::Rules, state, budget) => {
+            Answer::Run(ffi::run_by_rules(header_state(state), budget, lent))
+        }
+        Call::Run(Engine::Table, state, budget) => {
+            Answer::Run(ffi::run_by_table(header_state(state), budget, lent))
+        }
+        Call::HostStep(state) => {
+            let mut held = header_state(state);
+            let answer = ffi::host_step(&mut held, lent);
+            Answer::HostStep(held, answer)
+        }
+        Call::Window(of_data, start, count) => {
+            let (program, memory) = (&*lent.program, &*lent.memory);
+            Answer::Window(ffi::window(program, memory, of_data, start, count))
+        }
+    }
+}
+
+/// The reference's side, the library's, and what was before the call.
+pub struct Sides {
+    pub reference: World,
+    library: World,
+    before: World,
+}
+
+impl Sides {
+    /// Both sides alike.
+    pub fn new(world: World) -> Sides {
+        Sides {
+            reference: world.clone(),
+            library: world.clone(),
+            before: world,
+        }
+    }
+
+    /// Puts a word into the program of both sides.
+    pub fn put_word(&mut self, at: u16, w: u16) {
+        for world in [&mut self.reference, &mut self.library] {
+            let program = world.lend(&Lengths::right(0)).program;
+            program[usize::from(at)..][..2].copy_from_slice(&w.to_le_bytes());
+        }
+    }
+
+    /// Makes the call of both sides: the answer, or the first difference.
+    pub fn call(&mut self, call: &Call, lengths: &Lengths) -> Result<Answer, String> {
+        self.before.clone_from(&self.reference);
+        let lent_to_library = call.clone();
+        let expected = of_reference(call, &mut self.reference.lend(lengths));
+        let found = of_library(&lent_to_library, &mut self.library.lend(lengths));
+        if expected != found {
+            return Err(format!("reply:\n  {expected:?}\n  {found:?}"));
+        }
+        if let Some(difference) = self.reference.difference(&self.library) {
+            return Err(difference);
+        }
+        if expected.refusal() != 0 && self.before != self.reference {
+            return Err("a refused call changed what was lent".to_string());
+        }
+        if let (Call::Load(File(ours)), Call::Load(File(theirs))) = (call, &lent_to_library) {
+            if ours != theirs {
+                return Err("the library changed the file".to_string());
+            }
+        }
+        Ok(expected)
+    }
+}

@@ -1,0 +1,265 @@
+//! The library's exports as include/sisa.h declares them, and safe functions
+//! around them.
+//!
+//! Nothing checks the declarations against the library: names, order and types
+//! must be the header's. It asks of a caller that no pointer is null, that each
+//! length is its slice's and that no two slices overlap. Rust's slices meet
+//! that: an empty one's pointer dangles but isn't null, and slices borrowed
+//! as mutable don't overlap. Every other value of every argument is allowed.
+
+/// `SisaState`
+#[repr(C)]
+#[derive(Clone, Copy, Debug, PartialEq, Eq)]
+pub struct State {
+    pub r: [u16; 8],
+    pub pc: u16,
+    pub n: u32,
+}
+
+/// `SisaLoad`
+#[repr(C)]
+#[derive(Clone, Copy, Debug, PartialEq, Eq)]
+pub struct Load {
+    pub state: State,
+    pub refusal: u8,
+}
+
+/// `SisaRun`
+#[repr(C)]
+#[derive(Clone, Copy, Debug, PartialEq, Eq)]
+pub struct Run {
+    pub state: State,
+    pub refusal: u8,
+    pub stop: u8,
+    pub steps: u32,
+    pub entries: u64,
+}
+
+/// `SisaAnswer`
+#[repr(C)]
+#[derive(Clone, Copy, Debug, PartialEq, Eq)]
+pub struct Answer {
+    pub refusal: u8,
+    pub stop: u8,
+    pub steps: u32,
+    pub entries: u64,
+}
+
+/// `SisaInstruction`
+#[repr(C)]
+#[derive(Clone, Copy, Debug, PartialEq, Eq)]
+pub struct Instruction {
+    pub assigned: u8,
+    pub kind: u8,
+    pub a: u8,
+    pub b: u8,
+    pub d: u8,
+    pub n: i16,
+}
+
+/// `SisaWord`
+#[repr(C)]
+#[derive(Clone, Copy, Debug, PartialEq, Eq)]
+pub struct Word {
+    pub refusal: u8,
+    pub word: u16,
+}
+
+/// `SisaWindow`
+#[repr(C)]
+#[derive(Clone, Copy, Debug, PartialEq, Eq)]
+pub struct Window {
+    pub start: usize,
+    pub count: usize,
+}
+
+/// What a call is lent.
+pub struct Lent<'a> {
+    pub program: &'a mut [u8],
+    pub memory: &'a mut [u8],
+    pub inputs: &'a mut [u16],
+    pub outputs: &'a mut [u16],
+    pub log: &'a mut [u64],
+}
+
+/// The arguments of a run by either engine.
+type RunExport = unsafe extern "C" fn(
+    State,
+    *const u8,
+    usize,
+    *mut u8,
+    usize,
+    *mut u16,
+    usize,
+    *mut u16,
+    usize,
+    u32,
+    *mut u64,
+    usize,
+) -> Run;
+
+#[link(name = "sisa", kind = "static")]
+extern "C" {
+    fn sisa_load(
+        file: *const u8,
+        file_len: usize,
+        program: *mut u8,
+        program_len: usize,
+        memory: *mut u8,
+        memory_len: usize,
+        inputs: *mut u16,
+        inputs_len: usize,
+        outputs: *mut u16,
+        outputs_len: usize,
+    ) -> Load;
+    fn sisa_set_input(inputs: *mut u16, inputs_len: usize, port: u8, value: u16) -> u8;
+    fn sisa_run_by_rules(
+        state: State,
+        program: *const u8,
+        program_len: usize,
+        memory: *mut u8,
+        memory_len: usize,
+        inputs: *mut u16,
+        inputs_len: usize,
+        outputs: *mut u16,
+        outputs_len: usize,
+        budget: u32,
+        log: *mut u64,
+        log_len: usize,
+    ) -> Run;
+    fn sisa_run_by_table(
+        state: State,
+        program: *const u8,
+        program_len: usize,
+        memory: *mut u8,
+        memory_len: usize,
+        inputs: *mut u16,
+        inputs_len: usize,
+        outputs: *mut u16,
+        outputs_len: usize,
+        budget: u32,
+        log: *mut u64,
+        log_len: usize,
+    ) -> Run;
+    fn sisa_host_step(
+        state: *mut State,
+        program: *const u8,
+        program_len: usize,
+        memory: *mut u8,
+        memory_len: usize,
+        inputs: *mut u16,
+        inputs_len: usize,
+        outputs: *mut u16,
+        outputs_len: usize,
+        log: *mut u64,
+        log_len: usize,
+    ) -> Answer;
+    fn sisa_read(word: u16) -> Instruction;
+    fn sisa_write(kind: u8, a: u8, b: u8, d: u8, n: i16) -> Word;
+    fn sisa_window(
+        program: *const u8,
+        program_len: usize,
+        memory: *const u8,
+        memory_len: usize,
+        of_data: u8,
+        start: usize,
+        count: usize,
+    ) -> Window;
+}
+
+pub fn load(file: &[u8], lent: &mut Lent) -> Load {
+    // SAFETY: pointers and lengths are those of slices that don't overlap.
+    unsafe {
+        sisa_load(
+            file.as_ptr(),
+            file.len(),
+            lent.program.as_mut_ptr(),
+            lent.program.len(),
+            lent.memory.as_mut_ptr(),
+            lent.memory.len(),
+            lent.inputs.as_mut_ptr(),
+            lent.inputs.len(),
+            lent.outputs.as_mut_ptr(),
+            lent.outputs.len(),
+        )
+    }
+}
+
+pub fn set_input(inputs: &mut [u16], port: u8, value: u16) -> u8 {
+    // SAFETY: pointer and length are a slice's.
+    unsafe { sisa_set_input(inputs.as_mut_ptr(), inputs.len(), port, value) }
+}
+
+pub fn run_by_rules(state: State, budget: u32, lent: &mut Lent) -> Run {
+    run(sisa_run_by_rules, state, budget, lent)
+}
+
+pub fn run_by_table(state: State, budget: u32, lent: &mut Lent) -> Run {
+    run(sisa_run_by_table, state, budget, lent)
+}
+
+fn run(export: RunExport, state: State, budget: u32, lent: &mut Lent) -> Run {
+    // SAFETY: pointers and lengths are those of slices that don't overlap, and
+    // the caller is one of the two functions above.
+    unsafe {
+        export(
+            state,
+            lent.program.as_ptr(),
+            lent.program.len(),
+            lent.memory.as_mut_ptr(),
+            lent.memory.len(),
+            lent.inputs.as_mut_ptr(),
+            lent.inputs.len(),
+            lent.outputs.as_mut_ptr(),
+            lent.outputs.len(),
+            budget,
+            lent.log.as_mut_ptr(),
+            lent.log.len(),
+        )
+    }
+}
+
+pub fn host_step(state: &mut State, lent: &mut Lent) -> Answer {
+    // SAFETY: pointers and lengths are those of slices that don't overlap, and
+    // of a state apart from them.
+    unsafe {
+        sisa_host_step(
+            state,
+            lent.program.as_ptr(),
+            lent.program.len(),
+            lent.memory.as_mut_ptr(),
+            lent.memory.len(),
+            lent.inputs.as_mut_ptr(),
+            lent.inputs.len(),
+            lent.outputs.as_mut_ptr(),
+            lent.outputs.len(),
+            lent.log.as_mut_ptr(),
+            lent.log.len(),
+        )
+    }
+}
+
+pub fn read(word: u16) -> Instruction {
+    // SAFETY: every word is allowed.
+    unsafe { sisa_read(word) }
+}
+
+pub fn write(kind: u8, a: u8, b: u8, d: u8, n: i16) -> Word {
+    // SAFETY: every kind and part is allowed.
+    unsafe { sisa_write(kind, a, b, d, n) }
+}
+
+pub fn window(program: &[u8], memory: &[u8], of_data: u8, start: usize, count: usize) -> Window {
+    // SAFETY: pointers and lengths are those of slices, which are only read.
+    unsafe {
+        sisa_window(
+            program.as_ptr(),
+            program.len(),
+            memory.as_ptr(),
+            memory.len(),
+            of_data,
+            start,
+            count,
+        )
+    }
+}

@@ -1,0 +1,209 @@
+//! Random files, states, budgets and lengths, edges more often than by chance.
+
+use crate::random::Random;
+use crate::world::{Lengths, LOG};
+use reference::machine::State;
+
+pub fn one_of<T: Copy>(random: &mut Random, choice: &[T]) -> T {
+    choice[random.below(choice.len() as u64) as usize]
+}
+
+/// A port; a few often, so that a set port is read.
+pub fn port(random: &mut Random) -> u8 {
+    match random.below(2) {
+        0 => one_of(random, &[0, 1, 127, 255]),
+        _ => random.word() as u8,
+    }
+}
+
+/// A word of a program, mostly assigned.
+pub fn program_word(random: &mut Random) -> u16 {
+    if random.below(60) == 0 {
+        return random.word();
+    }
+    let w = random.instruction();
+    match w / 4_096 {
+        10 => w - w % 256 + u16::from(port(random)),
+        _ => w,
+    }
+}
+
+/// The words of a file: any number of them, or a short loop.
+fn program(random: &mut Random) -> Vec<u16> {
+    let length = match random.below(8) {
+        0 => 32_768,
+        1 => random.below(32_769),
+        2 => random.below(4),
+        _ => return short_loop(random),
+    };
+    (0..length).map(|_| program_word(random)).collect()
+}
+
+/// A BZ and a BNZ of one register end it; both go back to its first word.
+fn short_loop(random: &mut Random) -> Vec<u16> {
+    let length = 1 + random.below(126) as u16;
+    let mut words: Vec<u16> = (0..length).map(|_| program_word(random)).collect();
+    let a = 512 * random.below(8) as u16;
+    words.push(0x8000 + a + (256 - (length + 1)));
+    words.push(0x8100 + a + (256 - (length + 2)));
+    words
+}
+
+fn random_bytes(random: &mut Random, count: u64) -> Vec<u8> {
+    (0..count).map(|_| random.word() as u8).collect()
+}
+
+/// A file that loads: both parts in either order with gaps, or the data part
+/// anywhere.
+pub fn file(random: &mut Random) -> Vec<u8> {
+    let words = program(random);
+    let bytes: Vec<u8> = words.iter().flat_map(|w| w.to_le_bytes()).collect();
+    let count = match random.below(8) {
+        0 => 65_536,
+        1 => random.below(65_537),
+        2 => 0,
+        _ => random.below(300),
+    };
+    let data = random_bytes(random, count);
+    let mut file = vec![0; 16];
+    let mut offsets = [0, 0];
+    let program_first = random.below(2);
+    for part in [program_first, 1 - program_first] {
+        let gap = one_of(random, &[0, 0, 1, 7]);
+        file.extend(random_bytes(random, gap));
+        offsets[part as usize] = file.len();
+        file.extend(if part == 0 { &bytes } else { &data });
+    }
+    let gap = one_of(random, &[0, 0, 1, 7]);
+    file.extend(random_bytes(random, gap));
+    if random.below(8) == 0 {
+        let room = file.len() - 16 - data.len();
+        offsets[1] = 16 + random.below(room as u64 + 1) as usize;
+    }
+    let header = [words.len(), offsets[0], data.len(), offsets[1]];
+    for (k, x) in header.into_iter().enumerate() {
+        put(&mut file, k, x as u32);
+    }
+    file
+}
+
+/// A file that mostly doesn't load: cut, or a header's number changed.
+pub fn damaged_file(random: &mut Random) -> Vec<u8> {
+    let mut file = file(random);
+    for _ in 0..1 + random.below(2) {
+        match random.below(4) {
+            0 => file.truncate(random.below(20) as usize),
+            1 => file.truncate(random.below(file.len() as u64 + 1) as usize),
+            _ => damage_header(random, &mut file),
+        }
+    }
+    file
+}
+
+fn damage_header(random: &mut Random, file: &mut [u8]) {
+    if file.len() < 16 {
+        return;
+    }
+    let k = random.below(4) as usize;
+    let x = number(file, k);
+    let end = file.len() as u32;
+    // The part's length, and so the greatest offset.
+    let part = number(file, k / 2 * 2).wrapping_mul(if k < 2 { 2 } else { 1 });
+    let last = end.wrapping_sub(part);
+    let edges = [
+        x.wrapping_add(1),
+        x.wrapping_sub(1),
+        last,
+        last.wrapping_add(1),
+        end,
+        end + 1,
+        32_768,
+        32_769,
+        65_536,
+        65_537,
+        0,
+        15,
+        16,
+        u32::MAX,
+        // So great that offset plus length wraps to an offset within the file.
+        part.wrapping_neg().wrapping_add(16),
+        1 << 31,
+        random.next() as u32,
+    ];
+    put(file, k, one_of(random, &edges));
+}
+
+/// Number k of the header.
+fn number(file: &[u8], k: usize) -> u32 {
+    let bytes = &file[4 * k..4 * k + 4];
+    u32::from_le_bytes([bytes[0], bytes[1], bytes[2], bytes[3]])
+}
+
+fn put(file: &mut [u8], k: usize, x: u32) {
+    file[4 * k..4 * k + 4].copy_from_slice(&x.to_le_bytes());
+}
+
+pub fn budget(random: &mut Random) -> u32 {
+    let limit = one_of(random, &[1, 2, 3, 300, 300, 300, 2_000, 2_000, 5_000]);
+    random.below(limit) as u32
+}
+
+/// The state with registers, PC or n changed; n often so that the budget just
+/// fits or just doesn't.
+pub fn altered(random: &mut Random, kept: State, budget: u32) -> State {
+    let mut state = kept;
+    match random.below(8) {
+        0 => state.pc = random.word() | 1,
+        1 => state.pc = random.word() & 0xFFFE,
+        2 => state.pc = one_of(random, &[0, 2, 0xFFFC, 0xFFFE, 0xFFFF]),
+        3 => state.n = u32::MAX - random.below(3) as u32,
+        4 | 5 => {
+            let greatest = u32::MAX - budget;
+            state.n = one_of(
+                random,
+                &[
+                    greatest,
+                    greatest.saturating_add(1),
+                    greatest.saturating_sub(1),
+                ],
+            );
+        }
+        _ => state.r = state.r.map(|_| random.value()),
+    }
+    state
+}
+
+/// Mostly the right lengths, and a log of any length.
+pub fn lengths(random: &mut Random) -> Lengths {
+    let places = match random.below(5) {
+        0 => random.below(2),
+        1 | 2 => random.below(40),
+        _ => random.below(LOG as u64 + 1),
+    };
+    let mut lengths = Lengths::right(places as usize);
+    if random.below(16) == 0 {
+        for _ in 0..1 + random.below(2) {
+            match random.below(4) {
+                0 => lengths.program = one_of(random, &[0, 1, 65_535, 65_537]),
+                1 => lengths.memory = one_of(random, &[0, 1, 65_535, 65_537]),
+                2 => lengths.inputs = one_of(random, &[0, 1, 255, 257]),
+                _ => lengths.outputs = one_of(random, &[0, 1, 255, 257]),
+            }
+        }
+    }
+    lengths
+}
+
+/// A start or a count for a window on memories of these lengths.
+pub fn window_number(random: &mut Random, program: usize, memory: usize) -> usize {
+    let length = one_of(random, &[program, memory]);
+    match random.below(4) {
+        0 => random.below(length as u64 + 2) as usize,
+        1 => one_of(
+            random,
+            &[0, 1, length.saturating_sub(1), length, length + 1],
+        ),
+        2 => random.below(40) as usize,
+        _ => usize::MAX - one_of(random, &[0, 1, length, length / 2, usize::MAX / 2]),
+    }
+}

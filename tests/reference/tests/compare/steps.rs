@@ -1,0 +1,58 @@
+//! One step of every word, by each export that steps.
+
+use crate::call::{Answer, Call, Sides};
+use crate::make::one_of;
+use crate::random::Random;
+use crate::world::{Lengths, World};
+use crate::{random_of, seed};
+use reference::machine::State;
+use reference::run::Engine;
+
+/// A state to step the word from. Ra+SE(N6), a sum or address of opcodes 2 to
+/// 6, is often an edge.
+fn random_state(random: &mut Random, w: u16) -> State {
+    let even = random.word() & 0xFFFE;
+    let mut r = [0; 8].map(|_| random.value());
+    if random.below(3) == 0 {
+        let edge = one_of(random, &[0, 1, 0x7FFF, 0x8000, 0xFFFE, 0xFFFF_u16]);
+        let se_n6 = ((w % 64) ^ 32).wrapping_sub(32);
+        r[usize::from(w >> 9 & 7)] = edge.wrapping_sub(se_n6);
+    }
+    State {
+        r,
+        pc: one_of(random, &[even, even, 0, 0xFFFE]),
+        n: random.below(u32::MAX.into()) as u32,
+    }
+}
+
+#[test]
+fn one_step_of_every_word() {
+    let seed = seed();
+    let mut random = random_of(seed, 3 << 32);
+    let mut sides = Sides::new(World::random(&mut random));
+    let (mut calls, mut steps) = (0, 0);
+    for w in 0..=0xFFFF_u16 {
+        for export in 0..3 {
+            let state = random_state(&mut random, w);
+            let call = match export {
+                0 => Call::Run(Engine::Rules, state, 1),
+                1 => Call::Run(Engine::Table, state, 1),
+                _ => Call::HostStep(state),
+            };
+            sides.put_word(state.pc, w);
+            calls += 1;
+            steps += match sides.call(&call, &Lengths::right(1)) {
+                Ok(Answer::Run(run)) => run.steps,
+                Ok(Answer::HostStep(_, answer)) => answer.steps,
+                Ok(answer) => panic!("{answer:?}"),
+                Err(difference) => panic!(
+                    "SISA_SEED={seed}, word {w:#06x} at PC, {call:?}\n\
+                     first difference (reference, library): {difference}"
+                ),
+            };
+        }
+    }
+    println!("seed {seed}: {calls} calls of one word, {steps} steps");
+    // Unassigned: opcodes 11 to 15, and 3 of 8 values of f in opcode 1.
+    assert_eq!(steps, 3 * (65_536 - 5 * 4_096 - 3 * 512));
+}

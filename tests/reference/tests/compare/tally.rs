@@ -1,0 +1,92 @@
+//! What was compared, counted from the reference's answers.
+
+use crate::call::{Answer, Call};
+use reference::run::Engine;
+use std::collections::BTreeMap;
+use std::fmt;
+
+#[derive(Default)]
+pub struct Tally {
+    calls: u64,
+    steps: u64,
+    entries: u64,
+    /// By export and outcome.
+    outcomes: BTreeMap<(&'static str, String), u64>,
+}
+
+impl Tally {
+    pub fn count(&mut self, call: &Call, answer: &Answer) {
+        let export = match call {
+            Call::Load(_) => "load",
+            Call::Set(..) => "set",
+            Call::Run(Engine::Rules, ..) => "rules",
+            Call::Run(Engine::Table, ..) => "table",
+            Call::HostStep(_) => "host",
+            Call::Window(..) => "window",
+        };
+        let mut outcome = match answer.refusal() {
+            0 => "accepted".to_string(),
+            refusal => format!("refused {refusal}"),
+        };
+        let run = match answer {
+            Answer::Run(run) => Some((run.refusal, run.stop, run.steps, run.entries)),
+            Answer::HostStep(_, x) => Some((x.refusal, x.stop, x.steps, x.entries)),
+            _ => None,
+        };
+        if let Some((0, stop, steps, entries)) = run {
+            outcome = format!("stop {stop}");
+            self.steps += u64::from(steps);
+            self.entries += entries;
+        }
+        if let Answer::Window(window) = answer {
+            outcome = if window.count == 0 { "empty" } else { "part" }.to_string();
+        }
+        self.calls += 1;
+        *self.outcomes.entry((export, outcome)).or_default() += 1;
+    }
+
+    /// That enough was compared, and every outcome of every export.
+    pub fn check(&self) {
+        assert!(self.calls >= 100_000, "{} calls", self.calls);
+        assert!(self.steps >= 10_000_000, "{} steps", self.steps);
+        let of_runs = [
+            "stop 0",
+            "stop 1",
+            "stop 2",
+            "refused 1",
+            "refused 5",
+            "refused 6",
+        ];
+        let of_load = [
+            "accepted",
+            "refused 1",
+            "refused 2",
+            "refused 3",
+            "refused 4",
+        ];
+        for (export, outcomes) in [
+            ("load", &of_load[..]),
+            ("set", &["accepted", "refused 1"]),
+            ("rules", &of_runs),
+            ("table", &of_runs),
+            ("host", &of_runs),
+            ("window", &["part", "empty"]),
+        ] {
+            for outcome in outcomes {
+                let key = (export, outcome.to_string());
+                assert!(self.outcomes.contains_key(&key), "no {key:?}");
+            }
+        }
+    }
+}
+
+impl fmt::Display for Tally {
+    fn fmt(&self, f: &mut fmt::Formatter) -> fmt::Result {
+        let (calls, steps, entries) = (self.calls, self.steps, self.entries);
+        write!(f, "{calls} calls, {steps} steps, {entries} log entries")?;
+        for ((export, outcome), count) in &self.outcomes {
+            write!(f, "\n  {export}, {outcome}: {count}")?;
+        }
+        Ok(())
+    }
+}
