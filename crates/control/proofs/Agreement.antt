@@ -16,7 +16,7 @@ use Rattle.machine.specs.Machine.{Machine, R, count, onState}
 use Rattle.machine.specs.Step.{PC, Ra, d11-9, write, jump, among, Rule, Row, by-f, one, by-e, none, rows, Choice, rule, unassigned, inRow, choice, Next, cannot, to, stepBy, compute, compare, addi, ld, st, ldb, stb, jalr, bz, bnz, movi, movhi, input, output}
 use Rattle.machine.specs.Run.{isOut}
 use Rattle.machine.specs.Held.{isRule}
-use Rattle.control.specs.Control.{second, unit, result, next, stored, written, performed, assigned, writesPort, controlStep, table, controlOf}
+use Rattle.control.specs.Control.{second, unit, result, next, stored, written, performed, assigned, writesPort, controlStep, table, controlIn, controlOf}
 
 -- ---- A table of two columns: what is done, and whether a port is written
 
@@ -111,7 +111,7 @@ from-at g i (x ∷ xs) zero d h = rw add-zero
 from-at g i (x ∷ xs) (suc k) d h = from-at g (suc i) xs k d (le-of-suc-le-suc h) ∙ rw (suc-add, add-suc)
 
 at : (w : ℕ) → by-control (controlOf w) ≡ by-row (opcode w) (e-of w)
-unfolding controlOf
+unfolding controlIn
 at w =
     let k = opcode w * 2 + e-of w in
     let half : k / 2 ≡ opcode w = omega arith in

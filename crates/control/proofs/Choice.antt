@@ -2,13 +2,12 @@
 -- Assumes nothing.
 use mathlib.Core.Path.{_≡_, refl, sym}
 use mathlib.Core.List.{[], _∷_}
-use Prim.Native.Nat.{ℕ, zero, suc}
+use Prim.Native.Nat.{ℕ, zero, suc, _≤_}
 use lib.ListN.{getD, List·getD-eq-default}
-use Rattle.word.proofs.Tables.{NoneBelow, past}
 use Rattle.machine.specs.Machine.{Machine}
 
-pub past-five : (a b c d e k : ℕ) → NoneBelow 5 k → 0 ≡ getD (a ∷ b ∷ c ∷ d ∷ e ∷ []) k 0
-past-five a b c d e k h = sym (List·getD-eq-default (a ∷ b ∷ c ∷ d ∷ e ∷ []) 0 (past 5 k h))
+pub past-five : (a b c d e k : ℕ) → 5 ≤ k → 0 ≡ getD (a ∷ b ∷ c ∷ d ∷ e ∷ []) k 0
+past-five a b c d e k h = sym (List·getD-eq-default (a ∷ b ∷ c ∷ d ∷ e ∷ []) 0 h)
 
 -- f is the same in the machine that is chosen as in m, where it is in each that may be
 pub stays :

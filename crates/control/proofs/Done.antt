@@ -2,11 +2,13 @@
 -- Assumes nothing.
 use mathlib.Core.Path.{_≡_, refl, _∙_}
 use mathlib.Core.List.{List}
-use Prim.Native.Nat.{ℕ}
+use Prim.Native.Nat.{ℕ, _/_, _%_}
+use native.Mathlib.Omega.{arith}
 use Rattle.word.specs.Fields.{bits, field}
+use Rattle.word.specs.Word.{add}
 use Rattle.machine.specs.declared.State.{State}
 use Rattle.machine.specs.Machine.{Machine, putPC, count, onState}
-use Rattle.machine.specs.Step.{d5-3, d8-6, d11-9, write, jump}
+use Rattle.machine.specs.Step.{PC, d5-3, d8-6, d11-9, write, jump}
 use Rattle.control.specs.Control.{storeField, result, next, stored, written, performed}
 use Rattle.control.proofs.Choice.{stays}
 
@@ -44,3 +46,11 @@ step-done c w m {v} {pc} {counted} {moved} {after} {D} {O} {L} ev ep eD eO eL ec
     let same-I : stored c w m .I ≡ m .I = store-keeps (λ s P I. I) c w m in
     let is-after : after ≡ count (written c w (result c w m) x .state) = ew x (cc) ∙ rw ev in
     write-keeps c w (result c w m) x (count (written c w (result c w m) x .state)) ∙ cc
+
+-- bits 13..10 are 0: no store, and PC+2
+pub goes-on : (c w : ℕ) (m : Machine) → c / 1024 % 16 ≡ 0 → (next c w m ≡ add (PC m) 2) × (stored c w m ≡ m)
+unfolding next stored
+goes-on c w m e =
+    let n : c / 4096 % 4 ≡ 0 = omega arith in
+    let s : c / 1024 % 4 ≡ 0 = omega arith in
+    (rw n, rw s)

@@ -109,6 +109,9 @@ table =
     ∷ 0 ∷ 0 ∷ 0 ∷ 0 ∷ 0 ∷ 0 ∷ 0 ∷ 0 ∷ 0 ∷ 0
     ∷ []
 
--- the table's word for an instruction word
-unfoldable pub controlOf : ℕ → ℕ
-controlOf w = getD table (opcode w * 2 + e-of w) 0
+-- the word of a table for an instruction word
+unfoldable pub controlIn : List ℕ → ℕ → ℕ
+controlIn words w = getD words (opcode w * 2 + e-of w) 0
+
+abbrev pub controlOf : ℕ → ℕ
+controlOf w = controlIn table w

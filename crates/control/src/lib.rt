@@ -4,7 +4,7 @@ ghost use mathlib.Core.Bool.{_&&_};
 ghost use Rattle.machine.specs.Machine.{Machine};
 ghost use Rattle.machine.specs.Step.{to};
 ghost use Rattle.machine.specs.Held.{Held, Ready, Becomes, stopIn, machineOf};
-ghost use Rattle.control.specs.Control.{controlOf, writesPort, controlStep, performed};
+ghost use Rattle.control.specs.Control.{table, controlIn, writesPort, controlStep, performed};
 use machine::State;
 use machine::Stepped;
 
@@ -46,12 +46,19 @@ pub const CONTROL: [u16; 32] = [
     0,
 ];
 
-// The table's word for an instruction word.
-pub fn control_of(w: u16) -> u16
-    ensures { λ r. ⌜ r ≡ controlOf w ⌝ }
+// The table, for a run to hold. (Where a step looks into the constant itself, the table is built at each step.)
+pub fn control_table() -> [u16; 32]
+    ensures { λ r. ⌜ r ≡ table ⌝ }
+{
+    CONTROL
+}
+
+// The word of a table for an instruction word.
+pub fn control_of(words: &[u16; 32], w: u16) -> u16
+    ensures { λ r. ⌜ r ≡ controlIn (now (words .entry)) w ⌝ }
 {
     let at = (w / 4096 * 2 + w / 256 % 2) as usize;
-    CONTROL[at]
+    words[at]
 }
 
 // Why a run stops before the step of w by a control word: 1 unassigned, 2 a port write and the log is full; 0 where it goes on.
@@ -65,7 +72,7 @@ pub fn stop_before(control: u16, w: u16, state: State, full: bool) -> u8
     if no_place { 2 } else { 0 }
 }
 
-// The step of w by a control word, any control word beside any w.
+// The step of w by a control word, any control word beside any w. (No store and PC+2, the commonest, are one test.)
 pub fn step(
     control: u16,
     w: u16,
@@ -84,10 +91,16 @@ pub fn step(
     let operand = fields::second_operand(control, w, y);
     let u = fields::unit_result(control, w, x, operand);
     let v = fields::chosen_result(control, w, u, state.pc, memory, inputs);
-    let next = fields::next_pc(control, w, x, state.pc);
     let counted = state.counted();
-    fields::store_data(control, y, u, memory);
-    let entries = fields::store_port(control, w, x, state.n, outputs, log, entries);
-    let state = fields::write_destination(control, w, v, counted.with_pc(next));
-    Stepped { state, entries }
+    if control / 1024 % 16 == 0 {
+        let onward = counted.with_pc(word::sum(state.pc, 2));
+        let state = fields::write_destination(control, w, v, onward);
+        Stepped { state, entries }
+    } else {
+        let next = fields::next_pc(control, w, x, state.pc);
+        fields::store_data(control, y, u, memory);
+        let entries = fields::store_port(control, w, x, state.n, outputs, log, entries);
+        let state = fields::write_destination(control, w, v, counted.with_pc(next));
+        Stepped { state, entries }
+    }
 }

@@ -5,6 +5,7 @@ ghost use Rattle.machine.specs.Machine.{Machine};
 ghost use Rattle.machine.specs.Step.{choice, stepBy};
 ghost use Rattle.machine.specs.Run.{isOut};
 ghost use Rattle.machine.specs.Held.{Ready, Becomes, isRule, stopIn, machineOf};
+ghost use Rattle.control.specs.Control.{controlOf};
 ghost use Rattle.engine.specs.Runs.{Left, RunMeets, shownAnswer, shownVerdict, verdict, acceptedLeft};
 ghost use Rattle.engine.specs.Loops.{CanRun};
 use machine::Address;
@@ -38,11 +39,12 @@ pub enum Check {
 }
 
 // Why the engine chosen stops before the step of w: 1 unassigned, 2 OUT and the log is full; 0 where it goes on.
-fn stop_before(by_table: bool, w: u16, state: State, full: bool) -> u8
+fn stop_before(by_table: bool, control: u16, w: u16, state: State, full: bool) -> u8
+    requires { ⌜ control ≡ controlOf w ⌝ }
     ensures { λ r. ⌜ ((m : Machine) → m .state ≡ state → r ≡ stopIn (stepBy (choice w) w m) (isOut w && full)) ⌝ }
 {
     if by_table {
-        control::stop_before(control::control_of(w), w, state, full)
+        control::stop_before(control, w, state, full)
     } else {
         rules::stop_before(w, state, full)
     }
@@ -51,6 +53,7 @@ fn stop_before(by_table: bool, w: u16, state: State, full: bool) -> u8
 // The step of an assigned word by the engine chosen.
 fn step(
     by_table: bool,
+    control: u16,
     w: u16,
     state: State,
     memory: &mut [u8],
@@ -59,21 +62,13 @@ fn step(
     log: &mut [u64],
     entries: usize,
 ) -> Stepped
+    requires { ⌜ control ≡ controlOf w ⌝ }
     requires { ⌜ isRule (choice w) ≡ true ⌝ }
     requires { ⌜ Ready (isOut w) (record { state = state; D = now memory; I = now inputs; O = now outputs; log = now log; entries = entries }) ⌝ }
     ensures { λ r. ⌜ Becomes (record { state = state; D = now (memory .entry); I = now (inputs .entry); O = now (outputs .entry); log = now (log .entry); entries = entries }) (record { state = r .state; D = now (memory .exit); I = now (inputs .exit); O = now (outputs .exit); log = now (log .exit); entries = r .entries }) (λ P. stepBy (choice w) w (machineOf P (record { state = state; D = now (memory .entry); I = now (inputs .entry); O = now (outputs .entry); log = now (log .entry); entries = entries }))) ⌝ }
 {
     if by_table {
-        control::step(
-            control::control_of(w),
-            w,
-            state,
-            memory,
-            inputs,
-            outputs,
-            log,
-            entries,
-        )
+        control::step(control, w, state, memory, inputs, outputs, log, entries)
     } else {
         rules::step(w, state, memory, inputs, outputs, log, entries)
     }
@@ -93,13 +88,15 @@ fn run_accepted(
     requires { ⌜ CanRun start (now program) (now memory) (now inputs) (now outputs) budget ⌝ }
     ensures { λ r. ⌜ _≡_ {A = Left} (record { reply = shownAnswer (r .answer); state = r .state; D = now (memory .exit); I = now (inputs .exit); O = now (outputs .exit); log = now (log .exit) }) (acceptedLeft (record { state = start; P = now (program .entry); D = now (memory .entry); I = now (inputs .entry); O = now (outputs .entry); budget = budget; log = now (log .entry) })) ⌝ }
 {
+    let words = control::control_table();
     let mut state = start;
     let mut steps: u32 = 0;
     let mut entries: usize = 0;
     while steps < budget {
         let w = bus::load_word(program, Address(state.pc));
+        let control = control::control_of(&words, w);
         let full = log.len() <= entries;
-        let stop = stop_before(by_table, w, state, full);
+        let stop = stop_before(by_table, control, w, state, full);
         if stop != 0 {
             return Ran {
                 state,
@@ -110,7 +107,17 @@ fn run_accepted(
                 }),
             };
         }
-        let done = step(by_table, w, state, memory, inputs, outputs, log, entries);
+        let done = step(
+            by_table,
+            control,
+            w,
+            state,
+            memory,
+            inputs,
+            outputs,
+            log,
+            entries,
+        );
         state = done.state;
         entries = done.entries;
         steps = steps + 1;

@@ -7,22 +7,19 @@ use Rattle.engine.proofs.step.Tie as tie
 
 step-requires : tie.Need-step-requires
 step-requires c κs =
-    let k = c .before .before .before .before in
-    let a = k .before .before .before .before .before .before in
-    ready-by-table (a .args .w) (k .control-of .ensures) (a .pre .1)
+    let a = c .before .before .before .before .before .before .before .before .before in
+    ready-by-table (a .args .w) (a .pre .0) (a .pre .1 .1)
 
 returns : tie.Need-returns
 returns c =
     let r = c .before .before .before .before .before .before .before .before in
-    let k = r .before .before .before .before .before in
-    let a = k .before .before .before .before .before .before in
-    step-by-table (a .args .w) (k .control-of .ensures) (a .pre .0) (r .step .ensures)
+    let a = r .before .before .before .before .before .before .before .before .before .before in
+    step-by-table (a .args .w) (a .pre .0) (a .pre .1 .0) (r .step .ensures)
 
 pub step-spec : {M : Type 1} → statement M
 step-spec =
     tie.close
     (tie.spec
-    (λ c κs. search needs)
     step-requires
     (λ c κs. search needs)
     (λ c. search needs)
