@@ -1,10 +1,10 @@
 /* The SISA trim processor: loading a trim, running it by the rules or by the control table, and reading and writing
    one instruction. Link libsisa.a (rt staticlib sisa).
 
-   A slice is passed as a pointer and the number of its elements. A pointer is never null, also where the number is 0,
-   and no two slices of a call overlap. Beyond that every value of every argument is allowed. A memory is 65,536 bytes, an array of
-   ports 256 words; any other length is refused with 1. A refusal is its number in document 01's table, 0 where the call
-   was accepted; a refused call changes nothing lent. Fields that a case does not speak of are 0. */
+   A slice is passed as a pointer and the number of its elements. A pointer is never null, also where the number is 0, and
+   no two slices of a call overlap. Beyond that every value of every argument is allowed. A memory is 65,536 bytes, an array
+   of ports 256 words; any other length is refused with 1. A refusal is its number in the refusal table of document 01, 0
+   where the call was accepted; a refused call changes nothing lent. Fields that a case does not speak of are 0. */
 #ifndef SISA_H
 #define SISA_H
 

@@ -19,4 +19,6 @@ contracts =
       run-by-rules = λ κs a r s. (λ h. h, λ h. h);
       run-by-table-asks = λ κs a. tt;
       run-by-table = λ κs a r s. (λ h. h, λ h. h);
+      report-asks = λ κs a. tt;
+      report = λ κs a r s. (λ h. h, λ h. h);
     }

@@ -8,18 +8,18 @@ use Rattle.engine.specs.Runs.{Left, runLeft}
 use Rattle.claims.specs.Session.{by-rules, by-table, Lent, Call, runs, sets, Reply, ran, set, plain, Alike, Host, givenTo, afterRun, afterSet, Does, a-run, a-setting, Calls, none, more}
 use Rattle.claims.proofs.Together.{both}
 
-abbrev ranOn : Host → Lent → Left
+abbrev pub ranOn : Host → Lent → Left
 ranOn h lent = runLeft (givenTo h lent)
 
-abbrev setOn : Host → ℕ → ℕ → SetLeft
+abbrev pub setOn : Host → ℕ → ℕ → SetLeft
 setOn h port value = setLeft (record { I = h .I; port = port; value = value })
 
 -- what a call replies and leaves
-abbrev replyTo : Host → Call → Reply
+abbrev pub replyTo : Host → Call → Reply
 replyTo h (runs e lent) = ran (ranOn h lent .reply) (ranOn h lent .log)
 replyTo h (sets port value) = set (setOn h port value .reply)
 
-abbrev callOn : Host → Call → Host
+abbrev pub callOn : Host → Call → Host
 callOn h (runs e lent) = afterRun h (ranOn h lent)
 callOn h (sets port value) = afterSet h (setOn h port value)
 
@@ -54,7 +54,7 @@ same ds₁ ds₂ e =
     let u = calls-decided ds₂ in
     (cc, cc)
 
-does-exists : (h : Host) (c : Call) → Does h c (replyTo h c) (callOn h c)
+pub does-exists : (h : Host) (c : Call) → Does h c (replyTo h c) (callOn h c)
 does-exists h (runs by-rules lent) = a-run h by-rules lent (ranOn h lent) refl
 does-exists h (runs by-table lent) = a-run h by-table lent (ranOn h lent) refl
 does-exists h (sets port value) = a-setting h port value (setOn h port value) refl

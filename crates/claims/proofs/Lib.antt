@@ -5,6 +5,8 @@ pub mod Computed
 pub mod Contracts
 pub mod Decided
 pub mod Decides
+pub mod Exports
+pub mod HostSteps
 pub mod Instructions
 pub mod Lengths
 pub mod Marked

@@ -8,6 +8,7 @@ use Rattle.machine.specs.Calls.{SetLeft, shownSetting, setLeft, windowOf}
 use Rattle.isa.specs.Instructions.{shownReading, readOf, shownWriting, writeOf}
 use Rattle.image.specs.Image.{LoadLeft, shownLoading, loadLeft}
 use Rattle.engine.specs.Runs.{shownAnswer, RunMeets}
+use Rattle.report.specs.Printed.{held, printed}
 use Rattle.isa.proofs.read.Reads as read
 use Rattle.isa.proofs.write.Reads as write
 use Rattle.machine.proofs.set_input.Reads as set-input
@@ -15,6 +16,7 @@ use Rattle.machine.proofs.window.Reads as window
 use Rattle.image.proofs.load.Reads as load
 use Rattle.engine.proofs.run_by_rules.Reads as run-by-rules
 use Rattle.engine.proofs.run_by_table.Reads as run-by-table
+use Rattle.report.proofs.report.Reads as report
 
 pub record Contracts : Type 1 where
   -- read(w)
@@ -105,3 +107,6 @@ pub record Contracts : Type 1 where
         O = now (s .1 .1 .1 .1 .0);
         log = now (s .1 .1 .1 .1 .1 .1 .0);
       })
+  -- report(file)
+  pub report-asks : (κs : Lfts 1) (a : _) → report.Asked κs a
+  pub report : (κs : Lfts 1) (a : _) (r : _) (s : _) → report.Learnt κs a r s ↔ (r ≡ held (printed (now (a .0))))

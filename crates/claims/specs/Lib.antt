@@ -1,6 +1,8 @@
 pub mod Agreement
 pub mod Answers
 pub mod Contracts
+pub mod Exports
+pub mod HostSteps
 pub mod Instructions
 pub mod Marked
 pub mod Refusals

@@ -1,0 +1,293 @@
+/* The engines of libsisa.a beside a plain C interpreter (plain.c), in one process.
+
+   Time is the CPU time of this process, so that being scheduled out does not count. All engines are lent the same
+   buffers, which are made anew before each timed run (memory and inputs as the workload says, outputs and log zero), so
+   no page is touched for the first time while the clock runs. In a round each engine runs once, and the order rotates
+   from round to round; a ratio is of the two times of one round, and what is printed is the median over the rounds.
+   After every timed run its reply and all buffers are compared with those of the C interpreter: exit status 1 where
+   they differ, else 0, whatever the times are. */
+#include "plain.h"
+#include "sisa.h"
+#include "workloads.h"
+
+#include <stdio.h>
+#include <stdlib.h>
+#include <string.h>
+#include <time.h>
+
+enum {
+    ROUNDS = 15,
+    STEPS = 20000000,       /* of a run in the first table */
+    GROWTH_ROUNDS = 5,
+    GROWTH_STEPS = 100000000,
+    CALLS = 1000000,        /* with budget 1, in one timed repeat */
+    LATE_STEPS = 100000,    /* the end of the random program's run, where the addresses are counted */
+    RANDOM_SEED = 251,
+    ENGINES = 3,
+    C = 0,                  /* the engine that the others are compared with */
+};
+
+typedef SisaRun Run(SisaState, const uint8_t *, size_t, uint8_t *, size_t, uint16_t *, size_t, uint16_t *, size_t,
+                    uint32_t, uint64_t *, size_t);
+
+static const struct {
+    const char *name;
+    Run *run;
+} engines[ENGINES] = { { "C", plain_run }, { "rules", sisa_run_by_rules }, { "table", sisa_run_by_table } };
+
+/* The buffers that a run is lent, and what it replied. */
+typedef struct {
+    uint8_t memory[MEMORY_BYTES];
+    uint16_t inputs[PORTS];
+    uint16_t outputs[PORTS];
+    uint64_t *log;
+    size_t places;
+    SisaRun reply;
+} Lent;
+
+static Workload load;
+static Lent lent, expected;
+
+static double now(void)
+{
+    struct timespec t;
+    clock_gettime(CLOCK_PROCESS_CPUTIME_ID, &t);
+    return (double)t.tv_sec + 1e-9 * (double)t.tv_nsec;
+}
+
+static int ascending(const void *x, const void *y)
+{
+    double a = *(const double *)x, b = *(const double *)y;
+    return (a > b) - (a < b);
+}
+
+static double median(const double *times, int count)
+{
+    double sorted[ROUNDS];
+    memcpy(sorted, times, (size_t)count * sizeof *sorted);
+    qsort(sorted, (size_t)count, sizeof *sorted, ascending);
+    return sorted[count / 2];
+}
+
+/* The median of the ratios to the time of C in the same round. */
+static double median_ratio(const double *times, const double *of_c, int count)
+{
+    double ratios[ROUNDS];
+    for (int i = 0; i < count; i++)
+        ratios[i] = times[i] / of_c[i];
+    return median(ratios, count);
+}
+
+static uint64_t *new_log(size_t places)
+{
+    uint64_t *log = calloc(places, sizeof *log);
+    if (log == NULL) {
+        fprintf(stderr, "no memory for the log\n");
+        exit(1);
+    }
+    return log;
+}
+
+static void clear(size_t places)
+{
+    memcpy(lent.memory, load.memory, sizeof lent.memory);
+    memcpy(lent.inputs, load.inputs, sizeof lent.inputs);
+    memset(lent.outputs, 0, sizeof lent.outputs);
+    memset(lent.log, 0, places * sizeof *lent.log);
+    lent.places = places;
+    lent.reply = (SisaRun){ .refusal = 0 };
+}
+
+static SisaRun run(int engine, SisaState state, uint32_t budget)
+{
+    return engines[engine].run(state, load.program, MEMORY_BYTES, lent.memory, MEMORY_BYTES, lent.inputs, PORTS,
+                               lent.outputs, PORTS, budget, lent.log, lent.places);
+}
+
+static void keep_as_expected(void)
+{
+    uint64_t *log = expected.log;
+    memcpy(log, lent.log, lent.places * sizeof *log);
+    expected = lent;
+    expected.log = log;
+}
+
+static int same_reply(const SisaRun *x, const SisaRun *y)
+{
+    return memcmp(x->state.r, y->state.r, sizeof x->state.r) == 0 && x->state.pc == y->state.pc
+        && x->state.n == y->state.n && x->refusal == y->refusal && x->stop == y->stop && x->steps == y->steps
+        && x->entries == y->entries;
+}
+
+/* Ends the program where what the engine left and replied differs from what is expected. */
+static void check(const char *engine)
+{
+    const char *what = NULL;
+    if (!same_reply(&lent.reply, &expected.reply))
+        what = "reply";
+    else if (memcmp(lent.memory, expected.memory, sizeof lent.memory) != 0)
+        what = "memory";
+    else if (memcmp(lent.inputs, expected.inputs, sizeof lent.inputs) != 0)
+        what = "inputs";
+    else if (memcmp(lent.outputs, expected.outputs, sizeof lent.outputs) != 0)
+        what = "outputs";
+    else if (memcmp(lent.log, expected.log, lent.places * sizeof *lent.log) != 0)
+        what = "log";
+    if (what == NULL)
+        return;
+    fprintf(stderr, "%s: %s and C differ in the %s\n", load.name, engine, what);
+    exit(1);
+}
+
+/* `calls` runs, each from a reset state, over buffers cleared before the first; the seconds that one took. */
+static double timed(int engine, uint32_t budget, int calls)
+{
+    static const SisaState reset;
+    clear(budget / STEPS_PER_OUT + 1);
+    double start = now();
+    for (int i = 0; i < calls; i++)
+        lent.reply = run(engine, reset, budget);
+    double end = now();
+    if (lent.reply.stop != 0 || lent.reply.steps != budget) {
+        fprintf(stderr, "%s: %s stopped early\n", load.name, engines[engine].name);
+        exit(1);
+    }
+    return (end - start) / calls;
+}
+
+/* The seconds of a run, for each engine and round. */
+static void measure(double times[ENGINES][ROUNDS], int rounds, uint32_t budget, int calls)
+{
+    timed(C, budget, calls);
+    keep_as_expected();
+    for (int round = 0; round < rounds; round++)
+        for (int k = 0; k < ENGINES; k++) {
+            int engine = (round + k) % ENGINES;
+            times[engine][round] = timed(engine, budget, calls);
+            check(engines[engine].name);
+        }
+}
+
+static void print_ratios(void)
+{
+    double times[ENGINES][ROUNDS];
+    measure(times, ROUNDS, STEPS, 1);
+    printf("%-18s", load.name);
+    for (int engine = 0; engine < ENGINES; engine++)
+        printf(" %9.2f", 1e9 * median(times[engine], ROUNDS) / STEPS);
+    for (int engine = 1; engine < ENGINES; engine++)
+        printf(" %9.2f", median_ratio(times[engine], times[C], ROUNDS));
+    printf("\n");
+    fflush(stdout);
+}
+
+/* How many addresses the last steps of the measured run visit: a program that fell into a short loop visits few. */
+static int late_addresses(void)
+{
+    static uint8_t visited[MEMORY_BYTES];
+    int count = 0;
+    clear(STEPS / STEPS_PER_OUT + 1);
+    SisaState state = run(C, (SisaState){ .n = 0 }, STEPS - LATE_STEPS).state;
+    for (int i = 0; i < LATE_STEPS; i++) {
+        count += !visited[state.pc];
+        visited[state.pc] = 1;
+        state = run(C, state, 1).state;
+    }
+    return count;
+}
+
+/* Calls with budget 1, each from the state that the one before returned. `engine` ENGINES is the host step, which changes
+   the state that the host holds. The log is filled from place 0 by each call. */
+static double timed_calls(int engine)
+{
+    SisaState state = { .n = 0 };
+    clear(64);
+    double start = now();
+    if (engine < ENGINES)
+        for (int i = 0; i < CALLS; i++)
+            state = run(engine, state, 1).state;
+    else
+        for (int i = 0; i < CALLS; i++)
+            sisa_host_step(&state, load.program, MEMORY_BYTES, lent.memory, MEMORY_BYTES, lent.inputs, PORTS,
+                           lent.outputs, PORTS, lent.log, lent.places);
+    double end = now();
+    lent.reply.state = state;
+    return (end - start) / CALLS;
+}
+
+static void print_call_costs(void)
+{
+    enum { KINDS = ENGINES + 1 };
+    static const char *const names[KINDS] = { "C", "rules", "table", "host step" };
+    double times[KINDS][ROUNDS];
+    timed_calls(C);
+    keep_as_expected();
+    for (int round = 0; round < ROUNDS; round++)
+        for (int k = 0; k < KINDS; k++) {
+            int kind = (round + k) % KINDS;
+            times[kind][round] = timed_calls(kind);
+            check(names[kind]);
+        }
+    printf("\nA call with budget 1 (%s, %d rounds of %d calls)\n", load.name, ROUNDS, CALLS);
+    printf("%-18s %9s %11s\n", "", "ns/call", "ratio to C");
+    for (int kind = 0; kind < KINDS; kind++)
+        printf("%-18s %9.2f %11.2f\n", names[kind], 1e9 * median(times[kind], ROUNDS),
+               median_ratio(times[kind], times[C], ROUNDS));
+    fflush(stdout);
+}
+
+/* Short runs are repeated, so that a timed stretch has a million steps or more. */
+static void print_growth(void)
+{
+    double times[ENGINES][ROUNDS];
+    printf("\nTime of a run by its steps (%s, median of %d)\n", load.name, GROWTH_ROUNDS);
+    printf("%-12s %35s %29s\n%-12s", "", "microseconds", "ns/step", "steps");
+    for (int i = 0; i < 2 * ENGINES; i++)
+        printf(" %*s", i < ENGINES ? 11 : 9, engines[i % ENGINES].name);
+    printf("\n");
+    for (uint32_t steps = 1; steps <= GROWTH_STEPS; steps *= 10) {
+        measure(times, GROWTH_ROUNDS, steps, steps < 1000000 ? (int)(1000000 / steps) : 1);
+        printf("%-12u", steps);
+        for (int engine = 0; engine < ENGINES; engine++)
+            printf(" %11.3f", 1e6 * median(times[engine], GROWTH_ROUNDS));
+        for (int engine = 0; engine < ENGINES; engine++)
+            printf(" %9.2f", 1e9 * median(times[engine], GROWTH_ROUNDS) / steps);
+        printf("\n");
+        fflush(stdout);
+    }
+}
+
+static void print_cpu(void)
+{
+    char line[256];
+    FILE *info = fopen("/proc/cpuinfo", "r");
+    if (info == NULL)
+        return;
+    while (fgets(line, sizeof line, info) != NULL)
+        if (strncmp(line, "model name", 10) == 0) {
+            printf("CPU%s", strchr(line, ':'));
+            break;
+        }
+    fclose(info);
+}
+
+int main(void)
+{
+    static void (*const fixed[])(Workload *) = { alu_loop, loads_and_stores, mix };
+    lent.log = new_log(GROWTH_STEPS / STEPS_PER_OUT + 1);
+    expected.log = new_log(GROWTH_STEPS / STEPS_PER_OUT + 1);
+    print_cpu();
+    printf("Runs of %d steps, %d rounds: median ns/step, and median of the ratios in a round\n", STEPS, ROUNDS);
+    printf("%-18s %9s %9s %9s %9s %9s\n", "", "C", "rules", "table", "rules/C", "table/C");
+    for (size_t i = 0; i < sizeof fixed / sizeof *fixed; i++) {
+        fixed[i](&load);
+        print_ratios();
+    }
+    random_program(&load, RANDOM_SEED);
+    print_ratios();
+    printf("(seed %d; its last %d steps visit %d addresses)\n", RANDOM_SEED, LATE_STEPS, late_addresses());
+    mix(&load);
+    print_call_costs();
+    print_growth();
+    return 0;
+}

@@ -1,0 +1,32 @@
+#ifndef WORKLOADS_H
+#define WORKLOADS_H
+
+#include <stddef.h>
+#include <stdint.h>
+
+enum { MEMORY_BYTES = 65536, PORTS = 256, STEPS_PER_OUT = 16 };
+
+/* What a measured run starts from, beside a reset state and outputs of 0. None of the programs ends by itself, and none
+   does an OUT more often than once in STEPS_PER_OUT steps. */
+typedef struct {
+    const char *name;
+    uint8_t program[MEMORY_BYTES];
+    uint8_t memory[MEMORY_BYTES];
+    uint16_t inputs[PORTS];
+} Workload;
+
+/* Adds, subtracts and bitwise operations on registers, closed by a branch that is always taken. */
+void alu_loop(Workload *load);
+
+/* LD, ST, LDB and STB at an address that walks through the whole memory. */
+void loads_and_stores(Workload *load);
+
+/* Shifts, compares, branches that depend on data, a subroutine by JALR, IN and OUT. */
+void mix(Workload *load);
+
+/* 32,768 random assigned words, data bytes and inputs, all decided by the seed (not 0). The 25 kinds are alike in number
+   but for JALR, which is 64 times rarer, and branches go forward: a program without these two limits soon stays in a
+   short loop. */
+void random_program(Workload *load, uint32_t seed);
+
+#endif

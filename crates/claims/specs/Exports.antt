@@ -1,0 +1,107 @@
+-- What the check itself reads in the contracts of the C interface, as specs/Contracts.antt has it for the functions below it.
+-- sisa_host_step takes the state by reference and has no such reading; specs/HostSteps.antt has its relation.
+use contract.Lifetimes.{Lfts}
+use denote.Ref.{now}
+use mathlib.Core.Bool.{not}
+use mathlib.Core.Logic.{_↔_}
+use mathlib.Core.Path.{_≡_}
+use lib.Dec.{eqb}
+use Rattle.machine.specs.Calls.{windowOf}
+use Rattle.isa.specs.Instructions.{readOf}
+use Rattle.sisa.specs.Sisa.{SisaLoadLeft, sisaLoadLeft, SisaSetLeft, sisaSetLeft, SisaRunMeets, sisaInstruction, sisaWrite, sisaWindow, chosen, bytesOf}
+use Rattle.sisa.proofs.sisa_load.Reads as load
+use Rattle.sisa.proofs.sisa_set_input.Reads as set-input
+use Rattle.sisa.proofs.sisa_run_by_rules.Reads as run-by-rules
+use Rattle.sisa.proofs.sisa_run_by_table.Reads as run-by-table
+use Rattle.sisa.proofs.sisa_read.Reads as read
+use Rattle.sisa.proofs.sisa_write.Reads as write
+use Rattle.sisa.proofs.sisa_window.Reads as window
+
+pub record Exports : Type 1 where
+  -- sisa_load(file, program, memory, inputs, outputs)
+  pub load-asks : (κs : Lfts 5) (a : _) → load.Asked κs a
+  pub load :
+      (κs : Lfts 5) (a : _) (r : _) (s : _)
+      → load.Learnt κs a r s
+      ↔ (_≡_ {A = SisaLoadLeft}
+      (record {
+        reply = r;
+        P = now (s .1 .0);
+        D = now (s .1 .1 .0);
+        I = now (s .1 .1 .1 .0);
+        O = now (s .1 .1 .1 .1 .0);
+      })
+      (sisaLoadLeft
+      (record {
+        file = now (a .0);
+        P = now (a .1 .0);
+        D = now (a .1 .1 .0);
+        I = now (a .1 .1 .1 .0);
+        O = now (a .1 .1 .1 .1 .0);
+      })))
+  -- sisa_set_input(inputs, port, value)
+  pub set-input-asks : (κs : Lfts 1) (a : _) → set-input.Asked κs a
+  pub set-input :
+      (κs : Lfts 1) (a : _) (r : _) (s : _)
+      → set-input.Learnt κs a r s
+      ↔ (_≡_ {A = SisaSetLeft} (record { refusal = r; I = now (s .0) }) (sisaSetLeft (record { I = now (a .0); port = a .1 .0; value = a .1 .1 .0 })))
+  -- sisa_run_by_rules(state, program, memory, inputs, outputs, budget, log)
+  pub run-by-rules-asks : (κs : Lfts 5) (a : _) → run-by-rules.Asked κs a
+  pub run-by-rules :
+      (κs : Lfts 5) (a : _) (r : _) (s : _)
+      → run-by-rules.Learnt κs a r s
+      ↔ SisaRunMeets
+      (record {
+        state = a .0;
+        P = now (a .1 .0);
+        D = now (a .1 .1 .0);
+        I = now (a .1 .1 .1 .0);
+        O = now (a .1 .1 .1 .1 .0);
+        budget = a .1 .1 .1 .1 .1 .0;
+        log = now (a .1 .1 .1 .1 .1 .1 .0);
+      })
+      (record {
+        reply = r;
+        D = now (s .1 .1 .0);
+        I = now (s .1 .1 .1 .0);
+        O = now (s .1 .1 .1 .1 .0);
+        log = now (s .1 .1 .1 .1 .1 .1 .0);
+      })
+  -- sisa_run_by_table(state, program, memory, inputs, outputs, budget, log)
+  pub run-by-table-asks : (κs : Lfts 5) (a : _) → run-by-table.Asked κs a
+  pub run-by-table :
+      (κs : Lfts 5) (a : _) (r : _) (s : _)
+      → run-by-table.Learnt κs a r s
+      ↔ SisaRunMeets
+      (record {
+        state = a .0;
+        P = now (a .1 .0);
+        D = now (a .1 .1 .0);
+        I = now (a .1 .1 .1 .0);
+        O = now (a .1 .1 .1 .1 .0);
+        budget = a .1 .1 .1 .1 .1 .0;
+        log = now (a .1 .1 .1 .1 .1 .1 .0);
+      })
+      (record {
+        reply = r;
+        D = now (s .1 .1 .0);
+        I = now (s .1 .1 .1 .0);
+        O = now (s .1 .1 .1 .1 .0);
+        log = now (s .1 .1 .1 .1 .1 .1 .0);
+      })
+  -- sisa_read(word)
+  pub read-asks : (κs : Lfts 0) (a : _) → read.Asked κs a
+  pub read : (κs : Lfts 0) (a : _) (r : _) (s : _) → read.Learnt κs a r s ↔ (r ≡ sisaInstruction (readOf (a .0)))
+  -- sisa_write(kind, a, b, d, n)
+  pub write-asks : (κs : Lfts 0) (a : _) → write.Asked κs a
+  pub write :
+      (κs : Lfts 0) (a : _) (r : _) (s : _)
+      → write.Learnt κs a r s ↔ (r ≡ sisaWrite (a .0) (a .1 .0) (a .1 .1 .0) (a .1 .1 .1 .0) (a .1 .1 .1 .1 .0))
+  -- sisa_window(program, memory, of_data, start, count)
+  pub window-asks : (κs : Lfts 1) (a : _) → window.Asked κs a
+  pub window :
+      (κs : Lfts 1) (a : _) (r : _) (s : _)
+      → window.Learnt κs a r s
+      ↔ ((r ≡ sisaWindow (chosen (a .1 .1 .0) (now (a .0)) (now (a .1 .0))) (a .1 .1 .1 .0) (a .1 .1 .1 .1 .0))
+      × (bytesOf r (chosen (a .1 .1 .0) (now (a .0)) (now (a .1 .0)))
+      ≡ windowOf (now (a .0)) (now (a .1 .0)) (not (eqb (a .1 .1 .0) 0)) (a .1 .1 .1 .0) (a .1 .1 .1 .1 .0)))

@@ -1,0 +1,28 @@
+-- The text is a part of its array.
+-- Assumes nothing.
+use mathlib.Core.Path.{sym}
+use lib.Seq.{length-take-le}
+use borrow.Author.Needs.{needs}
+use Rattle.report.proofs.Writing.{count-fits}
+use Rattle.panelrun.proofs.main.Statement.{statement}
+use Rattle.panelrun.proofs.main.Tie as tie
+
+array-share-prefix-bytes : tie.Need-array-share-prefix-bytes
+array-share-prefix-bytes c = count-fits _ (c .before .report .ensures)
+
+slice-aggregate-write-all : tie.Need-slice-aggregate-write-all
+slice-aggregate-write-all c = sym (length-take-le _ _ (count-fits _ (c .before .before .report .ensures)))
+
+pub main-spec : {M : Type 1} → statement M
+main-spec =
+    tie.close
+    (tie.spec
+    (λ c. search needs)
+    (λ c κs. search needs)
+    (λ c. search needs)
+    (λ c. search needs)
+    (λ c κs. search needs)
+    array-share-prefix-bytes
+    slice-aggregate-write-all
+    (λ c κs. search needs)
+    (λ c. search needs))

@@ -1,0 +1,31 @@
+-- What a file prints: by its length, then by the load's reply.
+-- Assumes nothing.
+use Prim.Native.Nat.{ℕ, _≤_, _<_}
+use mathlib.Core.Path.{_≡_, sym, ap, _∙_}
+use mathlib.Core.List.{List}
+use lib.ListN.{length, replicate}
+use borrow.Author.Tests.{le-leb, lt-leb}
+use Rattle.image.specs.Image.{LoadLeft, LoadReply, accepted, refused, loadLeft}
+use Rattle.engine.specs.Runs.{runLeft}
+use Rattle.report.specs.declared.Printed.{Printed}
+use Rattle.report.specs.Printed.{refusedLine, ranLines, loadedBy, printed, held}
+
+pub too-long : (file : List ℕ) {r : Printed} → 65536 < length file → r ≡ held (refusedLine 8) → r ≡ held (printed file)
+unfolding printed
+too-long file h e = rw (lt-leb (length file) 65536 h) e
+
+module _ (file : List ℕ) {l : LoadLeft} (h : length file ≤ 65536)
+    (e : l ≡ loadLeft (record { file = file; P = replicate 65536 0; D = replicate 65536 0; I = replicate 256 0; O = replicate 256 0 })) where
+  loaded : {reply : LoadReply} {r : Printed} → l .reply ≡ reply → r ≡ held (loadedBy reply l) → r ≡ held (printed file)
+  unfolding printed
+  loaded k p =
+      rw (le-leb (length file) 65536 h)
+      (p ∙ ap (λ reply. held (loadedBy reply l)) (sym k) ∙ ap (λ (x : LoadLeft). held (loadedBy (x .reply) x)) e)
+
+  pub accepted-lines : {r : Printed} → l .reply ≡ accepted
+      → r ≡ held (ranLines (runLeft (record { state = l .state; P = l .P; D = l .D; I = l .I; O = l .O; budget = 1000; log = replicate 64 0 })))
+      → r ≡ held (printed file)
+  accepted-lines k p = loaded k p
+
+  pub refused-lines : {number : ℕ} {r : Printed} → l .reply ≡ refused number → r ≡ held (refusedLine number) → r ≡ held (printed file)
+  refused-lines k p = loaded k p

@@ -1,0 +1,10 @@
+-- A space and the register.
+-- Assumes nothing.
+use borrow.Author.Needs.{needs}
+use Rattle.report.proofs.Writing.{_then_}
+use Rattle.report.proofs.lines.with_register.Statement.{statement}
+use Rattle.report.proofs.lines.with_register.Tie as tie
+
+pub with-register-spec : {M : Type 1} → statement M
+with-register-spec =
+    tie.close (tie.spec (λ c κs. search needs) (λ c κs. search needs) (λ c. c .before .with-byte .ensures then c .with-hex .ensures))

@@ -1,0 +1,74 @@
+// What the program `panelrun` prints for a trim file: the file is loaded and run by the control table.
+ghost use mathlib.Core.Path.{_≡_};
+ghost use lib.ListN.{replicate};
+ghost use Rattle.engine.specs.Runs.{runLeft};
+ghost use Rattle.report.specs.Printed.{ranLines, printed, held};
+use engine::Answer;
+use image::Loading;
+use machine::State;
+use refusal::Refusal;
+
+mod lines;
+mod text;
+
+// More than the longest report has.
+pub const CAPACITY: usize = 4096;
+
+// A text: its bytes stand before count, zeros after them.
+pub struct Printed {
+    pub bytes: [u8; CAPACITY],
+    pub count: usize,
+}
+
+const FILE_BYTES: usize = 65536;
+
+const BUDGET: u32 = 1000;
+
+const LOG_PLACES: usize = 64;
+
+// The run of what a load left.
+fn run_loaded(
+    state: State,
+    program: &[u8],
+    memory: &mut [u8],
+    inputs: &mut [u16],
+    outputs: &mut [u16],
+) -> Printed
+    ensures { λ r. ⌜ r ≡ held (ranLines (runLeft (record { state = state; P = now (program .entry); D = now (memory .entry); I = now (inputs .entry); O = now (outputs .entry); budget = 1000; log = replicate 64 0 }))) ⌝ }
+{
+    let mut log = [0u64; LOG_PLACES];
+    let ran = engine::run_by_table(state, program, memory, inputs, outputs, BUDGET, &mut log);
+    let answer = ran.answer;
+    match answer {
+        Answer::Stopped(report) => {
+            let entries = report.entries;
+            lines::stopped(report, &log[..entries], ran.state)
+        }
+        Answer::Refused(refusal) => lines::refused(refusal),
+    }
+}
+
+// The report of a file: the lines of its run with inputs zero, or the line of the refusal.
+pub fn report(file: &[u8]) -> Printed
+    ensures { λ r. ⌜ r ≡ held (printed (now (file .entry))) ⌝ }
+{
+    if FILE_BYTES < file.len() {
+        return lines::refused(Refusal::LongFile);
+    }
+    let mut program = [0u8; State::MEMORY_BYTES];
+    let mut memory = [0u8; State::MEMORY_BYTES];
+    let mut inputs = [0u16; State::PORTS];
+    let mut outputs = [0u16; State::PORTS];
+    let loaded = image::load(file, &mut program, &mut memory, &mut inputs, &mut outputs);
+    let reply = loaded.reply;
+    match reply {
+        Loading::Accepted => run_loaded(
+            loaded.state,
+            &program,
+            &mut memory,
+            &mut inputs,
+            &mut outputs,
+        ),
+        Loading::Refused(refusal) => lines::refused(refusal),
+    }
+}

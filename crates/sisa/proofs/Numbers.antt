@@ -1,0 +1,58 @@
+-- A call's contract, and its reply in numbers, make the contract of the function of sisa.h.
+-- Assumes nothing.
+use Prim.Native.Nat.{ℕ, _<_, _≤_}
+use mathlib.Core.List.{List}
+use mathlib.Core.Path.{_≡_, sym, _∙_, ap}
+use borrow.Author.Tests.{le-leb, lt-leb}
+use lib.IntN.{ℤ}
+use lib.ListN.{getD}
+use Rattle.isa.specs.declared.Kind.{Kind}
+use Rattle.isa.specs.declared.Kind.the-variants.{And}
+use Rattle.isa.specs.Sheet.{kinds, kindNumber}
+use Rattle.isa.specs.Instructions.{Written, writeOf}
+use Rattle.isa.proofs.Every.{listed}
+use Rattle.machine.specs.declared.State.{State}
+use Rattle.machine.specs.Calls.{SetReply, SetGiven, SetLeft, setLeft}
+use Rattle.image.specs.Image.{LoadReply, LoadGiven, LoadLeft, loadLeft}
+use Rattle.engine.specs.Runs.{Given, RunReply, RunMeets}
+use Rattle.sisa.specs.declared.SisaLoad.{SisaLoad}
+use Rattle.sisa.specs.declared.SisaRun.{SisaRun}
+use Rattle.sisa.specs.declared.SisaWord.{SisaWord}
+use Rattle.sisa.specs.Sisa.{sisaLoad, SisaLoadLeft, loadInNumbers, sisaLoadLeft, setNumber, SisaSetLeft, setInNumbers, sisaSetLeft, sisaRun, runInNumbers, sisaRunLeft, SisaRunMeets, sisaWord, sisaWrite}
+
+pub load-meets : (g : LoadGiven) {reply : LoadReply} {state : State} {P D I O : List ℕ} {r : SisaLoad}
+    → _≡_ {A = LoadLeft} (record { reply = reply; state = state; P = P; D = D; I = I; O = O }) (loadLeft g)
+    → r ≡ sisaLoad reply state
+    → _≡_ {A = SisaLoadLeft} (record { reply = r; P = P; D = D; I = I; O = O }) (sisaLoadLeft g)
+unfolding sisaLoadLeft
+load-meets g e h = rw h (ap loadInNumbers e)
+
+pub set-meets : (g : SetGiven) {reply : SetReply} {I : List ℕ} {r : ℕ}
+    → _≡_ {A = SetLeft} (record { reply = reply; I = I }) (setLeft g)
+    → r ≡ setNumber reply
+    → _≡_ {A = SisaSetLeft} (record { refusal = r; I = I }) (sisaSetLeft g)
+unfolding sisaSetLeft
+set-meets g e h = rw h (ap setInNumbers e)
+
+pub run-meets : (g : Given) {reply : RunReply} {state : State} {D I O log : List ℕ} {r : SisaRun}
+    → RunMeets g (record { reply = reply; state = state; D = D; I = I; O = O; log = log })
+    → r ≡ sisaRun reply state
+    → SisaRunMeets g (record { reply = r; D = D; I = I; O = O; log = log })
+unfolding sisaRunLeft
+run-meets g e h = rw h (ap runInNumbers e)
+
+pub write-refused : (kind a b d : ℕ) (n : ℤ) {k : ℕ} → 24 < kind → k ≡ 7 → record { refusal = k; word = 0 } ≡ sisaWrite kind a b d n
+unfolding sisaWrite
+write-refused kind a b d n h e = rw (e, lt-leb _ _ h)
+
+-- k and m are the kind and the number as `isa::write` is handed them
+pub write-meets : (kind a b d : ℕ) (n : ℤ) (k : Kind) (m : ℤ) {written : Written} {r : SisaWord} → kind ≤ 24
+    → kindNumber k ≡ kind
+    → m ≡ n
+    → written ≡ writeOf (record { kind = k; a = a; b = b; d = d; n = m })
+    → r ≡ sisaWord written
+    → r ≡ sisaWrite kind a b d n
+unfolding sisaWrite
+write-meets kind a b d n k m h e f w s =
+    let same : k ≡ getD kinds kind And = sym (listed k .1) ∙ ap (λ (i : ℕ). getD kinds i And) e in
+    rw (le-leb _ _ h) (s ∙ ap sisaWord (w ∙ λ j. writeOf (record { kind = same j; a = a; b = b; d = d; n = f j })))

@@ -1,0 +1,37 @@
+-- By the case of the enum.
+-- Assumes nothing.
+use Prim.Native.Nat.{ℕ}
+use mathlib.Core.Path.{_≡_, sym, _∙_, ap}
+use lib.IntN.{ℤ}
+use mir.Syntax.{w16}
+use mir.Val.{toZ, ofZ}
+use borrow.Author.Needs.{needs}
+use Rattle.isa.specs.declared.Reading.{Reading}
+use Rattle.isa.specs.declared.Instruction.{Instruction}
+use Rattle.isa.specs.Sheet.{kindNumber}
+use Rattle.isa.specs.Instructions.{instruction, shownReading}
+use Rattle.sisa.specs.Sisa.{sisaInstruction}
+use Rattle.sisa.proofs.replies.instruction.Statement.{statement}
+use Rattle.sisa.proofs.replies.instruction.Tie as tie
+
+in-numbers : (i : Instruction) {k : ℕ} {n : ℤ} → k ≡ kindNumber (i .kind) → n ≡ i .n
+    → record { assigned = 1; kind = k; a = i .a; b = i .b; d = i .d; n = n } ≡ sisaInstruction (instruction i)
+in-numbers i e m = cc
+
+-- the instruction that was read
+abbrev read-as : tie.After-struct-told → Instruction
+read-as c = c .before .before .before .reading .given .0 .0
+
+same-n : (c : tie.After-struct-told) → toZ w16 (ofZ w16 (read-as c .n)) ≡ read-as c .n
+same-n c = search needs
+
+returns : tie.Need-returns
+returns c =
+    in-numbers (read-as c) (c .before .kind-number .ensures) (same-n c)
+    ∙ sym (ap (λ (x : Reading). sisaInstruction (shownReading x)) (c .before .before .before .reading .given .1))
+
+returns-2 : tie.Need-returns-2
+returns-2 c = sym (ap (λ (x : Reading). sisaInstruction (shownReading x)) (c .enum-told .given .1))
+
+pub instruction-spec : {M : Type 1} → statement M
+instruction-spec = tie.close (tie.spec (λ c. search needs) (λ c κs. search needs) (λ c. search needs) returns returns-2)

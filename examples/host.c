@@ -1,0 +1,92 @@
+/* A host in C: loads a trim, sets three inputs, runs it and shows the corrections; then takes the first steps one by one.
+
+       gcc -O2 -Iinclude examples/host.c target/staticlib/libsisa.a -o target/host_c
+       target/host_c examples/gain.trim */
+#include "sisa.h"
+
+#include <stdio.h>
+
+enum { MEMORY_BYTES = 65536, PORTS = 256, LOG_PLACES = 64, BUDGET = 1000, HOST_STEPS = 5 };
+
+static uint8_t file[16 + 2 * MEMORY_BYTES], program[MEMORY_BYTES], memory[MEMORY_BYTES];
+static uint16_t inputs[PORTS], outputs[PORTS];
+static uint64_t port_log[LOG_PLACES];
+
+static void print_state(const char *title, const SisaState *state)
+{
+    printf("%s: pc %04X, n %u, r", title, state->pc, state->n);
+    for (int i = 0; i < 8; i++)
+        printf(" %04X", state->r[i]);
+    printf("\n");
+}
+
+/* Returns the file's length, or -1 where it can't be read or is longer than the buffer. */
+static long read_file(const char *path)
+{
+    FILE *trim = fopen(path, "rb");
+    if (trim == NULL)
+        return -1;
+    long length = (long)fread(file, 1, sizeof file, trim);
+    int whole = feof(trim) || fgetc(trim) == EOF;
+    fclose(trim);
+    return whole ? length : -1;
+}
+
+static void set_knobs(void)
+{
+    sisa_set_input(inputs, PORTS, 0, 500);
+    sisa_set_input(inputs, PORTS, 1, (uint16_t)-2);
+    sisa_set_input(inputs, PORTS, 2, 20);
+    printf("inputs: port 0 level 500, port 1 gain exponent -2, port 2 lift 20\n");
+}
+
+/* An entry of the log is n before the step, the port and the value, from the high bits to the low. An output port holds
+   the value last written. */
+static void print_corrections(uint64_t entries)
+{
+    for (uint64_t i = 0; i < entries; i++) {
+        unsigned n = (unsigned)(port_log[i] >> 24), port = port_log[i] >> 16 & 255, value = port_log[i] & 65535;
+        printf("log: n %u, port %u, value %u; the output now holds %u\n", n, port, value, outputs[port]);
+    }
+}
+
+/* Each step is a run by the table with budget 1, over the state held here. Memory and ports are as the run left them. */
+static void step_by_step(SisaState state)
+{
+    for (int i = 0; i < HOST_STEPS; i++) {
+        SisaAnswer answer = sisa_host_step(&state, program, sizeof program, memory, sizeof memory, inputs, PORTS,
+                                           outputs, PORTS, port_log, LOG_PLACES);
+        if (answer.steps == 0) {
+            printf("no step: refusal %u, stop %u\n", answer.refusal, answer.stop);
+            return;
+        }
+        print_state("host step", &state);
+    }
+}
+
+int main(int argc, char **argv)
+{
+    long length = argc == 2 ? read_file(argv[1]) : -1;
+    if (length < 0) {
+        fprintf(stderr, "usage: %s FILE.trim, of at most %zu bytes\n", argv[0], sizeof file);
+        return 2;
+    }
+    SisaLoad loaded = sisa_load(file, (size_t)length, program, sizeof program, memory, sizeof memory, inputs, PORTS,
+                                outputs, PORTS);
+    if (loaded.refusal != 0) {
+        printf("refused: %u\n", loaded.refusal);
+        return 1;
+    }
+    set_knobs();
+    SisaRun run = sisa_run_by_rules(loaded.state, program, sizeof program, memory, sizeof memory, inputs, PORTS,
+                                    outputs, PORTS, BUDGET, port_log, LOG_PLACES);
+    if (run.refusal != 0) {
+        printf("refused: %u\n", run.refusal);
+        return 1;
+    }
+    printf("run by the rules: stop %u, steps %u, entries %u\n", run.stop, run.steps, (unsigned)run.entries);
+    print_corrections(run.entries);
+    print_state("state", &run.state);
+    step_by_step(loaded.state);
+    return 0;
+}

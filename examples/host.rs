@@ -1,0 +1,255 @@
+//! A host in Rust: loads a trim, sets three inputs, runs it and shows the corrections; then takes the first steps one by
+//! one. It prints what host.c prints.
+//!
+//!     rustc --edition 2021 -O examples/host.rs -L target/staticlib -l static=sisa -o target/host_rs
+//!     target/host_rs examples/gain.trim
+
+use std::process::ExitCode;
+
+/// The C interface of libsisa.a, as far as it is used here (include/sisa.h).
+mod ffi {
+    #[repr(C)]
+    #[derive(Clone, Copy)]
+    pub struct State {
+        pub r: [u16; 8],
+        pub pc: u16,
+        pub n: u32,
+    }
+
+    #[repr(C)]
+    pub struct Load {
+        pub state: State,
+        pub refusal: u8,
+    }
+
+    #[repr(C)]
+    pub struct Run {
+        pub state: State,
+        pub refusal: u8,
+        pub stop: u8,
+        pub steps: u32,
+        pub entries: u64,
+    }
+
+    #[repr(C)]
+    pub struct Answer {
+        pub refusal: u8,
+        pub stop: u8,
+        pub steps: u32,
+        pub entries: u64,
+    }
+
+    #[rustfmt::skip]
+    unsafe extern "C" {
+        pub fn sisa_load(
+            file: *const u8, file_len: usize, program: *mut u8, program_len: usize, memory: *mut u8, memory_len: usize,
+            inputs: *mut u16, inputs_len: usize, outputs: *mut u16, outputs_len: usize,
+        ) -> Load;
+        pub fn sisa_set_input(inputs: *mut u16, inputs_len: usize, port: u8, value: u16) -> u8;
+        pub fn sisa_run_by_rules(
+            state: State, program: *const u8, program_len: usize, memory: *mut u8, memory_len: usize,
+            inputs: *mut u16, inputs_len: usize, outputs: *mut u16, outputs_len: usize,
+            budget: u32, log: *mut u64, log_len: usize,
+        ) -> Run;
+        pub fn sisa_host_step(
+            state: *mut State, program: *const u8, program_len: usize, memory: *mut u8, memory_len: usize,
+            inputs: *mut u16, inputs_len: usize, outputs: *mut u16, outputs_len: usize,
+            log: *mut u64, log_len: usize,
+        ) -> Answer;
+    }
+}
+
+use ffi::State;
+
+const MEMORY_BYTES: usize = 65_536;
+const PORTS: usize = 256;
+
+/// A number of document 01's refusal table.
+#[derive(Debug)]
+struct Refusal(u8);
+
+/// Why a run stopped, its steps and the entries it wrote.
+struct Report {
+    stop: u8,
+    steps: u32,
+    entries: usize,
+}
+
+fn accepted<T>(refusal: u8, value: T) -> Result<T, Refusal> {
+    if refusal == 0 {
+        Ok(value)
+    } else {
+        Err(Refusal(refusal))
+    }
+}
+
+/// The registers, memories and ports of one machine.
+struct Machine {
+    state: State,
+    program: Vec<u8>,
+    memory: Vec<u8>,
+    inputs: Vec<u16>,
+    outputs: Vec<u16>,
+}
+
+impl Machine {
+    fn load(file: &[u8]) -> Result<Machine, Refusal> {
+        let (mut program, mut memory) = (vec![0; MEMORY_BYTES], vec![0; MEMORY_BYTES]);
+        let (mut inputs, mut outputs) = (vec![0; PORTS], vec![0; PORTS]);
+        // SAFETY: each pointer and length is of one slice, and no two slices overlap.
+        let reply = unsafe {
+            ffi::sisa_load(
+                file.as_ptr(),
+                file.len(),
+                program.as_mut_ptr(),
+                program.len(),
+                memory.as_mut_ptr(),
+                memory.len(),
+                inputs.as_mut_ptr(),
+                inputs.len(),
+                outputs.as_mut_ptr(),
+                outputs.len(),
+            )
+        };
+        accepted(
+            reply.refusal,
+            Machine {
+                state: reply.state,
+                program,
+                memory,
+                inputs,
+                outputs,
+            },
+        )
+    }
+
+    fn set_input(&mut self, port: u8, value: u16) -> Result<(), Refusal> {
+        // SAFETY: the pointer and the length are of one slice.
+        let refusal = unsafe {
+            ffi::sisa_set_input(self.inputs.as_mut_ptr(), self.inputs.len(), port, value)
+        };
+        accepted(refusal, ())
+    }
+
+    fn run_by_rules(&mut self, budget: u32, log: &mut [u64]) -> Result<Report, Refusal> {
+        // SAFETY: each pointer and length is of one slice, and no two slices overlap.
+        let reply = unsafe {
+            ffi::sisa_run_by_rules(
+                self.state,
+                self.program.as_ptr(),
+                self.program.len(),
+                self.memory.as_mut_ptr(),
+                self.memory.len(),
+                self.inputs.as_mut_ptr(),
+                self.inputs.len(),
+                self.outputs.as_mut_ptr(),
+                self.outputs.len(),
+                budget,
+                log.as_mut_ptr(),
+                log.len(),
+            )
+        };
+        self.state = reply.state;
+        accepted(
+            reply.refusal,
+            Report {
+                stop: reply.stop,
+                steps: reply.steps,
+                entries: reply.entries as usize,
+            },
+        )
+    }
+
+    /// A run by the table with budget 1.
+    fn host_step(&mut self, log: &mut [u64]) -> Result<Report, Refusal> {
+        // SAFETY: each pointer and length is of one slice, the state is a valid one, and none of them overlap.
+        let reply = unsafe {
+            ffi::sisa_host_step(
+                &mut self.state,
+                self.program.as_ptr(),
+                self.program.len(),
+                self.memory.as_mut_ptr(),
+                self.memory.len(),
+                self.inputs.as_mut_ptr(),
+                self.inputs.len(),
+                self.outputs.as_mut_ptr(),
+                self.outputs.len(),
+                log.as_mut_ptr(),
+                log.len(),
+            )
+        };
+        accepted(
+            reply.refusal,
+            Report {
+                stop: reply.stop,
+                steps: reply.steps,
+                entries: reply.entries as usize,
+            },
+        )
+    }
+
+    fn print(&self, title: &str) {
+        let State { r, pc, n } = self.state;
+        let registers: Vec<String> = r.iter().map(|x| format!("{x:04X}")).collect();
+        println!("{title}: pc {pc:04X}, n {n}, r {}", registers.join(" "));
+    }
+
+    /// An entry of the log is n before the step, the port and the value, from the high bits to the low. An output port
+    /// holds the value last written.
+    fn print_corrections(&self, log: &[u64]) {
+        for entry in log {
+            let (n, port, value) = (entry >> 24, (entry >> 16 & 255) as usize, entry & 65_535);
+            println!(
+                "log: n {n}, port {port}, value {value}; the output now holds {}",
+                self.outputs[port]
+            );
+        }
+    }
+}
+
+fn host(file: &[u8]) -> Result<(), Refusal> {
+    let mut log = [0; 64];
+    let mut machine = Machine::load(file)?;
+    let reset = machine.state;
+    machine.set_input(0, 500)?;
+    machine.set_input(1, -2_i16 as u16)?;
+    machine.set_input(2, 20)?;
+    println!("inputs: port 0 level 500, port 1 gain exponent -2, port 2 lift 20");
+
+    let run = machine.run_by_rules(1_000, &mut log)?;
+    println!(
+        "run by the rules: stop {}, steps {}, entries {}",
+        run.stop, run.steps, run.entries
+    );
+    machine.print_corrections(&log[..run.entries]);
+    machine.print("state");
+
+    // From a reset state again; memory and ports are as the run left them.
+    machine.state = reset;
+    for _ in 0..5 {
+        let step = machine.host_step(&mut log)?;
+        if step.steps == 0 {
+            println!("no step: refusal 0, stop {}", step.stop);
+            break;
+        }
+        machine.print("host step");
+    }
+    Ok(())
+}
+
+fn main() -> ExitCode {
+    let Some(file) = std::env::args()
+        .nth(1)
+        .and_then(|path| std::fs::read(path).ok())
+    else {
+        eprintln!("usage: host_rs FILE.trim");
+        return ExitCode::from(2);
+    };
+    match host(&file) {
+        Ok(()) => ExitCode::SUCCESS,
+        Err(Refusal(number)) => {
+            println!("refused: {number}");
+            ExitCode::FAILURE
+        }
+    }
+}
