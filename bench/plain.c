@@ -1,44 +1,37 @@
-/* The interpreter that the engines are measured against: one switch for each step, the registers in a local array, each
-   word fetched from the program's bytes. Every address is 16-bit, so none lies outside a memory of 65,536 bytes. */
+/* The interpreter that the engines are measured against: a switch on the opcode, for opcodes 0 and 1 one on f, the registers
+   in a local array, each word fetched from the program's bytes. */
+#include "interpreter.h"
 #include "plain.h"
 
 #include <string.h>
 
-enum { MEMORY_BYTES = 65536, PORTS = 256 };
-
-static inline uint16_t extend6(uint16_t w) { return (uint16_t)(((w & 63) ^ 32) - 32); }
-static inline uint16_t extend8(uint16_t w) { return (uint16_t)(int8_t)w; }
-
-/* The word at an address with bit 0 cleared. */
-static inline uint16_t load_word(const uint8_t *bytes, uint16_t address)
+/* Opcode 0 by f. */
+static inline uint16_t operate(unsigned f, uint16_t a, uint16_t b)
 {
-    const uint8_t *at = bytes + (address & 0xFFFE);
-    return (uint16_t)(at[0] | at[1] << 8);
+    switch (f) {
+    case 0: return a & b;
+    case 1: return a | b;
+    case 2: return a ^ b;
+    case 3: return (uint16_t)~a;
+    case 4: return (uint16_t)(a + b);
+    case 5: return (uint16_t)(a - b);
+    case 6: return shift((int16_t)a, b);
+    default: return shift(a, b);
+    }
 }
 
-static inline void store_word(uint8_t *bytes, uint16_t address, uint16_t v)
+/* Opcode 1 by f: 1 or 0, or -1 where f is unassigned. */
+static inline int compare(unsigned f, uint16_t a, uint16_t b)
 {
-    uint8_t *at = bytes + (address & 0xFFFE);
-    at[0] = (uint8_t)v;
-    at[1] = (uint8_t)(v >> 8);
+    switch (f) {
+    case 0: return (int16_t)a < (int16_t)b;
+    case 1: return (int16_t)a <= (int16_t)b;
+    case 3: return a == b;
+    case 4: return a < b;
+    case 5: return a <= b;
+    default: return -1;
+    }
 }
-
-/* x, of which the fill stands above bit 15, shifted by the low 5 bits of b read as signed. */
-static inline uint16_t shift(int32_t x, uint16_t b)
-{
-    int k = ((b & 31) ^ 16) - 16;
-    return (uint16_t)(k < 0 ? x >> -k : (int32_t)((uint32_t)x << k));
-}
-
-/* What the switch goes by: the opcode, and f, which tells the instructions of opcodes 0 and 1 apart. */
-#define CASE(opcode, f) ((opcode) << 3 | (f))
-#define ANY_F(opcode) CASE(opcode, 0) ... CASE(opcode, 7)
-
-/* The registers that a word names at bits 11..9, 8..6 and 5..3, and the address Ra+SE(N6). */
-#define R11 r[w >> 9 & 7]
-#define R8 r[w >> 6 & 7]
-#define R5 r[w >> 3 & 7]
-#define ADDRESS (uint16_t)(R11 + extend6(w))
 
 static SisaRun run_accepted(SisaState state, const uint8_t *restrict program, uint8_t *restrict memory,
                             const uint16_t *restrict inputs, uint16_t *restrict outputs, uint32_t budget,
@@ -50,34 +43,25 @@ static SisaRun run_accepted(SisaState state, const uint8_t *restrict program, ui
     uint8_t stop = 0;
     memcpy(r, state.r, sizeof r);
     while (steps < budget) {
-        uint16_t w = load_word(program, pc), next = (uint16_t)(pc + 2), target;
-        switch (CASE(w >> 12, w & 7)) {
-        case CASE(0, 0): R5 = R11 & R8; break;
-        case CASE(0, 1): R5 = R11 | R8; break;
-        case CASE(0, 2): R5 = R11 ^ R8; break;
-        case CASE(0, 3): R5 = (uint16_t)~R11; break;
-        case CASE(0, 4): R5 = (uint16_t)(R11 + R8); break;
-        case CASE(0, 5): R5 = (uint16_t)(R11 - R8); break;
-        case CASE(0, 6): R5 = shift((int16_t)R11, R8); break;
-        case CASE(0, 7): R5 = shift(R11, R8); break;
-        case CASE(1, 0): R5 = (int16_t)R11 < (int16_t)R8; break;
-        case CASE(1, 1): R5 = (int16_t)R11 <= (int16_t)R8; break;
-        case CASE(1, 3): R5 = R11 == R8; break;
-        case CASE(1, 4): R5 = R11 < R8; break;
-        case CASE(1, 5): R5 = R11 <= R8; break;
-        case ANY_F(2): R8 = ADDRESS; break;
-        case ANY_F(3): R8 = load_word(memory, ADDRESS); break;
-        case ANY_F(4): store_word(memory, ADDRESS, R8); break;
-        case ANY_F(5): R8 = extend8(memory[ADDRESS]); break;
-        case ANY_F(6): memory[ADDRESS] = (uint8_t)R8; break;
-        case ANY_F(7): target = R11 & 0xFFFE; R8 = next; next = target; break;
-        case ANY_F(8): if ((R11 == 0) != (w >> 8 & 1)) next = (uint16_t)(next + 2 * extend8(w)); break;
-        case ANY_F(9): R11 = w & 256 ? (uint16_t)(w << 8 | (R11 & 255)) : extend8(w); break;
-        case ANY_F(10):
-            if (!(w & 256)) { R11 = inputs[w & 255]; break; }
+        uint16_t w = load_word(program, pc), next = (uint16_t)(pc + 2);
+        uint16_t *a = &r[w >> 9 & 7], *b = &r[w >> 6 & 7], *d = &r[w >> 3 & 7];
+        int x;
+        switch (w >> 12) {
+        case 0: *d = operate(w & 7, *a, *b); break;
+        case 1: if ((x = compare(w & 7, *a, *b)) < 0) { stop = 1; goto stopped; } *d = (uint16_t)x; break;
+        case 2: *b = (uint16_t)(*a + extend6(w)); break;
+        case 3: *b = load_word(memory, (uint16_t)(*a + extend6(w))); break;
+        case 4: store_word(memory, (uint16_t)(*a + extend6(w)), *b); break;
+        case 5: *b = extend8(memory[(uint16_t)(*a + extend6(w))]); break;
+        case 6: memory[(uint16_t)(*a + extend6(w))] = (uint8_t)*b; break;
+        case 7: x = *a & 0xFFFE; *b = next; next = (uint16_t)x; break;
+        case 8: if ((*a == 0) != (w >> 8 & 1)) next = (uint16_t)(next + 2 * extend8(w)); break;
+        case 9: *a = (w & 256) != 0 ? (uint16_t)(w << 8 | (*a & 255)) : extend8(w); break;
+        case 10:
+            if ((w & 256) == 0) { *a = inputs[w & 255]; break; }
             if (entries == log_len) { stop = 2; goto stopped; }
-            outputs[w & 255] = R11;
-            log[entries++] = (uint64_t)(state.n + steps) << 24 | (uint64_t)(w & 255) << 16 | R11;
+            outputs[w & 255] = *a;
+            log[entries++] = (uint64_t)(state.n + steps) << 24 | (uint64_t)(w & 255) << 16 | *a;
             break;
         default: stop = 1; goto stopped;
         }
@@ -99,11 +83,8 @@ SisaRun plain_run(SisaState state,
                   uint32_t budget,
                   uint64_t *log, size_t log_len)
 {
-    if (program_len != MEMORY_BYTES || memory_len != MEMORY_BYTES || inputs_len != PORTS || outputs_len != PORTS)
-        return (SisaRun){ .state = state, .refusal = 1 };
-    if (state.pc % 2 != 0)
-        return (SisaRun){ .state = state, .refusal = 5 };
-    if (UINT32_MAX - state.n < budget)
-        return (SisaRun){ .state = state, .refusal = 6 };
+    uint8_t refusal = refusal_of(&state, program_len, memory_len, inputs_len, outputs_len, budget);
+    if (refusal != 0)
+        return (SisaRun){ .state = state, .refusal = refusal };
     return run_accepted(state, program, memory, inputs, outputs, budget, log, log_len);
 }

@@ -1,6 +1,6 @@
 // The fields of a control word, each with the function that does what it says. x is Ra, y is Rb, u the unit's result; a
-// contract speaks of every machine that has these. The commonest value of a field is tested apart, on the bits up to the field's
-// own: that compiles to a branch, where an arm of the `match` would be one more target of its jump.
+// contract speaks of every machine that has these. Fields are tested bit by bit: that compiles to branches, which take less
+// time here than the jump of a `match`.
 ghost use mathlib.Core.Path.{_≡_};
 ghost use mathlib.Core.Bool.{true};
 ghost use Prim.Native.Nat.{ℕ, _*_, _<_, _≤_};
@@ -15,33 +15,55 @@ use machine::Port;
 use machine::State;
 
 // Bits 9..8.
-pub fn second_operand(control: u16, w: u16, y: u16) -> u16
+fn second_operand(control: u16, w: u16, y: u16) -> u16
     ensures { λ r. ⌜ ((m : Machine) → Rb w m ≡ y → r ≡ second control w m) ⌝ }
 {
-    if control % 1024 < 256 {
-        return y;
-    }
-    match control / 256 % 4 {
-        1 => word::extend6(w),
-        2 => word::extend8(w),
-        _ => 0,
+    if control / 256 % 2 == 0 {
+        if control / 512 % 2 == 0 {
+            y
+        } else {
+            word::extend8(w)
+        }
+    } else {
+        if control / 512 % 2 == 0 {
+            word::extend6(w)
+        } else {
+            0
+        }
     }
 }
 
-// Bits 7..5.
-pub fn unit_result(control: u16, w: u16, x: u16, operand: u16) -> u16
+// Bits 7..5, of both operands.
+fn unit_of(control: u16, w: u16, x: u16, operand: u16) -> u16
     ensures { λ r. ⌜ ((m : Machine) → Ra w m ≡ x → second control w m ≡ operand → r ≡ unit control w m) ⌝ }
 {
-    if control % 256 < 32 {
-        return word::operate(w % 8, x, operand);
+    if control / 128 % 2 == 0 {
+        if control / 64 % 2 == 0 {
+            if control / 32 % 2 == 0 {
+                word::operate(w % 8, x, operand)
+            } else {
+                word::compare(w % 8, x, operand)
+            }
+        } else {
+            if control / 32 % 2 == 0 {
+                word::sum(x, operand)
+            } else {
+                operand
+            }
+        }
+    } else {
+        if control / 32 % 4 == 0 {
+            x % 256 + operand % 256 * 256
+        } else {
+            0
+        }
     }
-    match control / 32 % 8 {
-        1 => word::compare(w % 8, x, operand),
-        2 => word::sum(x, operand),
-        3 => operand,
-        4 => x % 256 + operand % 256 * 256,
-        _ => 0,
-    }
+}
+
+pub fn unit_result(control: u16, w: u16, x: u16, y: u16) -> u16
+    ensures { λ r. ⌜ ((m : Machine) → Ra w m ≡ x → Rb w m ≡ y → r ≡ unit control w m) ⌝ }
+{
+    unit_of(control, w, x, second_operand(control, w, y))
 }
 
 // Bits 4..2.
@@ -49,15 +71,26 @@ pub fn chosen_result(control: u16, w: u16, u: u16, pc: u16, memory: &[u8], input
     requires { ⌜ (length (now memory) ≡ 65536) × (length (now inputs) ≡ 256) ⌝ }
     ensures { λ r. ⌜ ((m : Machine) → unit control w m ≡ u → PC m ≡ pc → m .D ≡ now (memory .entry) → m .I ≡ now (inputs .entry) → r ≡ result control w m) ⌝ }
 {
-    if control % 32 < 4 {
-        return u;
-    }
-    match control / 4 % 8 {
-        1 => bus::load_word(memory, Address(u)),
-        2 => word::extend8(bus::load_byte(memory, Address(u))),
-        3 => word::sum(pc, 2),
-        4 => bus::read_port(inputs, Port((w % 256) as u8)),
-        _ => 0,
+    if control / 16 % 2 == 0 {
+        if control / 8 % 2 == 0 {
+            if control / 4 % 2 == 0 {
+                u
+            } else {
+                bus::load_word(memory, Address(u))
+            }
+        } else {
+            if control / 4 % 2 == 0 {
+                word::extend8(bus::load_byte(memory, Address(u)))
+            } else {
+                word::sum(pc, 2)
+            }
+        }
+    } else {
+        if control / 4 % 4 == 0 {
+            bus::read_port(inputs, Port((w % 256) as u8))
+        } else {
+            0
+        }
     }
 }
 
@@ -74,21 +107,26 @@ fn branch_target(pc: u16, w: u16) -> u16
 pub fn next_pc(control: u16, w: u16, x: u16, pc: u16) -> u16
     ensures { λ r. ⌜ ((m : Machine) → Ra w m ≡ x → PC m ≡ pc → r ≡ next control w m) ⌝ }
 {
-    if control % 16384 < 4096 {
-        return word::sum(pc, 2);
-    }
-    match control / 4096 % 4 {
-        1 => if x == 0 {
-            branch_target(pc, w)
-        } else {
-            word::sum(pc, 2)
-        },
-        2 => if x == 0 {
+    if control / 8192 % 2 == 0 {
+        if control / 4096 % 2 == 0 {
             word::sum(pc, 2)
         } else {
-            branch_target(pc, w)
-        },
-        _ => word::clear_bit0(x),
+            if x == 0 {
+                branch_target(pc, w)
+            } else {
+                word::sum(pc, 2)
+            }
+        }
+    } else {
+        if control / 4096 % 2 == 0 {
+            if x == 0 {
+                word::sum(pc, 2)
+            } else {
+                branch_target(pc, w)
+            }
+        } else {
+            word::clear_bit0(x)
+        }
     }
 }
 
@@ -97,11 +135,14 @@ pub fn store_data(control: u16, y: u16, u: u16, memory: &mut [u8])
     requires { ⌜ length (now memory) ≡ 65536 ⌝ }
     ensures { λ _. ⌜ ((w : ℕ) (m : Machine) → Rb w m ≡ y → unit control w m ≡ u → m .D ≡ now (memory .entry) → now (memory .exit) ≡ stored control w m .D) ⌝ }
 {
-    let k = control / 1024 % 4;
-    if k == 1 {
-        bus::store_word(memory, Address(u), y);
-    } else if k == 2 {
-        bus::store_byte(memory, Address(u), y);
+    if control / 2048 % 2 == 0 {
+        if control / 1024 % 2 == 1 {
+            bus::store_word(memory, Address(u), y);
+        }
+    } else {
+        if control / 1024 % 2 == 0 {
+            bus::store_byte(memory, Address(u), y);
+        }
     }
 }
 

@@ -88,8 +88,7 @@ pub fn step(
 {
     let x = state.register(w / 512);
     let y = state.register(w / 64);
-    let operand = fields::second_operand(control, w, y);
-    let u = fields::unit_result(control, w, x, operand);
+    let u = fields::unit_result(control, w, x, y);
     let v = fields::chosen_result(control, w, u, state.pc, memory, inputs);
     let counted = state.counted();
     if control / 1024 % 16 == 0 {

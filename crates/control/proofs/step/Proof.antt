@@ -14,7 +14,7 @@ returns c =
     let taken = c .before .before .before in
     let choosing = taken .before .before in
     let computing = choosing .before .before .before in
-    let reading = computing .before .before in
+    let reading = computing .before in
     let a = reading .before .before .before .before .before .before in
     let ex = reading .before .register .ensures in
     let ey = reading .register2 .ensures in
@@ -22,7 +22,7 @@ returns c =
     record {
       machine = λ P.
           let m = machineOf P h in
-          let eu = computing .unit-result .ensures m (sym ex) (sym (computing .before .second-operand .ensures m (sym ey))) in
+          let eu = computing .unit-result .ensures m (sym ex) (sym ey) in
           let on = goes-on (a .args .control) (a .args .w) m (taken .if1 .taken) in
           ap to
           (step-done (a .args .control) (a .args .w) m
@@ -46,7 +46,7 @@ returns-2 c =
     let counting = following .before .before in
     let choosing = counting .before in
     let computing = choosing .before .before .before in
-    let reading = computing .before .before in
+    let reading = computing .before in
     let a = reading .before .before .before .before .before .before .args in
     let ex = reading .before .register .ensures in
     let ey = reading .register2 .ensures in
@@ -54,7 +54,7 @@ returns-2 c =
     record {
       machine = λ P.
           let m = machineOf P h in
-          let eu = computing .unit-result .ensures m (sym ex) (sym (computing .before .second-operand .ensures m (sym ey))) in
+          let eu = computing .unit-result .ensures m (sym ex) (sym ey) in
           let port = logging .store-port .ensures .0 m (sym ex) refl refl refl in
           ap to
           (step-done (a .control) (a .w) m
@@ -74,7 +74,6 @@ pub step-spec : {M : Type 1} → statement M
 step-spec =
     tie.close
     (tie.spec
-    (λ c κs. search needs)
     (λ c κs. search needs)
     (λ c κs. search needs)
     (λ c κs. search needs)

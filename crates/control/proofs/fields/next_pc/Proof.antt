@@ -1,4 +1,4 @@
--- Each arm is the place of the list that its number names, and a branch is the choice by Ra.
+-- The two bits give the place of the list, and a branch is the choice by Ra.
 -- Assumes nothing.
 use mathlib.Core.Path.{_≡_}
 use Prim.Native.Nat.{_/_, _%_}
@@ -6,18 +6,9 @@ use native.Mathlib.Omega.{arith}
 use borrow.Author.Needs.{needs}
 use borrow.Author.Tests.{eq-eqb, ne-eqb}
 use Rattle.control.specs.Control.{next}
+use Rattle.control.proofs.Choice.{two-bits}
 use Rattle.control.proofs.fields.next_pc.Statement.{statement}
 use Rattle.control.proofs.fields.next_pc.Tie as tie
-
-returns : tie.Need-returns
-unfolding next
-returns c m ex ep = let h : c .before .before .args .control / 4096 % 4 ≡ 0 = omega arith in rw (h, ep) (c .sum .ensures)
-
-returns-6 : tie.Need-returns-6
-unfolding next
-returns-6 c m ex ep =
-    let h : c .before .before .before .args .control / 4096 % 4 ≡ 3 = omega arith in
-    rw (h, ex) (c .clear-bit0 .ensures)
 
 pub next-pc-spec : {M : Type 1} → statement M
 unfolding next
@@ -25,14 +16,14 @@ next-pc-spec =
     tie.close
     (tie.spec
     (λ c κs. search needs)
-    returns
     (λ c κs. search needs)
     (λ c κs. search needs)
     (λ c κs. search needs)
     (λ c κs. search needs)
     (λ c κs. search needs)
-    (λ c m ex ep. rw (c .before .before .match .keys1, ex, ep, eq-eqb _ _ (c .before .if2 .taken)) (c .branch-target .ensures))
-    (λ c m ex ep. rw (c .before .before .match .keys1, ex, ep, ne-eqb _ _ (c .before .if2 .left)) (c .sum2 .ensures))
-    (λ c m ex ep. rw (c .before .before .match .keys2, ex, ep, eq-eqb _ _ (c .before .if3 .taken)) (c .sum3 .ensures))
-    (λ c m ex ep. rw (c .before .before .match .keys2, ex, ep, ne-eqb _ _ (c .before .if3 .left)) (c .branch-target2 .ensures))
-    returns-6)
+    (λ c m ex ep. let a = c .before .before .before .args .control in let k : a / 4096 % 4 ≡ 0 = omega (arith, two-bits a 4096) in rw (k, ep) (c .sum .ensures))
+    (λ c m ex ep. let a = c .before .before .before .before .args .control in let k : a / 4096 % 4 ≡ 1 = omega (arith, two-bits a 4096) in rw (k, ex, ep, eq-eqb _ _ (c .before .if3 .taken)) (c .branch-target .ensures))
+    (λ c m ex ep. let a = c .before .before .before .before .args .control in let k : a / 4096 % 4 ≡ 1 = omega (arith, two-bits a 4096) in rw (k, ex, ep, ne-eqb _ _ (c .before .if3 .left)) (c .sum2 .ensures))
+    (λ c m ex ep. let a = c .before .before .before .before .args .control in let k : a / 4096 % 4 ≡ 2 = omega (arith, two-bits a 4096) in rw (k, ex, ep, eq-eqb _ _ (c .before .if5 .taken)) (c .sum3 .ensures))
+    (λ c m ex ep. let a = c .before .before .before .before .args .control in let k : a / 4096 % 4 ≡ 2 = omega (arith, two-bits a 4096) in rw (k, ex, ep, ne-eqb _ _ (c .before .if5 .left)) (c .branch-target2 .ensures))
+    (λ c m ex ep. let a = c .before .before .before .args .control in let k : a / 4096 % 4 ≡ 3 = omega (arith, two-bits a 4096) in rw (k, ex) (c .clear-bit0 .ensures)))

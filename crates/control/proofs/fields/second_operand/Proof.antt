@@ -1,29 +1,22 @@
--- Each arm is the place of the list that its number names, and past the list stands 0.
+-- The two bits give the place of the list, and past the list stands 0.
 -- Assumes nothing.
 use mathlib.Core.Path.{_≡_, sym}
 use Prim.Native.Nat.{_/_, _%_}
 use native.Mathlib.Omega.{arith}
 use borrow.Author.Needs.{needs}
 use Rattle.control.specs.Control.{second}
+use Rattle.control.proofs.Choice.{two-bits}
 use Rattle.control.proofs.fields.second_operand.Statement.{statement}
 use Rattle.control.proofs.fields.second_operand.Tie as tie
-
-returns : tie.Need-returns
-unfolding second
-returns c m e = let h : c .before .args .control / 256 % 4 ≡ 0 = omega arith in rw h (sym e)
-
-returns-4 : tie.Need-returns-4
-unfolding second
-returns-4 c m e = let h : c .before .before .args .control / 256 % 4 ≡ 3 = omega arith in rw h
 
 pub second-operand-spec : {M : Type 1} → statement M
 unfolding second
 second-operand-spec =
     tie.close
     (tie.spec
-    returns
     (λ c κs. search needs)
     (λ c κs. search needs)
-    (λ c m e. rw (c .before .match .keys1) (c .extend6 .ensures))
-    (λ c m e. rw (c .before .match .keys2) (c .extend8 .ensures))
-    returns-4)
+    (λ c m e. let a = c .before .before .args .control in let k : a / 256 % 4 ≡ 0 = omega (arith, two-bits a 256) in rw k (sym e))
+    (λ c m e. let a = c .before .before .before .args .control in let k : a / 256 % 4 ≡ 2 = omega (arith, two-bits a 256) in rw k (c .extend8 .ensures))
+    (λ c m e. let a = c .before .before .before .args .control in let k : a / 256 % 4 ≡ 1 = omega (arith, two-bits a 256) in rw k (c .extend6 .ensures))
+    (λ c m e. let a = c .before .before .args .control in let k : a / 256 % 4 ≡ 3 = omega (arith, two-bits a 256) in rw k))

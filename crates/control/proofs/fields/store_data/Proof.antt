@@ -1,27 +1,47 @@
--- Each test names a place of the list; the others leave data memory as it was.
+-- The two bits give the place of the list. A port's store, and none, leave data memory as it was.
 -- Assumes nothing.
-use mathlib.Core.Path.{refl, sym, _∙_}
+use mathlib.Core.Path.{_≡_, sym}
+use Prim.Native.Nat.{_/_, _%_}
+use native.Mathlib.Omega.{arith}
 use borrow.Author.Needs.{needs}
-use Rattle.control.specs.Control.{storeField, stored}
-use Rattle.control.proofs.Choice.{stays}
+use Rattle.control.specs.Control.{stored}
+use Rattle.control.proofs.Choice.{two-bits}
 use Rattle.control.proofs.fields.store_data.Statement.{statement}
 use Rattle.control.proofs.fields.store_data.Tie as tie
+
+returns : tie.Need-returns
+unfolding stored
+returns c w m ey eu eD =
+    let a = c .before .before .before .before .before .before .before .args .control in
+    let k : a / 1024 % 4 ≡ 1 = omega (arith, two-bits a 1024) in
+    rw (k, ey, eu, eD) (c .before .before .store-word .ensures)
+
+returns-2 : tie.Need-returns-2
+unfolding stored
+returns-2 c w m ey eu eD =
+    let a = c .before .before .before .args .control in let k : a / 1024 % 4 ≡ 0 = omega (arith, two-bits a 1024) in rw k (sym eD)
 
 returns-3 : tie.Need-returns-3
 unfolding stored
 returns-3 c w m ey eu eD =
-    let k = storeField (c .before .before .before .args .control) in
-    sym (stays (λ x. x .D) k m _ _ _ (λ e. absurd (c .before .if1 .left e)) (λ e. absurd (c .if2 .left e)) (λ _. refl) ∙ eD)
+    let a = c .before .before .before .before .before .before .before .args .control in
+    let k : a / 1024 % 4 ≡ 2 = omega (arith, two-bits a 1024) in
+    rw (k, ey, eu, eD) (c .before .before .store-byte .ensures)
+
+returns-4 : tie.Need-returns-4
+unfolding stored
+returns-4 c w m ey eu eD =
+    let a = c .before .before .before .args .control in let k : a / 1024 % 4 ≡ 3 = omega (arith, two-bits a 1024) in rw k (sym eD)
 
 pub store-data-spec : {M : Type 1} → statement M
-unfolding stored
 store-data-spec =
     tie.close
     (tie.spec
     (λ c κs. search needs)
     (λ c κs. search needs)
     (λ c. search needs)
-    (λ c w m ey eu eD. rw (c .before .before .before .before .if1 .taken, ey, eu, eD) (c .before .before .store-word .ensures))
+    returns
+    returns-2
     (λ c. search needs)
-    (λ c w m ey eu eD. rw (c .before .before .before .before .if2 .taken, ey, eu, eD) (c .before .before .store-byte .ensures))
-    returns-3)
+    returns-3
+    returns-4)

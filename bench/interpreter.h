@@ -1,0 +1,44 @@
+/* What the two C interpreters share. Every address is 16-bit, so none lies outside a memory of 65,536 bytes. */
+#ifndef INTERPRETER_H
+#define INTERPRETER_H
+
+#include "sisa.h"
+
+enum { MEMORY_BYTES = 65536, PORTS = 256 };
+
+static inline uint16_t extend6(uint16_t w) { return (uint16_t)(((w & 63) ^ 32) - 32); }
+static inline uint16_t extend8(uint16_t w) { return (uint16_t)(int8_t)w; }
+
+/* The word at an address with bit 0 cleared. */
+static inline uint16_t load_word(const uint8_t *bytes, uint16_t address)
+{
+    const uint8_t *at = bytes + (address & 0xFFFE);
+    return (uint16_t)(at[0] | at[1] << 8);
+}
+
+static inline void store_word(uint8_t *bytes, uint16_t address, uint16_t v)
+{
+    uint8_t *at = bytes + (address & 0xFFFE);
+    at[0] = (uint8_t)v;
+    at[1] = (uint8_t)(v >> 8);
+}
+
+/* x, of which the fill stands above bit 15, shifted by the low 5 bits of b read as signed. */
+static inline uint16_t shift(int32_t x, uint16_t b)
+{
+    int k = ((b & 31) ^ 16) - 16;
+    return (uint16_t)(k < 0 ? x >> -k : (int32_t)((uint32_t)x << k));
+}
+
+/* The refusal of a run, 0 where it is accepted. */
+static inline uint8_t refusal_of(const SisaState *state, size_t program_len, size_t memory_len, size_t inputs_len,
+                                 size_t outputs_len, uint32_t budget)
+{
+    if (program_len != MEMORY_BYTES || memory_len != MEMORY_BYTES || inputs_len != PORTS || outputs_len != PORTS)
+        return 1;
+    if (state->pc % 2 != 0)
+        return 5;
+    return UINT32_MAX - state->n < budget ? 6 : 0;
+}
+
+#endif
