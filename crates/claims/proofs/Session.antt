@@ -10,7 +10,8 @@ use lib.ListN.{length, replicate, length-append, length-take, length-drop, lengt
 use Rattle.word.specs.Word.{pick}
 use Rattle.machine.specs.Calls.{lengthsFit}
 use Rattle.image.specs.Image.{W, C, programOffset, dataOffset, partsFit, inside, partsInside, memoryOf, loaded, LoadReply, accepted, refused, LoadGiven, LoadLeft, loadReply, leftBy, loadLeft}
-use Rattle.claims.specs.Session.{Calls, hostOf, machineOn, machineCalls, machineReplies, exampleFile, Session}
+use Rattle.report.specs.Example.{exampleFile}
+use Rattle.claims.specs.Session.{Calls, hostOf, machineOn, machineCalls, machineReplies, Session}
 use Rattle.claims.proofs.Decides.{Decides, decides-le, decides-and}
 use Rattle.claims.proofs.Together.{calls-together}
 use Rattle.claims.proofs.Decided.{same, calls-exist}

@@ -11,6 +11,7 @@ use Rattle.machine.specs.Machine.{Machine, putI}
 use Rattle.machine.specs.Run.{Outcome, run}
 use Rattle.machine.specs.Calls.{SetGiven, SetLeft, SetReply, done, refused, setLeft}
 use Rattle.image.specs.Image.{LoadGiven, LoadLeft, accepted, loaded, loadLeft}
+use Rattle.report.specs.Example.{exampleFile}
 use Rattle.engine.specs.Runs.{Given, Left, RunReply, stopped, refused as run-refused, Verdict, accepted as run-accepted, refused as turned-away, verdictOn, RunMeets}
 
 -- ---- The calls
@@ -160,12 +161,6 @@ pub data All (Q : Reply → Type 0) : List Reply → Type 0 where
   nil : All Q []
   cons : {r : Reply} {rs : List Reply} → Q r → All Q rs → All Q (r ∷ rs)
 
--- 01's file: W 4, offset 16, C 0, offset 24 and words 0x9AF6, 0x9B3A, 0xAB03, 0xF000
-abbrev pub exampleFile : List ℕ
-exampleFile =
-    4 ∷ 0 ∷ 0 ∷ 0 ∷ 16 ∷ 0 ∷ 0 ∷ 0 ∷ 0 ∷ 0 ∷ 0 ∷ 0 ∷ 24 ∷ 0 ∷ 0 ∷ 0
-    ∷ 0xF6 ∷ 0x9A ∷ 0x3A ∷ 0x9B ∷ 0x03 ∷ 0xAB ∷ 0x00 ∷ 0xF0 ∷ []
-
 pub record Session : Type 0 where
   -- DEMAND 3
   pub agreed :
@@ -175,7 +170,7 @@ pub record Session : Type 0 where
       → Agreed (g .file) cs₁ rs₁ rs₂ h₁ h₂
   -- such replies exist for every list,
   pub replies-exist : (h : Host) (cs : List Call) → (rs : List Reply) × (after : Host) × Calls h cs rs after
-  -- and an accepted load exists
+  -- and an accepted load exists: 01's file
   pub load-exists :
       loadLeft (record { file = exampleFile; P = replicate 65536 0; D = replicate 65536 0; I = replicate 256 0; O = replicate 256 0 }) .reply ≡ accepted
   -- after an accepted load only refusal 6 can occur in a list
