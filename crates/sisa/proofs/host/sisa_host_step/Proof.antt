@@ -1,6 +1,9 @@
 -- `sisa_host_step` meets its contract: a walk of its MIR, by hand.
--- The borrow of the state is opened, the state is copied out, and the run is called with the five slices at their own lifetimes, shares and names: the `&mut` slices are given up for good, and what the run says of their last lists is what the host step says of them. Then the state that the run returned is stored behind the reference, the borrow is closed at it, and the answer is made of the run's other fields.
--- All that the proof knows of the run is that it meets its contract: no definition of `specs/` is unfolded. Assumes nothing.
+-- The borrow of the state is opened, the state is copied out, and the run is called with the five slices at their own lifetimes,
+-- shares and names: the `&mut` slices are given up for good, and what the run says of their last lists is what the host step says
+-- of them. Then the state that the run returned is stored behind the reference, the borrow is closed at it, and the answer is made
+-- of the run's other fields. All that the proof knows of the run is that it meets its contract: no definition of `specs/` is unfolded.
+-- Assumes nothing.
 use mathlib.Core.Path.{_≡_, refl, ap}
 use Prim.Native.Nat.{ℕ, _<_, _^_}
 use native.Mathlib.Omega.{arith}
