@@ -74,7 +74,8 @@ fn step(
     }
 }
 
-// The loop of an accepted run. PC is even, so the word at PC is the one at its even address.
+// The loop of an accepted run. PC is even, so the word at PC is the one at its even address. The control word is looked up
+// whichever engine runs; the rules do not see it.
 fn run_accepted(
     by_table: bool,
     start: State,
