@@ -1,6 +1,6 @@
-// Loads and stores of data memory, and the ports. A word's address has bit 0 cleared; nothing is refused.
+// The fetch, loads and stores of data memory, and the ports. A data word's address has bit 0 cleared; nothing is refused.
 ghost use mathlib.Core.Path.{_≡_};
-ghost use Prim.Native.Nat.{_+_, _*_, _<_};
+ghost use Prim.Native.Nat.{_+_, _*_, _%_, _<_};
 ghost use lib.ListN.{length, getD, set};
 ghost use Rattle.word.specs.Word.{clear0};
 ghost use Rattle.machine.specs.Calls.{lengthsFit};
@@ -46,14 +46,29 @@ pub fn load_byte(bytes: &[u8], address: Address) -> u16
     wide(bytes[from])
 }
 
+// The word at two neighbouring places, low byte first.
+fn word_from(bytes: &[u8], at: usize) -> u16
+    requires { ⌜ at + 1 < length (now bytes) ⌝ }
+    ensures { λ v. ⌜ v ≡ getD (now (bytes .entry)) at 0 + 256 * getD (now (bytes .entry)) (at + 1) 0 ⌝ }
+{
+    let low = wide(bytes[at]);
+    let high = wide(bytes[at + 1]);
+    low + 256 * high
+}
+
+// The instruction word at an even PC, of the memory that instructions are fetched from.
+pub fn fetch(memory: &[u8], pc: u16) -> u16
+    requires { ⌜ (length (now memory) ≡ 65536) × (pc % 2 ≡ 0) ⌝ }
+    ensures { λ w. ⌜ w ≡ wordAt (now (memory .entry)) pc ⌝ }
+{
+    word_from(memory, pc as usize)
+}
+
 pub fn load_word(bytes: &[u8], address: Address) -> u16
     requires { ⌜ length (now bytes) ≡ 65536 ⌝ }
     ensures { λ v. ⌜ v ≡ wordAt (now (bytes .entry)) (clear0 (address .0)) ⌝ }
 {
-    let at = word_place(address);
-    let low = wide(bytes[at]);
-    let high = wide(bytes[at + 1]);
-    low + 256 * high
+    word_from(bytes, word_place(address))
 }
 
 pub fn store_byte(bytes: &mut [u8], address: Address, v: u16)

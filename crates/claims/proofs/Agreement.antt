@@ -1,9 +1,16 @@
 -- By the computed test of control/proofs/Agreement.antt, at the word fetched.
 -- Assumes nothing.
+use mathlib.Core.Path.{_≡_, ap}
 use Rattle.machine.specs.Step.{fetched, step}
-use Rattle.control.proofs.Agreement.{agreement, agreement-port}
+use Rattle.machine.specs.Run.{byRules}
+use Rattle.control.specs.Control.{byTable}
+use Rattle.control.proofs.Agreement.{agreement, agreement-port, same-stepper}
+use Rattle.engine.specs.Runs.{Given, runLeft}
 use Rattle.claims.specs.Agreement.{Agreement}
+
+pub same-run : (g : Given) → runLeft byTable g ≡ runLeft byRules g
+same-run g = ap (λ v. runLeft v g) same-stepper
 
 pub agreed : Agreement
 unfolding step
-agreed = record { steps = λ m. agreement (fetched m) m; ports = agreement-port }
+agreed = record { steps = λ m. agreement (fetched m) m; ports = agreement-port; runs = same-run }

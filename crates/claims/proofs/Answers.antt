@@ -6,7 +6,7 @@ use Prim.Native.Nat.{ℕ}
 use lib.ListN.{getD}
 use Rattle.refusal.specs.declared.Refusal.{Refusal}
 use Rattle.refusal.specs.declared.Refusal.the-variants.{LentLength, ShortFile, LargePart, PartOutside, OddPc, StepCount, InstructionPart, LongFile}
-use Rattle.refusal.specs.Refusals.{refusalNumber}
+use Rattle.refusal.specs.Refusals.{refusalNumber, Verdict, accepted, refused as turned-away}
 use Rattle.isa.specs.declared.Kind.the-variants.{And}
 use Rattle.isa.specs.declared.Reading.{Reading}
 use Rattle.isa.specs.declared.Reading.the-variants.{Instruction as ReadInstruction, Unassigned as ReadUnassigned}
@@ -14,10 +14,10 @@ use Rattle.isa.specs.declared.Writing.{Writing}
 use Rattle.isa.specs.declared.Writing.the-variants.{Word, Refused}
 use Rattle.machine.specs.declared.Setting.{Setting}
 use Rattle.machine.specs.declared.Setting.the-variants.{Done, Refused as SetRefused}
-use Rattle.machine.specs.Calls.{SetReply, done, refused as set-refused, shownSetting}
+use Rattle.machine.specs.Calls.{shownSetting}
 use Rattle.image.specs.declared.Loading.{Loading}
 use Rattle.image.specs.declared.Loading.the-variants.{Accepted, Refused as LoadRefused}
-use Rattle.image.specs.Image.{LoadReply, accepted, refused as load-refused, shownLoading}
+use Rattle.image.specs.Image.{shownLoading}
 use Rattle.engine.specs.declared.Answer.{Answer}
 use Rattle.engine.specs.declared.Answer.the-variants.{Stopped, Refused as RunRefused}
 use Rattle.engine.specs.Runs.{RunReply, stopped, refused as run-refused, shownAnswer}
@@ -61,21 +61,18 @@ unfolding writing-of
 writing-back (Word w) = refl
 writing-back (Refused r) = ap Refused (refusal-back r)
 
-loading-of : LoadReply → Loading
-loading-of accepted = Accepted
-loading-of (load-refused n) = LoadRefused (refusal-at n)
+-- an enum of these two cases
+verdict-of : {A : Type 0} → A → (Refusal → A) → Verdict → A
+verdict-of x f accepted = x
+verdict-of x f (turned-away n) = f (refusal-at n)
 
-loading-back : (x : Loading) → loading-of (shownLoading x) ≡ x
-unfolding loading-of
+loading-back : (x : Loading) → verdict-of Accepted LoadRefused (shownLoading x) ≡ x
+unfolding verdict-of
 loading-back Accepted = refl
 loading-back (LoadRefused r) = ap LoadRefused (refusal-back r)
 
-setting-of : SetReply → Setting
-setting-of done = Done
-setting-of (set-refused n) = SetRefused (refusal-at n)
-
-setting-back : (x : Setting) → setting-of (shownSetting x) ≡ x
-unfolding setting-of
+setting-back : (x : Setting) → verdict-of Done SetRefused (shownSetting x) ≡ x
+unfolding verdict-of
 setting-back Done = refl
 setting-back (SetRefused r) = ap SetRefused (refusal-back r)
 
@@ -95,7 +92,7 @@ answers =
       kind = undone _ (λ n. getD kinds n And) (λ k. listed k .1);
       reading = undone shownReading reading-of reading-back;
       writing = undone shownWriting writing-of writing-back;
-      loading = undone shownLoading loading-of loading-back;
-      setting = undone shownSetting setting-of setting-back;
+      loading = undone shownLoading (verdict-of Accepted LoadRefused) loading-back;
+      setting = undone shownSetting (verdict-of Done SetRefused) setting-back;
       answer = undone shownAnswer answer-of answer-back;
     }

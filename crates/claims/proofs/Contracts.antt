@@ -19,6 +19,8 @@ contracts =
       run-by-rules = λ κs a r s. (λ h. h, λ h. h);
       run-by-table-asks = λ κs a. tt;
       run-by-table = λ κs a r s. (λ h. h, λ h. h);
+      run-by-control-asks = λ κs a. tt;
+      run-by-control = λ κs a r s. (λ h. h, λ h. h);
       report-asks = λ κs a. tt;
       report = λ κs a r s. (λ h. h, λ h. h);
     }

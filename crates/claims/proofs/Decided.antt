@@ -1,26 +1,28 @@
 -- The contracts decide what a list of calls replies and leaves, whichever engine does each run: no call leaves anything open.
 -- Assumes nothing.
-use mathlib.Core.Path.{_≡_, refl, ap, _∙_}
+use mathlib.Core.Path.{_≡_, refl, sym, ap, _∙_}
 use mathlib.Core.List.{List, [], _∷_, map}
 use Prim.Native.Nat.{ℕ}
+use Rattle.machine.specs.Run.{byRules}
 use Rattle.machine.specs.Calls.{SetLeft, setLeft}
 use Rattle.engine.specs.Runs.{Left, runLeft}
-use Rattle.claims.specs.Session.{by-rules, by-table, Lent, Call, runs, sets, Reply, ran, set, plain, Alike, Host, givenTo, afterRun, afterSet, Does, a-run, a-setting, Calls, none, more}
+use Rattle.claims.specs.Session.{by-rules, by-table, Lent, Call, runs, sets, Reply, of-run, of-set, plain, Alike, Host, givenTo, afterRun, afterSet, CallMeets, a-run, a-setting, Calls, none, more}
+use Rattle.claims.proofs.Agreement.{same-run}
 use Rattle.claims.proofs.Together.{both}
 
 abbrev pub ranOn : Host → Lent → Left
-ranOn h lent = runLeft (givenTo h lent)
+ranOn h lent = runLeft byRules (givenTo h lent)
 
 abbrev pub setOn : Host → ℕ → ℕ → SetLeft
 setOn h port value = setLeft (record { I = h .I; port = port; value = value })
 
 -- what a call replies and leaves
 abbrev pub replyTo : Host → Call → Reply
-replyTo h (runs e lent) = ran (ranOn h lent .reply) (ranOn h lent .log)
-replyTo h (sets port value) = set (setOn h port value .reply)
+replyTo h (runs e lent) = of-run (ranOn h lent .reply) (ranOn h lent .log)
+replyTo h (sets port value) = of-set (setOn h port value .reply)
 
 abbrev pub callOn : Host → Call → Host
-callOn h (runs e lent) = afterRun h (ranOn h lent)
+callOn h (runs e lent) = afterRun (ranOn h lent)
 callOn h (sets port value) = afterSet h (setOn h port value)
 
 repliesTo : Host → List Call → List Reply
@@ -31,11 +33,11 @@ callsOn : Host → List Call → Host
 callsOn h [] = h
 callsOn h (c ∷ cs) = callsOn (callOn h c) cs
 
-does-decided : {h h′ : Host} {c : Call} {r : Reply} → Does h c r h′ → (r ≡ replyTo h (plain c)) × (h′ ≡ callOn h (plain c))
+does-decided : {h h′ : Host} {c : Call} {r : Reply} → CallMeets h c r h′ → (r ≡ replyTo h (plain c)) × (h′ ≡ callOn h (plain c))
 does-decided (a-run h e lent x promise) =
     let p : x ≡ ranOn h lent = both e (givenTo h lent) x promise in
-    (ap (λ (y : Left). ran (y .reply) (y .log)) p, ap (afterRun h) p)
-does-decided (a-setting h port value x promise) = (ap (λ (y : SetLeft). set (y .reply)) promise, ap (afterSet h) promise)
+    (ap (λ (y : Left). of-run (y .reply) (y .log)) p, ap afterRun p)
+does-decided (a-setting h port value x promise) = (ap (λ (y : SetLeft). of-set (y .reply)) promise, ap (afterSet h) promise)
 
 calls-decided :
     {h h′ : Host} {cs : List Call} {rs : List Reply} → Calls h cs rs h′ → (rs ≡ repliesTo h (map plain cs)) × (h′ ≡ callsOn h (map plain cs))
@@ -54,9 +56,9 @@ same ds₁ ds₂ e =
     let u = calls-decided ds₂ in
     (cc, cc)
 
-pub does-exists : (h : Host) (c : Call) → Does h c (replyTo h c) (callOn h c)
+pub does-exists : (h : Host) (c : Call) → CallMeets h c (replyTo h c) (callOn h c)
 does-exists h (runs by-rules lent) = a-run h by-rules lent (ranOn h lent) refl
-does-exists h (runs by-table lent) = a-run h by-table lent (ranOn h lent) refl
+does-exists h (runs by-table lent) = a-run h by-table lent (ranOn h lent) (sym (same-run (givenTo h lent)))
 does-exists h (sets port value) = a-setting h port value (setOn h port value) refl
 
 pub calls-exist : (h : Host) (cs : List Call) → (rs : List Reply) × (after : Host) × Calls h cs rs after

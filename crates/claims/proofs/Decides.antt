@@ -8,6 +8,7 @@ use borrow.Author.Tests.{eqb-true, leb-true, ltb-true, eq-eqb, le-leb, lt-ltb, l
 use lib.Dec.{T, eqb, leb, ltb}
 use lib.IntN.{ℤ}
 use lib.Signed.{leZ, ltZ, _≤ℤ_, _<ℤ_}
+use Rattle.word.proofs.Tests.{never, is-true}
 
 abbrev pub Decides : Bool → Type 0 → Type 0
 Decides b A = (b ≡ true) ↔ A
@@ -20,14 +21,6 @@ decides-le m n = (leb-true m n, le-leb m n)
 
 pub decides-lt : (m n : ℕ) → Decides (ltb m n) (m < n)
 decides-lt m n = (ltb-true m n, lt-ltb m n)
-
--- false is not true
-pub never : {A : Type 0} → false ≡ true → A
-never e = absurd (subst (λ (b : Bool). T b) (sym e) tt)
-
-pub is-true : (b : Bool) → T b → b ≡ true
-is-true true t = refl
-is-true false t = absurd t
 
 pub decides-T : (b : Bool) → Decides b (T b)
 decides-T b = (λ e. subst (λ (b : Bool). T b) (sym e) tt, is-true b)

@@ -6,15 +6,17 @@ use mathlib.Core.List.{List, [], _∷_, map}
 use Prim.Native.Nat.{ℕ, zero, suc, _%_, _+_}
 use native.Mathlib.Omega.{arith}
 use lib.Dec.{eqb, leb}
+use Rattle.refusal.specs.Refusals.{Verdict, accepted, refused as turned-away}
 use Rattle.word.specs.Word.{pick}
 use Rattle.machine.specs.declared.State.{State}
 use Rattle.machine.specs.Calls.{lengthsFit}
-use Rattle.engine.specs.Runs.{Given, Left, RunReply, stopped, refused, Verdict, accepted, refused as turned-away, verdict, verdictOn, leftBy, runLeft}
+use Rattle.control.specs.Control.{byTable}
+use Rattle.engine.specs.Runs.{Given, Left, RunReply, stopped, refused, verdict, verdictOn, leftBy, runLeft}
 use Rattle.sisa.specs.declared.SisaAnswer.{SisaAnswer}
 use Rattle.sisa.specs.declared.SisaRun.{SisaRun}
-use Rattle.sisa.specs.Sisa.{SisaRunLeft, sisaRun, runInNumbers, sisaRunLeft, withState}
-use Rattle.claims.specs.Session.{by-table, Call, Reply, ran, Host, givenTo, afterRun, Does, a-run, Calls, none, more}
-use Rattle.claims.specs.HostSteps.{HostCall, call, host-step, budget1, asRun, replyOf, HostDoes, a-call, a-step, HostCalls, none as host-none, more as host-more, HostSteps}
+use Rattle.sisa.specs.Sisa.{SisaRunLeft, sisaRun, sisaLeft, runInNumbers, sisaRunLeft, withState}
+use Rattle.claims.specs.Session.{by-table, Call, Reply, of-run, Host, givenTo, CallMeets, a-run, Calls, none, more}
+use Rattle.claims.specs.HostSteps.{HostCall, call, host-step, budget1, asRun, replyOf, HostCallMeets, a-call, a-step, HostCalls, none as host-none, more as host-more, HostSteps}
 use Rattle.claims.proofs.Decided.{does-exists, replyTo, callOn, same}
 
 -- ---- From numbers to the reply and back
@@ -28,11 +30,11 @@ abbrev Numbered : RunReply → Type 0
 Numbered (stopped q s e) = Unit {0}
 Numbered (refused k) = eqb k 0 ≡ false
 
-of-verdict : (g : Given) → Numbered (runLeft g .reply)
+of-verdict : (g : Given) → Numbered (runLeft byTable g .reply)
 unfolding runLeft verdict
 of-verdict g = go (lengthsFit (g .P) (g .D) (g .I) (g .O)) (eqb (g .state .pc % 2) 0) (leb (g .state .n + g .budget) 4294967295)
   where
-    go : (x y z : Bool) → Numbered (leftBy (pick x (pick y (pick z accepted (turned-away 6)) (turned-away 5)) (turned-away 1)) g .reply)
+    go : (x y z : Bool) → Numbered (leftBy byTable (pick x (pick y (pick z accepted (turned-away 6)) (turned-away 5)) (turned-away 1)) g .reply)
     go true true true = tt
     go true true false = refl
     go true false z = refl
@@ -44,24 +46,24 @@ read-back (refused k) s h = (rw h, refl, refl)
 
 -- ---- One host step
 
-step-runs : (h : Host) (log : List ℕ) (x : SisaRunLeft) → x ≡ sisaRunLeft (givenTo h (budget1 log))
-    → Does h (asRun (host-step log)) (ran (replyOf (answerOf (x .reply))) (x .log)) (record { state = x .reply .state; P = h .P; D = x .D; I = x .I; O = x .O })
+step-runs : (h : Host) (log : List ℕ) (x : SisaRunLeft) → x ≡ sisaRunLeft byTable (givenTo h (budget1 log))
+    → CallMeets h (asRun (host-step log)) (of-run (replyOf (answerOf (x .reply))) (x .log)) (record { state = x .reply .state; P = x .P; D = x .D; I = x .I; O = x .O })
 unfolding sisaRunLeft
 step-runs h log x e =
     let g = givenTo h (budget1 log) in
-    let l = runLeft g in
+    let l = runLeft byTable g in
     let b = read-back (l .reply) (l .state) (of-verdict g) in
-    subst (λ (y : SisaRunLeft). Does h (asRun (host-step log)) (ran (replyOf (answerOf (y .reply))) (y .log)) (record { state = y .reply .state; P = h .P; D = y .D; I = y .I; O = y .O }))
+    subst (λ (y : SisaRunLeft). CallMeets h (asRun (host-step log)) (of-run (replyOf (answerOf (y .reply))) (y .log)) (record { state = y .reply .state; P = y .P; D = y .D; I = y .I; O = y .O }))
     (sym e)
-    (subst (λ (r : RunReply). Does h (asRun (host-step log)) (ran r (l .log)) (record { state = sisaRun (l .reply) (l .state) .state; P = h .P; D = l .D; I = l .I; O = l .O }))
+    (subst (λ (r : RunReply). CallMeets h (asRun (host-step log)) (of-run r (l .log)) (record { state = sisaRun (l .reply) (l .state) .state; P = l .P; D = l .D; I = l .I; O = l .O }))
     (sym (b .0))
-    (subst (λ (s : State). Does h (asRun (host-step log)) (ran (l .reply) (l .log)) (record { state = s; P = h .P; D = l .D; I = l .I; O = l .O }))
+    (subst (λ (s : State). CallMeets h (asRun (host-step log)) (of-run (l .reply) (l .log)) (record { state = s; P = l .P; D = l .D; I = l .I; O = l .O }))
     (sym (b .1))
     (a-run h by-table (budget1 log) l refl)))
 
-does-run : {h after : Host} {c : HostCall} {r : Reply} → HostDoes h c r after → Does h (asRun c) r after
+does-run : {h after : Host} {c : HostCall} {r : Reply} → HostCallMeets h c r after → CallMeets h (asRun c) r after
 does-run (a-call d) = d
-does-run (a-step h log state answer D I O returned e) = step-runs h log (record { reply = withState state answer; D = D; I = I; O = O; log = returned }) e
+does-run (a-step h log answer state P D I O returned e) = step-runs h log (sisaLeft (withState state answer) P D I O returned) e
 
 calls-run : {h after : Host} {cs : List HostCall} {rs : List Reply} → HostCalls h cs rs after → Calls h (map asRun cs) rs after
 calls-run host-none = none
@@ -69,14 +71,14 @@ calls-run (host-more d ds) = more (does-run d) (calls-run ds)
 
 -- ---- Such replies exist
 
-does-one : (h : Host) (c : HostCall) → (r : Reply) × (after : Host) × HostDoes h c r after
+does-one : (h : Host) (c : HostCall) → (r : Reply) × (after : Host) × HostCallMeets h c r after
 does-one h (call c) = (replyTo h c, callOn h c, a-call (does-exists h c))
 does-one h (host-step log) =
-    let x = sisaRunLeft (givenTo h (budget1 log)) in
+    let x = sisaRunLeft byTable (givenTo h (budget1 log)) in
     let a = answerOf (x .reply) in (
-      ran (replyOf a) (x .log),
-      record { state = x .reply .state; P = h .P; D = x .D; I = x .I; O = x .O },
-      a-step h log (x .reply .state) a (x .D) (x .I) (x .O) (x .log) refl,
+      of-run (replyOf a) (x .log),
+      record { state = x .reply .state; P = x .P; D = x .D; I = x .I; O = x .O },
+      a-step h log a (x .reply .state) (x .P) (x .D) (x .I) (x .O) (x .log) refl,
     )
 
 calls-all : (h : Host) (cs : List HostCall) → (rs : List Reply) × (after : Host) × HostCalls h cs rs after

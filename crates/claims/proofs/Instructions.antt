@@ -4,14 +4,14 @@ use mathlib.Core.Path.{_≡_, refl}
 use mathlib.Core.Bool.{Bool, true, false}
 use mathlib.Core.Logic.{_↔_}
 use Prim.Native.Nat.{ℕ, _<_}
-use native.Mathlib.Omega.{arith}
 use Rattle.word.specs.Word.{pick}
+use Rattle.word.proofs.Tests.{clash, never}
 use Rattle.isa.specs.declared.Instruction.{Instruction}
 use Rattle.isa.specs.Sheet.{sheet}
 use Rattle.isa.specs.Instructions.{Read, instruction, unassigned, readOf, Written, word, refused, fits, writeOf}
 use Rattle.claims.specs.Instructions.{Unassigned, InRange, Instructions}
 use Rattle.claims.proofs.Computed.{read-then-written}
-use Rattle.claims.proofs.Decides.{Decides, never}
+use Rattle.claims.proofs.Decides.{Decides}
 use Rattle.claims.proofs.Ranges.{in-range}
 use Rattle.claims.proofs.Unassigned.{unassigned-words}
 use Rattle.claims.proofs.Written.{written-then-read}
@@ -20,14 +20,14 @@ use Rattle.claims.proofs.Written.{written-then-read}
 
 chosen : (t : Bool) {A : Type 0} (v : ℕ) → Decides t A → A ↔ ((w : ℕ) × (pick t (word v) (refused 7) ≡ word w))
 chosen true v d = (λ h. (v, refl), λ h. d .0 refl)
-chosen false v d = (λ h. never (d .1 h), λ h. let e : refused 7 ≡ word (h .0) = h .1 in let z : _≡_ {A = ℕ} 0 1 = cc in absurd (omega arith))
+chosen false v d = (λ h. never (d .1 h), λ h. let e : refused 7 ≡ word (h .0) = h .1 in clash (cc))
 
 turned-away : (t : Bool) {A : Type 0} (v : ℕ) → Decides t A → (A → ⊥) ↔ (pick t (word v) (refused 7) ≡ refused 7)
-turned-away true v d = (λ n. absurd (n (d .0 refl)), λ e. let z : _≡_ {A = ℕ} 0 1 = cc in absurd (omega arith))
+turned-away true v d = (λ n. absurd (n (d .0 refl)), λ e. clash (cc))
 turned-away false v d = (λ n. refl, λ e h. never (d .1 h))
 
 only-7 : (t : Bool) (v k : ℕ) → pick t (word v) (refused 7) ≡ refused k → k ≡ 7
-only-7 true v k e = let z : _≡_ {A = ℕ} 0 1 = cc in absurd (omega arith)
+only-7 true v k e = clash (cc)
 only-7 false v k e = cc
 
 -- ---- Words that are assigned

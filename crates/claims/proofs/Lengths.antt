@@ -6,15 +6,17 @@ use mathlib.Core.List.{List, []}
 use Prim.Native.Nat.{ℕ, _+_, _%_}
 use lib.Dec.{leb}
 use lib.ListN.{length, set, length-set}
+use Rattle.refusal.specs.Refusals.{Verdict, accepted, refused as turned-away}
 use Rattle.word.specs.Word.{pick}
 use Rattle.machine.specs.Machine.{Machine}
-use Rattle.machine.specs.Step.{PC, to, step}
-use Rattle.machine.specs.Calls.{SetLeft, done, setLeft}
-use Rattle.claims.proofs.Shift.{step-keeps, run-keeps}
-use Rattle.machine.proofs.Steps.{even}
-use Rattle.engine.specs.Runs.{Left, Verdict, accepted, refused as turned-away, verdict, verdictOn, leftBy, runLeft}
-use Rattle.claims.specs.Session.{Call, Reply, ran, Host, Lent, givenTo, afterRun, afterSet, Does, a-run, a-setting, Calls, none, more, outcome, machineOn, Only6, All, nil, cons}
-use Rattle.claims.proofs.Together.{both, same-program}
+use Rattle.machine.specs.Step.{PC, to}
+use Rattle.machine.specs.Run.{byRules}
+use Rattle.machine.specs.Calls.{SetLeft, setLeft}
+use Rattle.control.proofs.Laws.{lawful-rules, local-rules}
+use Rattle.engine.specs.Runs.{Left, verdict, verdictOn, leftBy, runLeft}
+use Rattle.claims.specs.Session.{Call, Reply, of-run, Host, Lent, givenTo, afterRun, afterSet, CallMeets, a-run, a-setting, Calls, none, more, outcome, machineOn, Only6, All, nil, cons}
+use Rattle.claims.proofs.Shift.{run-keeps}
+use Rattle.claims.proofs.Together.{both}
 
 abbrev lengths : Machine → ℕ × ℕ × ℕ × ℕ
 lengths m = (length (m .P), length (m .D), length (m .I), length (m .O))
@@ -23,18 +25,14 @@ lengths m = (length (m .P), length (m .D), length (m .I), length (m .O))
 abbrev pub Fit : Machine → Type 0
 Fit m = (lengths m ≡ (65536, 65536, 256, 256)) × (PC m % 2 ≡ 0)
 
-step-fits : (m next : Machine) → step m ≡ to next → Fit m → Fit next
-step-fits m next s f = (ap (λ k. (length (k .0), k .1, k .2, k .3)) (step-keeps m next s) ∙ f .0, even m next s (f .1))
+step-fits : (m next : Machine) → byRules .steps m ≡ to next → Fit m → Fit next
+step-fits m next s f = (ap (λ k. (length (k .0), k .1, k .2, k .3)) (local-rules .keeps m next s) ∙ f .0, lawful-rules .even m next s (f .1))
 
 module _ (h : Host) (f : Fit (machineOn h [])) where
   -- ---- A run
 
-  run-fits : (lent : Lent) (v : Verdict) → Fit (machineOn (afterRun h (leftBy v (givenTo h lent))) [])
-  run-fits lent accepted =
-      let m = machineOn h [] in
-      let z = outcome m lent .after in
-      subst (λ P. (_≡_ {A = ℕ × ℕ × ℕ × ℕ} (length P, length (z .D), length (z .I), length (z .O)) (65536, 65536, 256, 256)) × (PC z % 2 ≡ 0))
-      (same-program m lent) (run-keeps Fit step-fits (lent .budget) (0 + length (lent .log)) m f)
+  run-fits : (lent : Lent) (v : Verdict) → Fit (machineOn (afterRun (leftBy byRules v (givenTo h lent))) [])
+  run-fits lent accepted = run-keeps Fit step-fits (lent .budget) (0 + length (lent .log)) (machineOn h []) f
   run-fits lent (turned-away k) = f
 
   only : (lent : Lent) → verdictOn (givenTo h lent) ≡ pick (leb (h .state .n + lent .budget) 4294967295) accepted (turned-away 6)
@@ -46,29 +44,29 @@ module _ (h : Host) (f : Fit (machineOn h [])) where
       let o : length (h .O) ≡ 256 = ap (λ x. x .3) (f .0) in
       rw (p, d, i, o, f .1)
 
-  run-only : (lent : Lent) (t : Bool) → (let x = leftBy (pick t accepted (turned-away 6)) (givenTo h lent) in Only6 (ran (x .reply) (x .log)))
+  run-only : (lent : Lent) (t : Bool) → (let x = leftBy byRules (pick t accepted (turned-away 6)) (givenTo h lent) in Only6 (of-run (x .reply) (x .log)))
   run-only lent true = tt
   run-only lent false = refl
 
-  run-both : (lent : Lent) → (let x = runLeft (givenTo h lent) in Only6 (ran (x .reply) (x .log)) × Fit (machineOn (afterRun h x) []))
+  run-both : (lent : Lent) → (let x = runLeft byRules (givenTo h lent) in Only6 (of-run (x .reply) (x .log)) × Fit (machineOn (afterRun x) []))
   unfolding runLeft
   run-both lent =
-      subst (λ v. let x = leftBy v (givenTo h lent) in Only6 (ran (x .reply) (x .log)) × Fit (machineOn (afterRun h x) [])) (sym (only lent))
+      subst (λ v. let x = leftBy byRules v (givenTo h lent) in Only6 (of-run (x .reply) (x .log)) × Fit (machineOn (afterRun x) [])) (sym (only lent))
       (let t = leb (h .state .n + lent .budget) 4294967295 in (run-only lent t, run-fits lent (pick t accepted (turned-away 6))))
 
   -- ---- A setting
 
-  setting-done : (port value : ℕ) → setLeft (record { I = h .I; port = port; value = value }) ≡ record { reply = done; I = set (h .I) port value }
+  setting-done : (port value : ℕ) → setLeft (record { I = h .I; port = port; value = value }) ≡ record { reply = accepted; I = set (h .I) port value }
   unfolding setLeft
   setting-done port value = let i : length (h .I) ≡ 256 = ap (λ x. x .2) (f .0) in rw i
 
 -- ---- Lists
 
-does-fits : {h h′ : Host} {c : Call} {r : Reply} → Does h c r h′ → Fit (machineOn h []) → Only6 r × Fit (machineOn h′ [])
+does-fits : {h h′ : Host} {c : Call} {r : Reply} → CallMeets h c r h′ → Fit (machineOn h []) → Only6 r × Fit (machineOn h′ [])
 does-fits (a-run h e lent x promise) f =
-    subst (λ (y : Left). Only6 (ran (y .reply) (y .log)) × Fit (machineOn (afterRun h y) [])) (sym (both e (givenTo h lent) x promise)) (run-both h f lent)
+    subst (λ (y : Left). Only6 (of-run (y .reply) (y .log)) × Fit (machineOn (afterRun y) [])) (sym (both e (givenTo h lent) x promise)) (run-both h f lent)
 does-fits (a-setting h port value x promise) f =
-    subst (λ (y : SetLeft). (y .reply ≡ done) × Fit (machineOn (afterSet h y) [])) (sym (promise ∙ setting-done h f port value))
+    subst (λ (y : SetLeft). (y .reply ≡ accepted) × Fit (machineOn (afterSet h y) [])) (sym (promise ∙ setting-done h f port value))
     (refl, (simp length-set (f .0), f .1))
 
 pub calls-fit : {h h′ : Host} {cs : List Call} {rs : List Reply} → Calls h cs rs h′ → Fit (machineOn h []) → All Only6 rs

@@ -21,7 +21,7 @@ use Rattle.isa.specs.Instructions.{readOf, writeOf}
 use Rattle.machine.specs.Machine.{Machine, count, onState, wordAt}
 use Rattle.machine.specs.Step.{PC, write, jump, Rule, addi, ld, jalr, bnz, movi, movhi, rule, choice, stepBy, step}
 use Rattle.claims.specs.Instructions.{Register, InRange}
-use Rattle.claims.specs.Rules.{r, SE-n, effect, done}
+use Rattle.claims.specs.Rules.{r, SE-n, effect, afterInstruction}
 use Rattle.claims.specs.Marked.{registers, Steps, Does, Gives, Marked}
 use Rattle.claims.proofs.Instructions.{instructions}
 use Rattle.claims.proofs.Rules.{rules}
@@ -33,8 +33,8 @@ unfolding step
 by-word w s m e q l h = (_, ap (λ w. stepBy (choice w) w m) h ∙ ap (λ x. stepBy x w m) e, q l)
 
 -- a step by an instruction
-by-sheet : (i : Instruction) (m : Machine) {Q : Machine → Type 0} → (InRange i → length (m .state .r) ≡ 8 → Q (done i m)) → Does i m Q
-by-sheet i m q w e l h = (done i m, rules .written i w e m h, q (instructions .written i .1 (w, e)) l)
+by-sheet : (i : Instruction) (m : Machine) {Q : Machine → Type 0} → (InRange i → length (m .state .r) ≡ 8 → Q (afterInstruction i m)) → Does i m Q
+by-sheet i m q w e l h = (afterInstruction i m, rules .written i w e m h, q (instructions .written i .1 (w, e)) l)
 
 -- what was written in a register stands there
 there : (rs : List ℕ) (k : ℕ) {v u : ℕ} → length rs ≡ 8 → k < 8 → v ≡ u → getD (set rs k v) k 0 ≡ u

@@ -16,7 +16,8 @@ use Rattle.isa.specs.Sheet.{Number, signed-n, unsigned-n, Line, sheet}
 use Rattle.isa.specs.Instructions.{inRange, fits}
 use Rattle.isa.proofs.Every.{every}
 use Rattle.claims.specs.Instructions.{Register, Range, InRange}
-use Rattle.claims.proofs.Decides.{Decides, decides-eq, decides-lt, decides-leZ, decides-ltZ, decides-and, decides-or, is-true}
+use Rattle.claims.proofs.Decides.{Decides, decides-eq, decides-lt, decides-leZ, decides-ltZ, decides-and, decides-or}
+use Rattle.word.proofs.Tests.{is-true}
 
 -- every register of the sheet has 3 bits or none
 threefold : Bits → Bool

@@ -5,11 +5,13 @@ use mathlib.Core.Bool.{and-assoc}
 use mathlib.Core.Logic.{_↔_}
 use mathlib.Core.List.{List}
 use Prim.Native.Nat.{ℕ, _+_, _*_, _%_}
-use native.Mathlib.Omega.{arith}
 use lib.ListN.{length, set}
-use Rattle.machine.specs.Calls.{lengthsFit, SetGiven, SetLeft, done, refused as set-refused, setLeft}
-use Rattle.image.specs.Image.{W, programOffset, C, dataOffset, LoadReply, LoadGiven, accepted as load-accepted, refused as load-refused, loadReply, leftBy as load-leftBy, loadLeft}
-use Rattle.engine.specs.Runs.{Given, stopped, refused as run-refused, Verdict, accepted as run-accepted, refused as verdict-refused, verdict, leftBy as run-leftBy, runLeft}
+use Rattle.refusal.specs.Refusals.{Verdict, accepted, refused}
+use Rattle.word.proofs.Tests.{clash}
+use Rattle.machine.specs.Run.{Stepper}
+use Rattle.machine.specs.Calls.{lengthsFit, SetGiven, SetLeft, setLeft}
+use Rattle.image.specs.Image.{W, programOffset, C, dataOffset, LoadGiven, loadReply, leftBy as load-leftBy, loadLeft}
+use Rattle.engine.specs.Runs.{Given, stopped, refused as run-refused, verdict, leftBy as run-leftBy, runLeft}
 use Rattle.claims.specs.Refusals.{Lengths, LoadRefusals, SetRefusals, RunRefusals, Refusals}
 use Rattle.claims.proofs.Decides.{Fails, fails-eq, fails-le, fails-and, decides-eq, decides-stable}
 use Rattle.claims.proofs.Chains.{Reply, Tests, last, _then_, at, number, none, one-of}
@@ -30,18 +32,18 @@ lengths P D I O =
 -- ---- Load
 
 module _ (g : LoadGiven) where
-  load-replies : Reply LoadReply
+  load-replies : Reply Verdict
   load-replies =
       record {
-        accepted = load-accepted;
-        refused = load-refused;
-        Accepts = λ v. load-leftBy v g .reply ≡ load-accepted;
-        Gives = λ v k. load-leftBy v g .reply ≡ load-refused k;
+        accepted = accepted;
+        refused = refused;
+        Accepts = λ v. load-leftBy v g .reply ≡ accepted;
+        Gives = λ v k. load-leftBy v g .reply ≡ refused k;
         accepts = refl;
         gives = λ k. refl;
-        no-number = λ k e. let z : _≡_ {A = ℕ} 0 1 = cc in omega arith;
+        no-number = λ k e. clash (cc);
         one-number = λ j k e. cc;
-        not-both = λ k e. let z : _≡_ {A = ℕ} 0 1 = cc in omega arith;
+        not-both = λ k e. clash (cc);
       }
 
   load-tests : Tests
@@ -73,15 +75,15 @@ module _ (g : SetGiven) where
   set-replies : Reply SetLeft
   set-replies =
       record {
-        accepted = record { reply = done; I = set (g .I) (g .port) (g .value) };
-        refused = λ k. record { reply = set-refused k; I = g .I };
-        Accepts = λ l. l .reply ≡ done;
-        Gives = λ l k. l .reply ≡ set-refused k;
+        accepted = record { reply = accepted; I = set (g .I) (g .port) (g .value) };
+        refused = λ k. record { reply = refused k; I = g .I };
+        Accepts = λ l. l .reply ≡ accepted;
+        Gives = λ l k. l .reply ≡ refused k;
         accepts = refl;
         gives = λ k. refl;
-        no-number = λ k e. let z : _≡_ {A = ℕ} 0 1 = cc in omega arith;
+        no-number = λ k e. clash (cc);
         one-number = λ j k e. cc;
-        not-both = λ k e. let z : _≡_ {A = ℕ} 0 1 = cc in omega arith;
+        not-both = λ k e. clash (cc);
       }
 
   set-tests : Tests
@@ -100,19 +102,19 @@ module _ (g : SetGiven) where
 
 -- ---- Runs
 
-module _ (g : Given) where
+module _ (v : Stepper) (g : Given) where
   run-replies : Reply Verdict
   run-replies =
       record {
-        accepted = run-accepted;
-        refused = verdict-refused;
-        Accepts = λ v. (q : ℕ) × (s : ℕ) × (k : ℕ) × (run-leftBy v g .reply ≡ stopped q s k);
-        Gives = λ v k. run-leftBy v g .reply ≡ run-refused k;
+        accepted = accepted;
+        refused = refused;
+        Accepts = λ x. (q : ℕ) × (s : ℕ) × (k : ℕ) × (run-leftBy v x g .reply ≡ stopped q s k);
+        Gives = λ x k. run-leftBy v x g .reply ≡ run-refused k;
         accepts = (_, _, _, refl);
         gives = λ k. refl;
-        no-number = λ k e. let z : _≡_ {A = ℕ} 0 1 = cc in omega arith;
+        no-number = λ k e. clash (cc);
         one-number = λ j k e. cc;
-        not-both = λ k h. let e = h .3 in let z : _≡_ {A = ℕ} 0 1 = cc in omega arith;
+        not-both = λ k h. let e = h .3 in clash (cc);
       }
 
   run-tests : Tests
@@ -121,7 +123,7 @@ module _ (g : Given) where
       then at 5 (fails-eq (g .state .pc % 2) 0)
       then last (at 6 (fails-le (g .state .n + g .budget) 4294967295))
 
-  run : RunRefusals g
+  run : RunRefusals v g
   unfolding runLeft verdict run-replies run-tests
   run =
       record {
@@ -130,7 +132,7 @@ module _ (g : Given) where
         number-6 = flat3 (number run-replies run-tests 0 6 refl);
         accepts = flat3 (none run-replies run-tests);
         no-other = λ k e. one-of run-replies run-tests k e .0;
-        nothing-changes = λ k e. ap (λ v. run-leftBy v g) (one-of run-replies run-tests k e .1);
+        nothing-changes = λ k e. ap (λ x. run-leftBy v x g) (one-of run-replies run-tests k e .1);
       }
 
 pub refusals : Refusals

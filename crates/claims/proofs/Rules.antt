@@ -14,7 +14,7 @@ use Rattle.isa.specs.Sheet.{kindAt}
 use Rattle.isa.specs.Instructions.{Read, instruction, unassigned, readAs, readOf}
 use Rattle.machine.specs.Machine.{Machine}
 use Rattle.machine.specs.Step.{Ra, Rb, d5-3, write, Rule, compute, compare, addi, ld, st, ldb, stb, jalr, bz, bnz, movi, movhi, input, output, Row, by-f, none, rows, inRow, choice, Next, cannot, to, stepBy, fetched, step}
-use Rattle.claims.specs.Rules.{done, Rules}
+use Rattle.claims.specs.Rules.{afterInstruction, Rules}
 use Rattle.claims.proofs.Written.{written-then-read}
 
 -- ---- Tables
@@ -59,7 +59,7 @@ only-there = refl
 
 -- the step of what was read
 of-read : Read → Machine → Next
-of-read (instruction i) m = to (done i m)
+of-read (instruction i) m = to (afterInstruction i m)
 of-read unassigned m = cannot 1
 
 by-sheet : ℕ → ℕ → ℕ → ℕ → Machine → Next

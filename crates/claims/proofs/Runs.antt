@@ -6,30 +6,37 @@ use mathlib.Core.List.{_++_}
 use Prim.Native.Nat.{ℕ, zero, suc, _+_, _-_, _<_}
 use native.Mathlib.Omega.{arith}
 use lib.ListN.{length, drop}
+use Rattle.refusal.specs.Refusals.{Verdict, accepted, refused}
+use Rattle.word.proofs.Tests.{clash, never}
 use Rattle.machine.specs.Machine.{Machine}
-use Rattle.machine.specs.Step.{Next, cannot, to, step}
-use Rattle.machine.specs.Run.{Outcome, noPlace, runFrom}
-use Rattle.machine.proofs.Runs.{run-none, run-cannot, run-full, run-on, cannot-1}
-use Rattle.machine.proofs.Steps.{counts}
-use Rattle.engine.specs.Runs.{Given, Verdict, accepted, refused, stopped, machineAt, leftOf, leftBy, runLeft, verdictOn}
+use Rattle.machine.specs.Step.{Next, cannot, to}
+use Rattle.machine.specs.Run.{Stepper, byRules, Outcome, noPlace, runFrom}
+use Rattle.machine.proofs.Runs.{Lawful, run-none, run-cannot, run-full, run-on}
+use Rattle.control.specs.Control.{byControl}
+use Rattle.control.proofs.Laws.{lawful-control, lawful-rules, cannot-1, cannot-1-control}
+use Rattle.engine.specs.Runs.{Given, left, stopped, machineAt, leftOf, leftBy, runLeft, verdictOn}
 use Rattle.claims.specs.Runs.{Takes, none, more, First, budget-used, cannot-step, no-place, Reported, Runs}
-use Rattle.claims.proofs.Decides.{never}
 
 -- the number of steps, said in another way
-said : {budget full i j q : ℕ} {m : Machine} → i ≡ j → First budget full i m q → First budget full j m q
-said {budget} {full} {q = q} {m = m} e = subst (λ i. First budget full i m q) e
+said : {v : Stepper} {budget full i j q : ℕ} {m : Machine} → i ≡ j → First v budget full i m q → First v budget full j m q
+said {v} {budget} {full} {q = q} {m = m} e = subst (λ i. First v budget full i m q) e
 
-module _ (budget full : ℕ) where
+-- what v is known for
+record Known (v : Stepper) : Type 0 where
+  lawful : Lawful v
+  only-1 : (m : Machine) (q : ℕ) → v .steps m ≡ cannot q → q ≡ 1
+
+module _ (v : Stepper) (known : Known v) (budget full : ℕ) where
   -- a run from m, j steps after its start, that ends with z
   record Ends (j : ℕ) (m : Machine) (z : Outcome) : Type 0 where
     steps : ℕ
-    took : Takes steps m (z .after)
-    none-before : (i : ℕ) → i < steps → (x : Machine) → Takes i m x → (p : ℕ) → First budget full (j + i) x p → ⊥
-    stops : First budget full (j + steps) (z .after) (z .reason)
+    took : Takes v steps m (z .after)
+    none-before : (i : ℕ) → i < steps → (x : Machine) → Takes v i m x → (p : ℕ) → First v budget full (j + i) x p → ⊥
+    stops : First v budget full (j + steps) (z .after) (z .reason)
     counted : z .after .state .n ≡ m .state .n + steps
 
   -- it ends before a step,
-  here : (j q : ℕ) (m : Machine) → First budget full j m q → Ends j m (record { reason = q; after = m })
+  here : (j q : ℕ) (m : Machine) → First v budget full j m q → Ends j m (record { reason = q; after = m })
   here j q m f =
       record {
         steps = 0;
@@ -40,72 +47,73 @@ module _ (budget full : ℕ) where
       }
 
   -- or it takes one and goes on
-  none-here : (j : ℕ) (m next : Machine) → j < budget → step m ≡ to next → noPlace full m ≡ false → (p : ℕ) → First budget full j m p → ⊥
+  none-here : (j : ℕ) (m next : Machine) → j < budget → v .steps m ≡ to next → noPlace v full m ≡ false → (p : ℕ) → First v budget full j m p → ⊥
   none-here j m next h s f p (budget-used e) = omega arith
-  none-here j m next h s f p (cannot-step n e) = let z : _≡_ {A = ℕ} 0 1 = cc in omega arith
+  none-here j m next h s f p (cannot-step n e) = clash (cc)
   none-here j m next h s f p (no-place n e t) = never (sym f ∙ t)
 
-  later : (j : ℕ) (m next : Machine) (z : Outcome) → j < budget → step m ≡ to next → noPlace full m ≡ false → Ends (suc j) next z → Ends j m z
+  later : (j : ℕ) (m next : Machine) (z : Outcome) → j < budget → v .steps m ≡ to next → noPlace v full m ≡ false → Ends (suc j) next z → Ends j m z
   later j m next z h s f e =
       record {
         steps = suc (e .steps);
         took = more s (e .took);
         none-before = before;
         stops = said (omega arith) (e .stops);
-        counted = omega (arith, counts m next s, e .counted);
+        counted = omega (arith, known .lawful .counts m next s, e .counted);
       }
     where
-      before : (i : ℕ) → i < suc (e .steps) → (x : Machine) → Takes i m x → (p : ℕ) → First budget full (j + i) x p → ⊥
+      before : (i : ℕ) → i < suc (e .steps) → (x : Machine) → Takes v i m x → (p : ℕ) → First v budget full (j + i) x p → ⊥
       before i l x none p g = none-here j m next h s f p (said (omega arith) g)
       before i l x (more {k} {next = y} t r) p g =
           let same : y ≡ next = cc in
           e .none-before k (omega arith) x (rw same at r) p (said (omega arith) g)
 
-  ends : (rest j : ℕ) (m : Machine) → budget ≡ j + rest → Ends j m (runFrom rest full m)
+  ends : (rest j : ℕ) (m : Machine) → budget ≡ j + rest → Ends j m (runFrom v rest full m)
   ends zero j m h = rw run-none (here j 0 m (budget-used (omega arith)))
-  ends (suc rest) j m h = turn (ends rest (suc j)) (step m) refl (noPlace full m) refl
+  ends (suc rest) j m h = turn (ends rest (suc j)) (v .steps m) refl (noPlace v full m) refl
     where
-      turn : ((next : Machine) → budget ≡ suc j + rest → Ends (suc j) next (runFrom rest full next)) → (x : Next) → step m ≡ x → (t : Bool) → noPlace full m ≡ t → Ends j m (runFrom (suc rest) full m)
+      turn : ((next : Machine) → budget ≡ suc j + rest → Ends (suc j) next (runFrom v rest full next)) → (x : Next) → v .steps m ≡ x → (t : Bool) → noPlace v full m ≡ t → Ends j m (runFrom v (suc rest) full m)
       turn go (cannot q) s t f =
-          let one = cannot-1 m q s in
-          subst (Ends j m) (sym (run-cannot rest full q m s)) (rw one (here j 1 m (cannot-step (λ e. omega arith) (s ∙ ap cannot one))))
-      turn go (to next) s true f = subst (Ends j m) (sym (run-full rest full m next s f)) (here j 2 m (no-place (λ e. omega arith) s f))
+          let one = known .only-1 m q s in
+          subst (Ends j m) (sym (run-cannot v rest full m q s)) (rw one (here j 1 m (cannot-step (λ e. omega arith) (s ∙ ap cannot one))))
+      turn go (to next) s true f = subst (Ends j m) (sym (run-full v rest full m next s f)) (here j 2 m (no-place (λ e. omega arith) s f))
       turn go (to next) s false f =
-          subst (Ends j m) (sym (run-on rest full m next s f)) (later j m next (runFrom rest full next) (omega arith) s f (go next (omega arith)))
+          subst (Ends j m) (sym (run-on v rest full m next s f)) (later j m next (runFrom v rest full next) (omega arith) s f (go next (omega arith)))
 
 -- what is left says so
-ended : (g : Given) (z : Outcome) → Ends (g .budget) (length (g .log)) 0 (machineAt g) z → (q s k : ℕ) → leftOf g z .reply ≡ stopped q s k → Reported g (leftOf g z) q s k
-ended g z e q s k h =
-    let steps : z .after .state .n - g .state .n ≡ e .steps = omega (arith, e .counted) in
-    let a : z .reason ≡ q = cc in
-    let b : e .steps ≡ s = cc in
-    let c : length (z .after .L) ≡ k = cc in
-    rw (← a, ← b, ← c)
-    (record {
-      last = z .after;
-      took = e .took;
-      none-before = λ j l m t p f. e .none-before j l m t p (said (omega arith) f);
-      stops = said (omega arith) (e .stops);
-      entries = refl;
-      left =
-          ap (λ s.
-          record {
-            reply = stopped (z .reason) s (length (z .after .L));
-            state = z .after .state;
-            D = z .after .D;
-            I = z .after .I;
-            O = z .after .O;
-            log = z .after .L ++ drop (length (z .after .L)) (g .log);
-          }) steps;
-    })
+module _ (v : Stepper) (known : Known v) (g : Given) where
+  ended : (z : Outcome) → Ends v known (g .budget) (length (g .log)) 0 (machineAt g) z → (q s k : ℕ) → leftOf g z .reply ≡ stopped q s k → Reported v g (leftOf g z) q s k
+  ended z e q s k h =
+      let steps : z .after .state .n - g .state .n ≡ e .steps = omega (arith, e .counted) in
+      let a : z .reason ≡ q = cc in
+      let b : e .steps ≡ s = cc in
+      let c : length (z .after .L) ≡ k = cc in
+      rw (← a, ← b, ← c)
+      (record {
+        last = z .after;
+        took = e .took;
+        none-before = λ j l m t p f. e .none-before j l m t p (said (omega arith) f);
+        stops = said (omega arith) (e .stops);
+        entries = refl;
+        leaves =
+            let l = length (z .after .L) in
+            ap (λ s. left (stopped (z .reason) s l) (z .after .state) (z .after .P) (z .after .D) (z .after .I) (z .after .O) (z .after .L ++ drop l (g .log))) steps;
+      })
+
+  by-verdict : (x : Verdict) (q s k : ℕ) → leftBy v x g .reply ≡ stopped q s k → Reported v g (leftBy v x g) q s k
+  by-verdict accepted q s k h =
+      let m = machineAt g in
+      let places : length (g .log) ≡ length (m .L) + length (g .log) = omega arith in
+      ended _ (subst (λ f. Ends v known (g .budget) (length (g .log)) 0 m (runFrom v (g .budget) f m)) places (ends v known _ _ (g .budget) 0 m (omega arith))) q s k h
+  by-verdict (refused j) q s k h = clash (cc)
+
+  reported : (q s k : ℕ) → runLeft v g .reply ≡ stopped q s k → Reported v g (runLeft v g) q s k
+  unfolding runLeft
+  reported = by-verdict (verdictOn g)
 
 pub runs : Runs
-unfolding runLeft
-runs = record { reported = λ g. by-verdict g (verdictOn g) }
-  where
-    by-verdict : (g : Given) (v : Verdict) (q s k : ℕ) → leftBy v g .reply ≡ stopped q s k → Reported g (leftBy v g) q s k
-    by-verdict g accepted q s k h =
-        let m = machineAt g in
-        let places : length (g .log) ≡ length (m .L) + length (g .log) = omega arith in
-        ended g _ (subst (λ f. Ends (g .budget) (length (g .log)) 0 m (runFrom (g .budget) f m)) places (ends _ _ (g .budget) 0 m (omega arith))) q s k h
-    by-verdict g (refused j) q s k h = let z : _≡_ {A = ℕ} 0 1 = cc in absurd (omega arith)
+runs =
+    record {
+      by-rules = reported byRules (record { lawful = lawful-rules; only-1 = cannot-1 });
+      by-control = λ words. reported (byControl words) (record { lawful = lawful-control words; only-1 = cannot-1-control words });
+    }

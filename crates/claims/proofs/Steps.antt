@@ -1,7 +1,7 @@
--- By the laws of machine/proofs/Steps.antt.
+-- By the laws of control/proofs/Laws.antt.
 -- Assumes nothing.
-use Rattle.machine.proofs.Steps.{counts, even}
-use Rattle.claims.specs.Steps.{Steps}
+use Rattle.control.proofs.Laws.{lawful-rules}
+use Rattle.claims.specs.Steps.{StepLaws}
 
-pub steps : Steps
-steps = record { counts = counts; even = even }
+pub steps : StepLaws
+steps = record { counts = lawful-rules .counts; even = lawful-rules .even }

@@ -9,18 +9,21 @@ use native.Mathlib.Nat.{zero-add}
 use lib.Dec.{eqb}
 use lib.ListN.{length, set, take, drop, length-append}
 use lib.Seq.{take-append-seam, drop-append-seam}
+use Rattle.refusal.specs.Refusals.{Verdict, accepted, refused}
 use Rattle.word.specs.Word.{pick}
 use Rattle.machine.specs.Machine.{Machine, putI}
-use Rattle.machine.specs.Run.{Outcome, runFrom}
-use Rattle.machine.specs.Calls.{SetLeft, done, refused, setLeft}
-use Rattle.claims.proofs.Shift.{shift, shiftOutcome, run-shift, step-keeps, run-keeps}
-use Rattle.engine.specs.Runs.{Given, Left, stopped, Verdict, accepted, refused as turned-away, verdictOn, leftOf, leftBy, runLeft}
-use Rattle.claims.specs.Session.{Engine, by-rules, by-table, Lent, Call, runs, sets, Reply, ran, set as a-set, Host, givenTo, afterRun, afterSet, Promise, Does, a-run, a-setting, Calls, none, more, wrote, joined, outcome, runBy, machineCall, machineCalls, saidBy, machineSays, machineReplies, machineOn}
+use Rattle.machine.specs.Run.{byRules, Outcome, runFrom}
+use Rattle.machine.specs.Calls.{SetLeft, setLeft}
+use Rattle.control.proofs.Laws.{shift}
+use Rattle.engine.specs.Runs.{Given, Left, stopped, verdictOn, leftOf, leftBy, runLeft, RunMeets}
+use Rattle.claims.specs.Session.{Engine, by-rules, by-table, stepperOf, Lent, Call, runs, sets, Reply, of-run, of-set, Host, givenTo, afterRun, afterSet, CallMeets, a-run, a-setting, Calls, none, more, wrote, joined, outcome, runBy, machineCall, machineCalls, saidBy, machineSays, machineReplies, machineOn}
+use Rattle.claims.proofs.Agreement.{same-run}
+use Rattle.claims.proofs.Shift.{shiftOutcome, run-shift}
 
 -- both engines promise the same
-pub both : (e : Engine) (g : Given) (x : Left) → Promise e g x → x ≡ runLeft g
+pub both : (e : Engine) (g : Given) (x : Left) → RunMeets (stepperOf e) g x → x ≡ runLeft byRules g
 both by-rules g x p = p
-both by-table g x p = p
+both by-table g x p = p ∙ same-run g
 
 -- one call
 record Together (h : Host) (l : List ℕ) (c : Call) (r : Reply) (h′ : Host) : Type 0 where
@@ -34,64 +37,59 @@ outcome-shift : (h : Host) (l : List ℕ) (lent : Lent) → outcome (machineOn h
 outcome-shift h l lent =
     subst
     (λ (x : List ℕ).
-    runFrom (lent .budget) (length l + length (lent .log)) (machineOn h x)
-    ≡ shiftOutcome l (runFrom (lent .budget) (0 + length (lent .log)) (machineOn h [])))
+    runFrom byRules (lent .budget) (length l + length (lent .log)) (machineOn h x)
+    ≡ shiftOutcome l (runFrom byRules (lent .budget) (0 + length (lent .log)) (machineOn h [])))
     (append-nil l) (rw (zero-add (length (lent .log))) (run-shift (lent .budget) (length (lent .log)) l (machineOn h [])))
-
--- a run keeps P
-pub same-program : (m : Machine) (lent : Lent) → outcome m lent .after .P ≡ m .P
-same-program m lent =
-    run-keeps (λ x. x .P ≡ m .P) (λ x next s e. ap (λ k. k .0) (step-keeps x next s) ∙ e) (lent .budget) (length (m .L) + length (lent .log)) m refl
 
 -- what a machine with l in its L says of a run that came to y
 abbrev saying : Host → List ℕ → Lent → Outcome → Reply
 saying h l lent y =
     let new = drop (length l) (y .after .L) in
-    ran (stopped (y .reason) (y .after .state .n - h .state .n) (length (y .after .L) - length l)) (new ++ drop (length new) (lent .log))
+    of-run (stopped (y .reason) (y .after .state .n - h .state .n) (length (y .after .L) - length l)) (new ++ drop (length new) (lent .log))
 
 module _ (h : Host) (l : List ℕ) (lent : Lent) (z : Outcome) where
   abbrev left : Left
   left = leftOf (givenTo h lent) z
 
-  left-held : z .after .P ≡ h .P → machineOn (afterRun h left) (l ++ take (length (z .after .L)) (left .log)) ≡ shift l (z .after)
-  left-held p = rw (take-append-seam (z .after .L) (drop (length (z .after .L)) (lent .log)), ← p)
+  left-held : machineOn (afterRun left) (l ++ take (length (z .after .L)) (left .log)) ≡ shift l (z .after)
+  left-held = rw (take-append-seam (z .after .L) (drop (length (z .after .L)) (lent .log)))
 
-  left-says : ran (left .reply) (left .log) ≡ saying h l lent (shiftOutcome l z)
+  left-says : of-run (left .reply) (left .log) ≡ saying h l lent (shiftOutcome l z)
   left-says =
       let k : length (l ++ z .after .L) - length l ≡ length (z .after .L) = rw (length-append l (z .after .L)) (omega arith) in
       rw (drop-append-seam l (z .after .L), k)
 
 run-together :
     (h : Host) (l : List ℕ) (lent : Lent) (v : Verdict)
-    → (let x = leftBy v (givenTo h lent) in
-    (machineOn (afterRun h x) (l ++ wrote (ran (x .reply) (x .log))) ≡ runBy v (machineOn h l) lent)
-    × (ran (x .reply) (x .log) ≡ saidBy v (machineOn h l) lent))
-run-together h l lent (turned-away k) = (rw append-nil, refl)
+    → (let x = leftBy byRules v (givenTo h lent) in
+    (machineOn (afterRun x) (l ++ wrote (of-run (x .reply) (x .log))) ≡ runBy v (machineOn h l) lent)
+    × (of-run (x .reply) (x .log) ≡ saidBy v (machineOn h l) lent))
+run-together h l lent (refused k) = (rw append-nil, refl)
 run-together h l lent accepted =
     let z = outcome (machineOn h []) lent in
     let e = sym (outcome-shift h l lent) in
-    (left-held h l lent z (same-program (machineOn h []) lent) ∙ ap (λ y. y .after) e, left-says h l lent z ∙ ap (saying h l lent) e)
+    (left-held h l lent z ∙ ap (λ y. y .after) e, left-says h l lent z ∙ ap (saying h l lent) e)
 
 -- ---- A setting
 
 set-together :
     (h : Host) (l : List ℕ) (port value : ℕ) (b : Bool)
-    → (let x : SetLeft = pick b (record { reply = done; I = set (h .I) port value }) (record { reply = refused 1; I = h .I }) in
+    → (let x : SetLeft = pick b (record { reply = accepted; I = set (h .I) port value }) (record { reply = refused 1; I = h .I }) in
     (machineOn (afterSet h x) (l ++ []) ≡ pick b (putI port value (machineOn h l)) (machineOn h l))
-    × (a-set (x .reply) ≡ a-set (pick b done (refused 1))))
+    × (of-set (x .reply) ≡ of-set (pick b accepted (refused 1))))
 set-together h l port value true = (rw append-nil, refl)
 set-together h l port value false = (rw append-nil, refl)
 
 -- ---- Lists
 
-does-together : {h h′ : Host} {c : Call} {r : Reply} → Does h c r h′ → (l : List ℕ) → Together h l c r h′
+does-together : {h h′ : Host} {c : Call} {r : Reply} → CallMeets h c r h′ → (l : List ℕ) → Together h l c r h′
 unfolding machineCall machineSays runLeft setLeft
 does-together (a-run h e lent x promise) l =
-    subst (λ (y : Left). Together h l (runs e lent) (ran (y .reply) (y .log)) (afterRun h y))
+    subst (λ (y : Left). Together h l (runs e lent) (of-run (y .reply) (y .log)) (afterRun y))
     (sym (both e (givenTo h lent) x promise))
     (let t = run-together h l lent (verdictOn (givenTo h lent)) in record { held = t .0; says = t .1 })
 does-together (a-setting h port value x promise) l =
-    subst (λ (y : SetLeft). Together h l (sets port value) (a-set (y .reply)) (afterSet h y)) (sym promise)
+    subst (λ (y : SetLeft). Together h l (sets port value) (of-set (y .reply)) (afterSet h y)) (sym promise)
     (let t = set-together h l port value (eqb (length (h .I)) 256) in record { held = t .0; says = t .1 })
 
 -- from a machine whose L already holds l

@@ -1,19 +1,20 @@
 -- The unassigned words, by one test over opcode, e and f.
 -- Assumes nothing.
 use mathlib.Core.Path.{_≡_, refl, sym, _∙_, ap}
-use mathlib.Core.Bool.{Bool, true, false, not, _&&_, _||_}
+use mathlib.Core.Bool.{Bool, true, false, Bool·beq, _&&_, _||_}
 use mathlib.Core.Logic.{_↔_}
 use Prim.Native.Nat.{ℕ, _/_, _%_, _<_}
 use native.Mathlib.Omega.{arith}
 use lib.Dec.{T, eqb, leb}
 use Rattle.word.specs.Fields.{opcode, e-of, f-of}
 use Rattle.word.proofs.Computed.{all, all-at}
+use Rattle.word.proofs.Tests.{clash, never, same-test}
 use Rattle.isa.specs.declared.rows.Entry.{Entry}
 use Rattle.isa.specs.declared.rows.Entry.the-variants.{Unassigned as Empty, Assigned}
 use Rattle.isa.specs.Sheet.{kindAt}
 use Rattle.isa.specs.Instructions.{Read, instruction, unassigned, readAs, readOf}
 use Rattle.claims.specs.Instructions.{Unassigned}
-use Rattle.claims.proofs.Decides.{Decides, never, decides-eq, decides-le, decides-and, decides-or}
+use Rattle.claims.proofs.Decides.{Decides, decides-eq, decides-le, decides-and, decides-or}
 
 is-empty : Entry → Bool
 is-empty Empty = true
@@ -23,28 +24,17 @@ is-empty (Assigned k) = false
 listed : ℕ → ℕ → Bool
 listed op f = (eqb op 1 && (eqb f 2 || (eqb f 6 || eqb f 7))) || leb 11 op
 
-same : Bool → Bool → Bool
-same true b = b
-same false b = not b
-
-same-is : (a b : Bool) → T (same a b) → a ≡ b
-unfolding same
-same-is true true t = refl
-same-is true false t = absurd t
-same-is false true t = absurd t
-same-is false false t = refl
-
 test : ℕ → ℕ → ℕ → Bool
-test op e f = same (is-empty (kindAt op e f)) (listed op f)
+test op e f = Bool·beq (is-empty (kindAt op e f)) (listed op f)
 
 tested : T (all 16 (λ op. all 2 (λ e. all 8 (λ f. test op e f))))
-unfolding all test same is-empty listed kindAt
+unfolding all test is-empty listed kindAt
 tested = tt
 
 agrees : (w : ℕ) → w < 65536 → is-empty (kindAt (opcode w) (e-of w) (f-of w)) ≡ listed (opcode w) (f-of w)
 unfolding test
 agrees w h =
-    same-is _ _
+    same-test _ _
     (all-at 8 (λ f. test (opcode w) (e-of w) f)
     (all-at 2 (λ e. all 8 (λ f. test (opcode w) e f))
     (all-at 16 (λ op. all 2 (λ e. all 8 (λ f. test op e f))) tested (opcode w) (omega arith)) (e-of w) (omega arith)) (f-of w) (omega arith))
@@ -59,7 +49,7 @@ says w =
 reads : (x : Entry) (w : ℕ) → Decides (is-empty x) (readAs x w ≡ unassigned)
 unfolding is-empty
 reads Empty w = (λ e. refl, λ e. refl)
-reads (Assigned k) w = (never, λ e. let z : _≡_ {A = ℕ} 0 1 = cc in absurd (omega arith))
+reads (Assigned k) w = (never, λ e. clash (cc))
 
 pub unassigned-words : (w : ℕ) → w < 65536 → (readOf w ≡ unassigned) ↔ Unassigned w
 unfolding readOf

@@ -11,6 +11,7 @@ use Rattle.refusal.specs.declared.Refusal.the-variants.{InstructionPart}
 use Rattle.word.specs.Fields.{opcode, e-of, f-of}
 use Rattle.word.specs.Word.{pick}
 use Rattle.word.proofs.Computed.{all, all-at}
+use Rattle.word.proofs.Tests.{clash}
 use Rattle.isa.specs.declared.Kind.{Kind}
 use Rattle.isa.specs.declared.Kind.the-variants.{And}
 use Rattle.isa.specs.declared.Instruction.{Instruction}
@@ -99,10 +100,10 @@ record Accepted (m : Layout) (i : Instruction) (w : ℕ) : Type 0 where
 
 pick-word : (t : Bool) (u : Writing) (w : ℕ) → pick t u (Refused InstructionPart) ≡ Word w → (t ≡ true) × (u ≡ Word w)
 pick-word true u w e = (refl, e)
-pick-word false u w e = let z : _≡_ {A = ℕ} 0 1 = cc in absurd (omega arith)
+pick-word false u w e = clash (cc)
 
 word-bits : (m : Layout) (i : Instruction) (l : Low) (w : ℕ) → writeBits m i l ≡ Word w → (x : ℕ) × (l ≡ Bits x) × (wordSum m (i .a) (i .b) (i .d) x ≡ w)
-word-bits m i Nothing w e = let z : _≡_ {A = ℕ} 0 1 = cc in absurd (omega arith)
+word-bits m i Nothing w e = clash (cc)
 word-bits m i (Bits x) w e = (x, refl, cc)
 
 accepted : (m : Layout) (i : Instruction) (w : ℕ) → writeIn m i ≡ Word w → Accepted m i w
@@ -115,7 +116,7 @@ accepted m i w e =
 
 shown-word : (r : Writing) (w : ℕ) → shownWriting r ≡ word w → r ≡ Word w
 shown-word (Word v) w e = ap Word (cc)
-shown-word (Refused k) w e = let z : _≡_ {A = ℕ} 0 1 = cc in absurd (omega arith)
+shown-word (Refused k) w e = clash (cc)
 
 -- the fields of a word that was placed are the parts
 fields-back : (y : Form) (i : Instruction) (w : ℕ) → Fixed y → (below : layoutOf y .below < layoutOf y .size) → Accepted (layoutOf y) i w

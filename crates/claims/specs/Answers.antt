@@ -8,13 +8,13 @@ use Rattle.isa.specs.declared.Kind.{Kind}
 use Rattle.isa.specs.declared.Reading.{Reading}
 use Rattle.isa.specs.declared.Writing.{Writing}
 use Rattle.machine.specs.declared.Setting.{Setting}
-use Rattle.machine.specs.Calls.{SetReply, shownSetting}
+use Rattle.machine.specs.Calls.{shownSetting}
 use Rattle.image.specs.declared.Loading.{Loading}
-use Rattle.image.specs.Image.{LoadReply, shownLoading}
+use Rattle.image.specs.Image.{shownLoading}
 use Rattle.engine.specs.declared.Answer.{Answer}
-use Rattle.engine.specs.Runs.{RunReply, shownAnswer}
+use Rattle.engine.specs.Runs.{shownAnswer}
 use Rattle.isa.specs.Sheet.{kindNumber}
-use Rattle.isa.specs.Instructions.{Read, Written, shownReading, shownWriting}
+use Rattle.isa.specs.Instructions.{shownReading, shownWriting}
 
 abbrev pub Injective : {A B : Type 0} → (A → B) → Type 0
 Injective {A} f = (x y : A) → f x ≡ f y → x ≡ y

@@ -1,13 +1,19 @@
 -- What the check itself reads in each entry point's contract: that the caller is asked nothing (Asked), and what the caller
 -- learns (Learnt). κs are the lifetimes, a the arguments in their order, r the result, s the arguments at exit.
 use contract.Lifetimes.{Lfts}
-use denote.Ref.{now}
+use denote.Ref.{RefT, now}
 use mathlib.Core.Logic.{_↔_}
 use mathlib.Core.Path.{_≡_}
+use mathlib.Core.List.{List}
+use Prim.Native.Nat.{ℕ}
+use Rattle.machine.specs.declared.State.{State}
+use Rattle.machine.specs.Run.{Stepper, byRules}
 use Rattle.machine.specs.Calls.{SetLeft, shownSetting, setLeft, windowOf}
 use Rattle.isa.specs.Instructions.{shownReading, readOf, shownWriting, writeOf}
 use Rattle.image.specs.Image.{LoadLeft, shownLoading, loadLeft}
-use Rattle.engine.specs.Runs.{shownAnswer, RunMeets}
+use Rattle.control.specs.Control.{byControl, byTable}
+use Rattle.engine.specs.declared.Ran.{Ran}
+use Rattle.engine.specs.Runs.{given, left, shownAnswer, RunMeets}
 use Rattle.report.specs.Printed.{held, printed}
 use Rattle.isa.proofs.read.Reads as read
 use Rattle.isa.proofs.write.Reads as write
@@ -16,7 +22,23 @@ use Rattle.machine.proofs.window.Reads as window
 use Rattle.image.proofs.load.Reads as load
 use Rattle.engine.proofs.run_by_rules.Reads as run-by-rules
 use Rattle.engine.proofs.run_by_table.Reads as run-by-table
+use Rattle.engine.proofs.run_by_control.Reads as run-by-control
 use Rattle.report.proofs.report.Reads as report
+
+-- a lent slice
+abbrev pub Lent : Type 0
+Lent = RefT (List ℕ)
+
+-- a run's arguments: state, program, memory, inputs, outputs, budget, log
+abbrev pub RunArguments : Type 0
+RunArguments = State × (Lent × (Lent × (Lent × (Lent × (ℕ × (Lent × Unit {0}))))))
+
+-- what a run that goes by v says
+abbrev pub RunSays : Stepper → RunArguments → Ran → RunArguments → Type 0
+RunSays v a r s =
+    RunMeets v
+    (given (a .0) (now (a .1 .0)) (now (a .1 .1 .0)) (now (a .1 .1 .1 .0)) (now (a .1 .1 .1 .1 .0)) (a .1 .1 .1 .1 .1 .0) (now (a .1 .1 .1 .1 .1 .1 .0)))
+    (left (shownAnswer (r .answer)) (r .state) (now (s .1 .0)) (now (s .1 .1 .0)) (now (s .1 .1 .1 .0)) (now (s .1 .1 .1 .1 .0)) (now (s .1 .1 .1 .1 .1 .1 .0)))
 
 pub record Contracts : Type 1 where
   -- read(w)
@@ -63,50 +85,13 @@ pub record Contracts : Type 1 where
       ↔ (now r ≡ windowOf (now (a .0)) (now (a .1 .0)) (a .1 .1 .0) (a .1 .1 .1 .0) (a .1 .1 .1 .1 .0))
   -- run_by_rules(state, program, memory, inputs, outputs, budget, log)
   pub run-by-rules-asks : (κs : Lfts 5) (a : _) → run-by-rules.Asked κs a
-  pub run-by-rules :
-      (κs : Lfts 5) (a : _) (r : _) (s : _)
-      → run-by-rules.Learnt κs a r s
-      ↔ RunMeets
-      (record {
-        state = a .0;
-        P = now (a .1 .0);
-        D = now (a .1 .1 .0);
-        I = now (a .1 .1 .1 .0);
-        O = now (a .1 .1 .1 .1 .0);
-        budget = a .1 .1 .1 .1 .1 .0;
-        log = now (a .1 .1 .1 .1 .1 .1 .0);
-      })
-      (record {
-        reply = shownAnswer (r .answer);
-        state = r .state;
-        D = now (s .1 .1 .0);
-        I = now (s .1 .1 .1 .0);
-        O = now (s .1 .1 .1 .1 .0);
-        log = now (s .1 .1 .1 .1 .1 .1 .0);
-      })
-  -- run_by_table(state, program, memory, inputs, outputs, budget, log)
+  pub run-by-rules : (κs : Lfts 5) (a : _) (r : _) (s : _) → run-by-rules.Learnt κs a r s ↔ RunSays byRules a r s
+  -- run_by_table, the same
   pub run-by-table-asks : (κs : Lfts 5) (a : _) → run-by-table.Asked κs a
-  pub run-by-table :
-      (κs : Lfts 5) (a : _) (r : _) (s : _)
-      → run-by-table.Learnt κs a r s
-      ↔ RunMeets
-      (record {
-        state = a .0;
-        P = now (a .1 .0);
-        D = now (a .1 .1 .0);
-        I = now (a .1 .1 .1 .0);
-        O = now (a .1 .1 .1 .1 .0);
-        budget = a .1 .1 .1 .1 .1 .0;
-        log = now (a .1 .1 .1 .1 .1 .1 .0);
-      })
-      (record {
-        reply = shownAnswer (r .answer);
-        state = r .state;
-        D = now (s .1 .1 .0);
-        I = now (s .1 .1 .1 .0);
-        O = now (s .1 .1 .1 .1 .0);
-        log = now (s .1 .1 .1 .1 .1 .1 .0);
-      })
+  pub run-by-table : (κs : Lfts 5) (a : _) (r : _) (s : _) → run-by-table.Learnt κs a r s ↔ RunSays byTable a r s
+  -- run_by_control, with its words before these
+  pub run-by-control-asks : (κs : Lfts 6) (a : _) → run-by-control.Asked κs a
+  pub run-by-control : (κs : Lfts 6) (a : _) (r : _) (s : _) → run-by-control.Learnt κs a r s ↔ RunSays (byControl (now (a .0))) (a .1) r (s .1)
   -- report(file)
   pub report-asks : (κs : Lfts 1) (a : _) → report.Asked κs a
   pub report : (κs : Lfts 1) (a : _) (r : _) (s : _) → report.Learnt κs a r s ↔ (r ≡ held (printed (now (a .0))))

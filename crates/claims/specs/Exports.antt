@@ -6,9 +6,13 @@ use mathlib.Core.Bool.{not}
 use mathlib.Core.Logic.{_↔_}
 use mathlib.Core.Path.{_≡_}
 use lib.Dec.{eqb}
+use Rattle.machine.specs.Run.{Stepper, byRules}
 use Rattle.machine.specs.Calls.{windowOf}
 use Rattle.isa.specs.Instructions.{readOf}
-use Rattle.sisa.specs.Sisa.{SisaLoadLeft, sisaLoadLeft, SisaSetLeft, sisaSetLeft, SisaRunMeets, sisaInstruction, sisaWrite, sisaWindow, chosen, bytesOf}
+use Rattle.control.specs.Control.{byTable}
+use Rattle.engine.specs.Runs.{given}
+use Rattle.sisa.specs.declared.SisaRun.{SisaRun}
+use Rattle.sisa.specs.Sisa.{SisaLoadLeft, sisaLoadLeft, SisaSetLeft, sisaSetLeft, sisaLeft, SisaRunMeets, sisaInstruction, sisaWrite, sisaWindow, chosen, bytesOf}
 use Rattle.sisa.proofs.sisa_load.Reads as load
 use Rattle.sisa.proofs.sisa_set_input.Reads as set-input
 use Rattle.sisa.proofs.sisa_run_by_rules.Reads as run-by-rules
@@ -16,6 +20,14 @@ use Rattle.sisa.proofs.sisa_run_by_table.Reads as run-by-table
 use Rattle.sisa.proofs.sisa_read.Reads as read
 use Rattle.sisa.proofs.sisa_write.Reads as write
 use Rattle.sisa.proofs.sisa_window.Reads as window
+use Rattle.claims.specs.Contracts.{RunArguments}
+
+-- what a run that goes by v says
+abbrev pub RunSays : Stepper → RunArguments → SisaRun → RunArguments → Type 0
+RunSays v a r s =
+    SisaRunMeets v
+    (given (a .0) (now (a .1 .0)) (now (a .1 .1 .0)) (now (a .1 .1 .1 .0)) (now (a .1 .1 .1 .1 .0)) (a .1 .1 .1 .1 .1 .0) (now (a .1 .1 .1 .1 .1 .1 .0)))
+    (sisaLeft r (now (s .1 .0)) (now (s .1 .1 .0)) (now (s .1 .1 .1 .0)) (now (s .1 .1 .1 .1 .0)) (now (s .1 .1 .1 .1 .1 .1 .0)))
 
 pub record Exports : Type 1 where
   -- sisa_load(file, program, memory, inputs, outputs)
@@ -47,48 +59,10 @@ pub record Exports : Type 1 where
       ↔ (_≡_ {A = SisaSetLeft} (record { refusal = r; I = now (s .0) }) (sisaSetLeft (record { I = now (a .0); port = a .1 .0; value = a .1 .1 .0 })))
   -- sisa_run_by_rules(state, program, memory, inputs, outputs, budget, log)
   pub run-by-rules-asks : (κs : Lfts 5) (a : _) → run-by-rules.Asked κs a
-  pub run-by-rules :
-      (κs : Lfts 5) (a : _) (r : _) (s : _)
-      → run-by-rules.Learnt κs a r s
-      ↔ SisaRunMeets
-      (record {
-        state = a .0;
-        P = now (a .1 .0);
-        D = now (a .1 .1 .0);
-        I = now (a .1 .1 .1 .0);
-        O = now (a .1 .1 .1 .1 .0);
-        budget = a .1 .1 .1 .1 .1 .0;
-        log = now (a .1 .1 .1 .1 .1 .1 .0);
-      })
-      (record {
-        reply = r;
-        D = now (s .1 .1 .0);
-        I = now (s .1 .1 .1 .0);
-        O = now (s .1 .1 .1 .1 .0);
-        log = now (s .1 .1 .1 .1 .1 .1 .0);
-      })
-  -- sisa_run_by_table(state, program, memory, inputs, outputs, budget, log)
+  pub run-by-rules : (κs : Lfts 5) (a : _) (r : _) (s : _) → run-by-rules.Learnt κs a r s ↔ RunSays byRules a r s
+  -- sisa_run_by_table, the same
   pub run-by-table-asks : (κs : Lfts 5) (a : _) → run-by-table.Asked κs a
-  pub run-by-table :
-      (κs : Lfts 5) (a : _) (r : _) (s : _)
-      → run-by-table.Learnt κs a r s
-      ↔ SisaRunMeets
-      (record {
-        state = a .0;
-        P = now (a .1 .0);
-        D = now (a .1 .1 .0);
-        I = now (a .1 .1 .1 .0);
-        O = now (a .1 .1 .1 .1 .0);
-        budget = a .1 .1 .1 .1 .1 .0;
-        log = now (a .1 .1 .1 .1 .1 .1 .0);
-      })
-      (record {
-        reply = r;
-        D = now (s .1 .1 .0);
-        I = now (s .1 .1 .1 .0);
-        O = now (s .1 .1 .1 .1 .0);
-        log = now (s .1 .1 .1 .1 .1 .1 .0);
-      })
+  pub run-by-table : (κs : Lfts 5) (a : _) (r : _) (s : _) → run-by-table.Learnt κs a r s ↔ RunSays byTable a r s
   -- sisa_read(word)
   pub read-asks : (κs : Lfts 0) (a : _) → read.Asked κs a
   pub read : (κs : Lfts 0) (a : _) (r : _) (s : _) → read.Learnt κs a r s ↔ (r ≡ sisaInstruction (readOf (a .0)))

@@ -7,8 +7,8 @@ use Rattle.word.specs.Word.{pick}
 use Rattle.machine.specs.declared.State.{State}
 use Rattle.engine.specs.Runs.{RunReply, stopped, refused}
 use Rattle.sisa.specs.declared.SisaAnswer.{SisaAnswer}
-use Rattle.sisa.specs.Sisa.{SisaRunMeets, withState}
-use Rattle.claims.specs.Session.{by-table, Lent, Call, runs, Reply, ran, Host, givenTo, Does, Calls}
+use Rattle.sisa.specs.Sisa.{hostLent, HostStepMeets}
+use Rattle.claims.specs.Session.{by-table, Lent, Call, runs, Reply, of-run, Host, CallMeets, Calls}
 
 -- a call of Session.antt, or a host step and the log that it is lent
 pub data HostCall : Type 0 where
@@ -29,19 +29,19 @@ replyOf a = pick (eqb (a .refusal) 0) (stopped (a .stop) (a .steps) (a .entries)
 
 -- One call, of which only its contract is known; of a host step that of sisa_host_step, where `state` is what it left in the
 -- host's registers.
-pub data HostDoes : Host → HostCall → Reply → Host → Type 0 where
-  a-call : {h after : Host} {c : Call} {r : Reply} → Does h c r after → HostDoes h (call c) r after
+pub data HostCallMeets : Host → HostCall → Reply → Host → Type 0 where
+  a-call : {h after : Host} {c : Call} {r : Reply} → CallMeets h c r after → HostCallMeets h (call c) r after
   a-step :
-      (h : Host) (log : List ℕ) (state : State) (answer : SisaAnswer) (D I O returned : List ℕ)
-      → SisaRunMeets (givenTo h (budget1 log)) (record { reply = withState state answer; D = D; I = I; O = O; log = returned })
-      → HostDoes h (host-step log) (ran (replyOf answer) returned) (record { state = state; P = h .P; D = D; I = I; O = O })
+      (h : Host) (log : List ℕ) (answer : SisaAnswer) (state : State) (P D I O returned : List ℕ)
+      → HostStepMeets (hostLent (h .state) (h .P) (h .D) (h .I) (h .O) log) answer (hostLent state P D I O returned)
+      → HostCallMeets h (host-step log) (of-run (replyOf answer) returned) (record { state = state; P = P; D = D; I = I; O = O })
 
 -- a list of calls, one after the other
 pub data HostCalls : Host → List HostCall → List Reply → Host → Type 0 where
   none : {h : Host} → HostCalls h [] [] h
   more :
       {h h₁ h₂ : Host} {c : HostCall} {r : Reply} {cs : List HostCall} {rs : List Reply}
-      → HostDoes h c r h₁ → HostCalls h₁ cs rs h₂ → HostCalls h (c ∷ cs) (r ∷ rs) h₂
+      → HostCallMeets h c r h₁ → HostCalls h₁ cs rs h₂ → HostCalls h (c ∷ cs) (r ∷ rs) h₂
 
 pub record HostSteps : Type 0 where
   -- the list with table runs of budget 1 in place of the host steps gets the same replies and logs and leaves the same states,

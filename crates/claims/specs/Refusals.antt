@@ -5,10 +5,12 @@ use mathlib.Core.Logic.{_⊎_, _↔_}
 use mathlib.Core.List.{List}
 use Prim.Native.Nat.{ℕ, _+_, _*_, _%_, _<_}
 use lib.ListN.{length}
+use Rattle.refusal.specs.Refusals.{accepted, refused}
 use Rattle.machine.specs.Machine.{reset}
-use Rattle.machine.specs.Calls.{SetGiven, SetLeft, done, refused, setLeft}
-use Rattle.image.specs.Image.{W, programOffset, C, dataOffset, LoadGiven, LoadLeft, accepted, refused as load-refused, loadLeft}
-use Rattle.engine.specs.Runs.{Given, stopped, refused as run-refused, runLeft}
+use Rattle.machine.specs.Run.{Stepper}
+use Rattle.machine.specs.Calls.{SetGiven, SetLeft, setLeft}
+use Rattle.image.specs.Image.{W, programOffset, C, dataOffset, LoadGiven, LoadLeft, loadLeft}
+use Rattle.engine.specs.Runs.{Given, left, stopped, refused as run-refused, runLeft}
 
 -- ---- The conditions, as 01's table has them
 
@@ -34,33 +36,33 @@ PartOutside file =
 -- ---- Load: 1 to 4
 
 pub record LoadRefusals (g : LoadGiven) : Type 0 where
-  pub number-1 : (loadLeft g .reply ≡ load-refused 1) ↔ Lengths (g .P) (g .D) (g .I) (g .O)
-  pub number-2 : (loadLeft g .reply ≡ load-refused 2) ↔ ((Lengths (g .P) (g .D) (g .I) (g .O) → ⊥) × ShortFile (g .file))
+  pub number-1 : (loadLeft g .reply ≡ refused 1) ↔ Lengths (g .P) (g .D) (g .I) (g .O)
+  pub number-2 : (loadLeft g .reply ≡ refused 2) ↔ ((Lengths (g .P) (g .D) (g .I) (g .O) → ⊥) × ShortFile (g .file))
   pub number-3 :
-      (loadLeft g .reply ≡ load-refused 3)
+      (loadLeft g .reply ≡ refused 3)
       ↔ ((Lengths (g .P) (g .D) (g .I) (g .O) → ⊥) × (ShortFile (g .file) → ⊥) × LargePart (g .file))
   pub number-4 :
-      (loadLeft g .reply ≡ load-refused 4)
+      (loadLeft g .reply ≡ refused 4)
       ↔ ((Lengths (g .P) (g .D) (g .I) (g .O) → ⊥) × (ShortFile (g .file) → ⊥) × (LargePart (g .file) → ⊥) × PartOutside (g .file))
   pub accepts :
       (loadLeft g .reply ≡ accepted)
       ↔ ((Lengths (g .P) (g .D) (g .I) (g .O) → ⊥) × (ShortFile (g .file) → ⊥) × (LargePart (g .file) → ⊥) × (PartOutside (g .file) → ⊥))
   -- no other number
-  pub no-other : (k : ℕ) → loadLeft g .reply ≡ load-refused k → (k ≡ 1) ⊎ (k ≡ 2) ⊎ (k ≡ 3) ⊎ (k ≡ 4)
+  pub no-other : (k : ℕ) → loadLeft g .reply ≡ refused k → (k ≡ 1) ⊎ (k ≡ 2) ⊎ (k ≡ 3) ⊎ (k ≡ 4)
   -- Nothing lent changes; the state beside the number is the reset one.
   pub nothing-changes :
-      (k : ℕ) → loadLeft g .reply ≡ load-refused k
-      → loadLeft g ≡ record { reply = load-refused k; state = reset; P = g .P; D = g .D; I = g .I; O = g .O }
+      (k : ℕ) → loadLeft g .reply ≡ refused k
+      → loadLeft g ≡ record { reply = refused k; state = reset; P = g .P; D = g .D; I = g .I; O = g .O }
 
 -- ---- Set: 1, which looks at I only
 
 pub record SetRefusals (g : SetGiven) : Type 0 where
   pub number-1 : (setLeft g .reply ≡ refused 1) ↔ (length (g .I) ≡ 256 → ⊥)
-  pub accepts : (setLeft g .reply ≡ done) ↔ (length (g .I) ≡ 256)
+  pub accepts : (setLeft g .reply ≡ accepted) ↔ (length (g .I) ≡ 256)
   pub no-other : (k : ℕ) → setLeft g .reply ≡ refused k → k ≡ 1
   pub nothing-changes : (k : ℕ) → setLeft g .reply ≡ refused k → setLeft g ≡ record { reply = refused k; I = g .I }
 
--- ---- Runs: 1, 5, 6
+-- ---- Runs: 1, 5, 6, whatever the run goes by: the rules, the control table, or another table
 
 -- 5: PC odd
 abbrev pub OddPC : Given → Type 0
@@ -70,21 +72,21 @@ OddPC g = g .state .pc % 2 ≡ 0 → ⊥
 abbrev pub TooMany : Given → Type 0
 TooMany g = 4294967295 < g .state .n + g .budget
 
-abbrev pub Accepts : Given → Type 0
-Accepts g = (q : ℕ) × (s : ℕ) × (k : ℕ) × (runLeft g .reply ≡ stopped q s k)
+abbrev pub Accepts : Stepper → Given → Type 0
+Accepts v g = (q : ℕ) × (s : ℕ) × (k : ℕ) × (runLeft v g .reply ≡ stopped q s k)
 
-pub record RunRefusals (g : Given) : Type 0 where
-  pub number-1 : (runLeft g .reply ≡ run-refused 1) ↔ Lengths (g .P) (g .D) (g .I) (g .O)
-  pub number-5 : (runLeft g .reply ≡ run-refused 5) ↔ ((Lengths (g .P) (g .D) (g .I) (g .O) → ⊥) × OddPC g)
-  pub number-6 : (runLeft g .reply ≡ run-refused 6) ↔ ((Lengths (g .P) (g .D) (g .I) (g .O) → ⊥) × (OddPC g → ⊥) × TooMany g)
-  pub accepts : Accepts g ↔ ((Lengths (g .P) (g .D) (g .I) (g .O) → ⊥) × (OddPC g → ⊥) × (TooMany g → ⊥))
-  pub no-other : (k : ℕ) → runLeft g .reply ≡ run-refused k → (k ≡ 1) ⊎ (k ≡ 5) ⊎ (k ≡ 6)
+pub record RunRefusals (v : Stepper) (g : Given) : Type 0 where
+  pub number-1 : (runLeft v g .reply ≡ run-refused 1) ↔ Lengths (g .P) (g .D) (g .I) (g .O)
+  pub number-5 : (runLeft v g .reply ≡ run-refused 5) ↔ ((Lengths (g .P) (g .D) (g .I) (g .O) → ⊥) × OddPC g)
+  pub number-6 : (runLeft v g .reply ≡ run-refused 6) ↔ ((Lengths (g .P) (g .D) (g .I) (g .O) → ⊥) × (OddPC g → ⊥) × TooMany g)
+  pub accepts : Accepts v g ↔ ((Lengths (g .P) (g .D) (g .I) (g .O) → ⊥) × (OddPC g → ⊥) × (TooMany g → ⊥))
+  pub no-other : (k : ℕ) → runLeft v g .reply ≡ run-refused k → (k ≡ 1) ⊎ (k ≡ 5) ⊎ (k ≡ 6)
   -- Nothing lent changes, and the state is as handed.
   pub nothing-changes :
-      (k : ℕ) → runLeft g .reply ≡ run-refused k
-      → runLeft g ≡ record { reply = run-refused k; state = g .state; D = g .D; I = g .I; O = g .O; log = g .log }
+      (k : ℕ) → runLeft v g .reply ≡ run-refused k
+      → runLeft v g ≡ left (run-refused k) (g .state) (g .P) (g .D) (g .I) (g .O) (g .log)
 
 pub record Refusals : Type 0 where
   pub load : (g : LoadGiven) → LoadRefusals g
   pub setting : (g : SetGiven) → SetRefusals g
-  pub run : (g : Given) → RunRefusals g
+  pub run : (v : Stepper) (g : Given) → RunRefusals v g

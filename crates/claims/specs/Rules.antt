@@ -81,13 +81,13 @@ effect In a b d n m = write d (getD (m .I) (natAbs n) 0) m
 effect Out a b d n m = putO (natAbs n) (r m a) m
 
 -- PC=PC+2, what the instruction does, and n grows by 1
-abbrev pub done : Instruction → Machine → Machine
-done i m = onState count (effect (i .kind) (i .a) (i .b) (i .d) (i .n) (jump (add (PC m) 2) m))
+abbrev pub afterInstruction : Instruction → Machine → Machine
+afterInstruction i m = onState count (effect (i .kind) (i .a) (i .b) (i .d) (i .n) (jump (add (PC m) 2) m))
 
 pub record Rules : Type 0 where
   -- Where the word at PC reads as i, whatever its ignored bits, the machine's step is i's.
-  pub read : (i : Instruction) (w : ℕ) → readOf w ≡ instruction i → (m : Machine) → fetched m ≡ w → step m ≡ to (done i m)
+  pub read : (i : Instruction) (w : ℕ) → readOf w ≡ instruction i → (m : Machine) → fetched m ≡ w → step m ≡ to (afterInstruction i m)
   -- So it is where that word is the one that is written for i.
-  pub written : (i : Instruction) (w : ℕ) → writeOf i ≡ word w → (m : Machine) → fetched m ≡ w → step m ≡ to (done i m)
+  pub written : (i : Instruction) (w : ℕ) → writeOf i ≡ word w → (m : Machine) → fetched m ≡ w → step m ≡ to (afterInstruction i m)
   -- A word that reads as unassigned is one where the machine can't step.
   pub unassigned-stops : (w : ℕ) → readOf w ≡ unassigned → (m : Machine) → fetched m ≡ w → step m ≡ cannot 1

@@ -5,20 +5,26 @@ use mathlib.Core.List.{List, [], _∷_, _++_, map}
 use Prim.Native.Nat.{ℕ, _-_}
 use lib.Dec.{eqb}
 use lib.ListN.{length, take, drop, replicate}
+use Rattle.refusal.specs.Refusals.{Verdict, accepted, refused}
 use Rattle.word.specs.Word.{pick}
 use Rattle.machine.specs.declared.State.{State}
 use Rattle.machine.specs.Machine.{Machine, putI}
-use Rattle.machine.specs.Run.{Outcome, run}
-use Rattle.machine.specs.Calls.{SetGiven, SetLeft, SetReply, done, refused, setLeft}
-use Rattle.image.specs.Image.{LoadGiven, LoadLeft, accepted, loaded, loadLeft}
+use Rattle.machine.specs.Run.{Stepper, byRules, Outcome, run}
+use Rattle.machine.specs.Calls.{SetGiven, SetLeft, setLeft}
+use Rattle.image.specs.Image.{LoadGiven, LoadLeft, loaded, loadLeft}
 use Rattle.report.specs.Example.{exampleFile}
-use Rattle.engine.specs.Runs.{Given, Left, RunReply, stopped, refused as run-refused, Verdict, accepted as run-accepted, refused as turned-away, verdictOn, RunMeets}
+use Rattle.control.specs.Control.{byTable}
+use Rattle.engine.specs.Runs.{Given, given, Left, RunReply, stopped, refused as run-refused, verdictOn, RunMeets}
 
 -- ---- The calls
 
--- the engine that does a run
+-- the engine that does a run, and what its run goes by
 pub data Engine : Type 0 where
   by-rules by-table : Engine
+
+abbrev pub stepperOf : Engine → Stepper
+stepperOf by-rules = byRules
+stepperOf by-table = byTable
 
 -- what a run is lent besides what the host holds
 pub record Lent : Type 0 where
@@ -31,8 +37,8 @@ pub data Call : Type 0 where
 
 -- what comes back: a run's reply and the log as it was returned; a setting's reply
 pub data Reply : Type 0 where
-  ran : RunReply → List ℕ → Reply
-  set : SetReply → Reply
+  of-run : RunReply → List ℕ → Reply
+  of-set : Verdict → Reply
 
 -- Lists that are alike have the same settings, budgets and lent logs: the engines are forgotten.
 abbrev pub plain : Call → Call
@@ -58,40 +64,35 @@ hostOf l = record { state = l .state; P = l .P; D = l .D; I = l .I; O = l .O }
 
 -- Each call gets what it takes of state, memories and ports as the load and the calls before it last returned or left it.
 abbrev pub givenTo : Host → Lent → Given
-givenTo h lent = record { state = h .state; P = h .P; D = h .D; I = h .I; O = h .O; budget = lent .budget; log = lent .log }
+givenTo h lent = given (h .state) (h .P) (h .D) (h .I) (h .O) (lent .budget) (lent .log)
 
-abbrev pub afterRun : Host → Left → Host
-afterRun h l = record { state = l .state; P = h .P; D = l .D; I = l .I; O = l .O }
+abbrev pub afterRun : Left → Host
+afterRun l = record { state = l .state; P = l .P; D = l .D; I = l .I; O = l .O }
 
 abbrev pub afterSet : Host → SetLeft → Host
 afterSet h l = record { state = h .state; P = h .P; D = h .D; I = l .I; O = h .O }
 
--- the contract of each engine's run (the theorem `contracts` says that it is this relation)
-abbrev pub Promise : Engine → Given → Left → Type 0
-Promise by-rules g l = RunMeets g l
-Promise by-table g l = RunMeets g l
-
--- one call, of which only its contract is known
-pub data Does : Host → Call → Reply → Host → Type 0 where
+-- one call, of which only its contract is known (the theorem `contracts` says that it is this relation)
+pub data CallMeets : Host → Call → Reply → Host → Type 0 where
   a-run :
-      (h : Host) (e : Engine) (lent : Lent) (l : Left) → Promise e (givenTo h lent) l
-      → Does h (runs e lent) (ran (l .reply) (l .log)) (afterRun h l)
+      (h : Host) (e : Engine) (lent : Lent) (l : Left) → RunMeets (stepperOf e) (givenTo h lent) l
+      → CallMeets h (runs e lent) (of-run (l .reply) (l .log)) (afterRun l)
   a-setting :
       (h : Host) (port value : ℕ) (l : SetLeft) → l ≡ setLeft (record { I = h .I; port = port; value = value })
-      → Does h (sets port value) (set (l .reply)) (afterSet h l)
+      → CallMeets h (sets port value) (of-set (l .reply)) (afterSet h l)
 
 -- a list of calls, one after the other
 pub data Calls : Host → List Call → List Reply → Host → Type 0 where
   none : {h : Host} → Calls h [] [] h
   more :
       {h h₁ h₂ : Host} {c : Call} {r : Reply} {cs : List Call} {rs : List Reply}
-      → Does h c r h₁ → Calls h₁ cs rs h₂ → Calls h (c ∷ cs) (r ∷ rs) h₂
+      → CallMeets h c r h₁ → Calls h₁ cs rs h₂ → Calls h (c ∷ cs) (r ∷ rs) h₂
 
 -- the joining, in the order of the calls, of what the accepted runs wrote, each taken as its run returned
 abbrev pub wrote : Reply → List ℕ
-wrote (ran (stopped q steps entries) log) = take entries log
-wrote (ran (run-refused k) log) = []
-wrote (set r) = []
+wrote (of-run (stopped q steps entries) log) = take entries log
+wrote (of-run (run-refused k) log) = []
+wrote (of-set r) = []
 
 unfoldable pub joined : List Reply → List ℕ
 joined [] = []
@@ -100,15 +101,15 @@ joined (r ∷ rs) = wrote r ++ joined rs
 -- ---- The plain machine, given the same calls
 
 abbrev pub givenOf : Machine → Lent → Given
-givenOf m lent = record { state = m .state; P = m .P; D = m .D; I = m .I; O = m .O; budget = lent .budget; log = lent .log }
+givenOf m lent = given (m .state) (m .P) (m .D) (m .I) (m .O) (lent .budget) (lent .log)
 
 abbrev pub outcome : Machine → Lent → Outcome
-outcome m lent = run (lent .budget) (length (lent .log)) m
+outcome m lent = run byRules (lent .budget) (length (lent .log)) m
 
 -- In an accepted run it takes steps until one of the tests holds. A call that the refusal table turns away changes nothing.
 abbrev pub runBy : Verdict → Machine → Lent → Machine
-runBy run-accepted m lent = outcome m lent .after
-runBy (turned-away k) m lent = m
+runBy accepted m lent = outcome m lent .after
+runBy (refused k) m lent = m
 
 -- An accepted set is its Set.
 unfoldable pub machineCall : Machine → Call → Machine
@@ -122,15 +123,15 @@ machineCalls m (c ∷ cs) = machineCalls (machineCall m c) cs
 -- What it says of a run: the first test that held is the stop reason, and the steps and entries are by how much n and L grew;
 -- the log as returned has the new entries, then the lent places as they were.
 abbrev pub saidBy : Verdict → Machine → Lent → Reply
-saidBy run-accepted m lent =
+saidBy accepted m lent =
     let z = outcome m lent in
     let new = drop (length (m .L)) (z .after .L) in
-    ran (stopped (z .reason) (z .after .state .n - m .state .n) (length (z .after .L) - length (m .L))) (new ++ drop (length new) (lent .log))
-saidBy (turned-away k) m lent = ran (run-refused k) (lent .log)
+    of-run (stopped (z .reason) (z .after .state .n - m .state .n) (length (z .after .L) - length (m .L))) (new ++ drop (length new) (lent .log))
+saidBy (refused k) m lent = of-run (run-refused k) (lent .log)
 
 unfoldable pub machineSays : Machine → Call → Reply
 machineSays m (runs e lent) = saidBy (verdictOn (givenOf m lent)) m lent
-machineSays m (sets port value) = set (pick (eqb (length (m .I)) 256) done (refused 1))
+machineSays m (sets port value) = of-set (pick (eqb (length (m .I)) 256) accepted (refused 1))
 
 unfoldable pub machineReplies : Machine → List Call → List Reply
 machineReplies m [] = []
@@ -153,9 +154,9 @@ pub record Agreed (file : List ℕ) (cs : List Call) (rs₁ rs₂ : List Reply) 
 
 -- a refused run in a list is refused with 6, and no setting is refused
 abbrev pub Only6 : Reply → Type 0
-Only6 (ran (stopped q s k) log) = Unit {0}
-Only6 (ran (run-refused k) log) = k ≡ 6
-Only6 (set r) = r ≡ done
+Only6 (of-run (stopped q s k) log) = Unit {0}
+Only6 (of-run (run-refused k) log) = k ≡ 6
+Only6 (of-set r) = r ≡ accepted
 
 pub data All (Q : Reply → Type 0) : List Reply → Type 0 where
   nil : All Q []

@@ -4,7 +4,7 @@ use Prim.Native.Nat.{_+_, _%_}
 use Rattle.machine.specs.Machine.{Machine}
 use Rattle.machine.specs.Step.{PC, to, step}
 
-pub record Steps : Type 0 where
+pub record StepLaws : Type 0 where
   -- n grows by 1
   pub counts : (m next : Machine) → step m ≡ to next → next .state .n ≡ m .state .n + 1
   -- PC stays even

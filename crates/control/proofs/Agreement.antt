@@ -12,11 +12,11 @@ use Rattle.word.specs.Fields.{opcode, e-of, f-of, N8}
 use Rattle.word.specs.Word.{pick, add, SE}
 use Rattle.word.proofs.Computed.{all, all-at}
 use Rattle.word.proofs.Signed.{SE-is}
+use Rattle.word.proofs.Tests.{is-true}
 use Rattle.machine.specs.Machine.{Machine, R, count, onState}
-use Rattle.machine.specs.Step.{PC, Ra, d11-9, write, jump, among, Rule, Row, by-f, one, by-e, none, rows, Choice, rule, unassigned, inRow, choice, Next, cannot, to, stepBy, compute, compare, addi, ld, st, ldb, stb, jalr, bz, bnz, movi, movhi, input, output}
-use Rattle.machine.specs.Run.{isOut}
-use Rattle.machine.specs.Held.{isRule}
-use Rattle.control.specs.Control.{second, unit, result, next, stored, written, performed, assigned, writesPort, controlStep, table, controlIn, controlOf}
+use Rattle.machine.specs.Step.{PC, Ra, d11-9, write, jump, among, Rule, Row, by-f, one, by-e, none, rows, Choice, rule, unassigned, inRow, choice, Next, cannot, to, stepBy, fetched, step, compute, compare, addi, ld, st, ldb, stb, jalr, bz, bnz, movi, movhi, input, output}
+use Rattle.machine.specs.Run.{isOut, byRules}
+use Rattle.control.specs.Control.{second, unit, result, next, storedData, stored, written, performed, assigned, writesPort, controlStep, table, controlIn, controlOf, byTable}
 
 -- ---- A table of two columns: what is done, and whether a port is written
 
@@ -47,14 +47,10 @@ row-is none e w m = refl
 -- opcode 0 takes every f, so the table does not look at it
 any-f : (w : ℕ) → among (f-of w) (0 ∷ 1 ∷ 2 ∷ 3 ∷ 4 ∷ 5 ∷ 6 ∷ 7 ∷ []) ≡ true
 unfolding all
-any-f w = passes _ (all-at 8 (λ f. among f (0 ∷ 1 ∷ 2 ∷ 3 ∷ 4 ∷ 5 ∷ 6 ∷ 7 ∷ [])) all-of-them (f-of w) (omega arith))
+any-f w = is-true _ (all-at 8 (λ f. among f (0 ∷ 1 ∷ 2 ∷ 3 ∷ 4 ∷ 5 ∷ 6 ∷ 7 ∷ [])) all-of-them (f-of w) (omega arith))
   where
     all-of-them : T (all 8 (λ f. among f (0 ∷ 1 ∷ 2 ∷ 3 ∷ 4 ∷ 5 ∷ 6 ∷ 7 ∷ [])))
     all-of-them = tt
-
-    passes : (b : Bool) → T b → b ≡ true
-    passes true t = refl
-    passes false t = absurd t
 
 abbrev rowAt : ℕ → Row
 rowAt op = getD (one compute ∷ drop 1 rows) op none
@@ -100,7 +96,7 @@ from g k [] = []
 from g k (x ∷ xs) = g (k / 2) (k % 2) ∷ from g (suc k) xs
 
 test : map by-control table ≡ from by-row 0 table
-unfolding by-control by-row compute compare addi ld st ldb stb jalr movi input output controlStep performed assigned second unit result next stored written
+unfolding by-control by-row compute compare addi ld st ldb stb jalr movi input output controlStep performed assigned second unit result next storedData stored written
 test = rw (bz-is, bnz-is, movhi-is)
 
 -- ---- The lemma: the test, read at the place of a word
@@ -132,12 +128,7 @@ pub agreement-port : (w : ℕ) → writesPort (controlOf w) ≡ isOut w
 unfolding by-control by-row
 agreement-port w = ap (λ (x : Columns). x .port) (at w)
 
--- where the word is assigned, the table's own word does the step
-pub performed-is : (w : ℕ) (m : Machine) → isRule (choice w) ≡ true → to (performed (controlOf w) w m) ≡ stepBy (choice w) w m
-unfolding controlStep
-performed-is w m h = by-test (choice w) (assigned (controlOf w) w) h (agreement w m)
-  where
-    by-test : (x : Choice) (t : Bool) → isRule x ≡ true → pick t (to (performed (controlOf w) w m)) (cannot 1) ≡ stepBy x w m → to (performed (controlOf w) w m) ≡ stepBy x w m
-    by-test x true h e = e
-    by-test (rule r) false h e = let z : _≡_ {A = ℕ} 0 1 = cc in absurd (omega arith)
-    by-test unassigned false h e = let z : _≡_ {A = ℕ} 0 1 = cc in absurd (omega arith)
+-- by the table is by the rules
+pub same-stepper : byTable ≡ byRules
+unfolding step
+same-stepper = λ i. record { steps = λ m. agreement (fetched m) m i; writes = λ m. agreement-port (fetched m) i }

@@ -1,3 +1,5 @@
 pub mod Agreement
 mod Choice
 mod Done
+mod Together
+pub mod Laws

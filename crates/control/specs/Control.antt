@@ -9,40 +9,41 @@ use lib.Dec.{eqb}
 use lib.ListN.{getD}
 use Rattle.word.specs.Fields.{bits, field, opcode, e-of, f-of, N6, N8}
 use Rattle.word.specs.Word.{pick, add, clear0, SE, operation, comparison}
-use Rattle.machine.specs.Machine.{Machine, count, onState, putD, putO, wordAt, putWord, putByte}
-use Rattle.machine.specs.Step.{PC, Ra, Rb, d5-3, d8-6, d11-9, write, jump, among, Next, cannot, to}
+use Rattle.machine.specs.declared.State.{State}
+use Rattle.machine.specs.Machine.{Machine, putR, putPC, count, onState, putD, putO, wordAt, putWord, putByte}
+use Rattle.machine.specs.Step.{PC, Ra, Rb, d5-3, d8-6, d11-9, among, fetched, Next, cannot, to}
+use Rattle.machine.specs.Run.{Stepper}
 
--- ---- What the step computes
+-- ---- What the step computes, of Ra (x), Rb (y), the unit's result (u), PC, data and inputs
 
 -- Bits 9..8 second operand: 0 Rb, 1 SE(N6), 2 SE(N8).
-unfoldable pub second : ℕ → ℕ → Machine → ℕ
-second c w m = getD (Rb w m ∷ SE 6 (N6 w) ∷ SE 8 (N8 w) ∷ []) (field (bits 9 8) c) 0
+unfoldable pub second : ℕ → ℕ → ℕ → ℕ
+second c w y = getD (y ∷ SE 6 (N6 w) ∷ SE 8 (N8 w) ∷ []) (field (bits 9 8) c) 0
 
 -- Bits 7..5 unit: 0 opcode 0's operations by f, 1 comparisons by f, 2 sum, 3 second operand, 4 low byte of the first under
 -- low byte of the second. First operand: Ra.
 abbrev pub units : ℕ → ℕ → ℕ → List ℕ
-units f x y = operation f x y ∷ comparison f x y ∷ add x y ∷ y ∷ (x % 256 + y % 256 * 256) ∷ []
+units f x z = operation f x z ∷ comparison f x z ∷ add x z ∷ z ∷ (x % 256 + z % 256 * 256) ∷ []
 
 abbrev pub unitField : ℕ → ℕ
 unitField c = field (bits 7 5) c
 
-unfoldable pub unit : ℕ → ℕ → Machine → ℕ
-unit c w m = getD (units (f-of w) (Ra w m) (second c w m)) (unitField c) 0
+unfoldable pub unit : ℕ → ℕ → ℕ → ℕ → ℕ
+unit c w x y = getD (units (f-of w) x (second c w y)) (unitField c) 0
 
 -- Bits 4..2 result: 0 unit, 1 word read, 2 SE of the byte read, 3 PC+2, 4 input. The unit's result is the data address, with
 -- bit 0 cleared for a word; N8 is the port.
-unfoldable pub result : ℕ → ℕ → Machine → ℕ
-result c w m =
-    let u = unit c w m in
-    getD (u ∷ wordAt (m .D) (clear0 u) ∷ SE 8 (getD (m .D) u 0) ∷ add (PC m) 2 ∷ getD (m .I) (N8 w) 0 ∷ []) (field (bits 4 2) c) 0
+unfoldable pub result : ℕ → ℕ → ℕ → ℕ → List ℕ → List ℕ → ℕ
+result c w u pc D I =
+    getD (u ∷ wordAt D (clear0 u) ∷ SE 8 (getD D u 0) ∷ add pc 2 ∷ getD I (N8 w) 0 ∷ []) (field (bits 4 2) c) 0
 
 -- Bits 13..12 next: 0 PC+2, 1 branch if Ra is zero, 2 if not (both as rule 8), 3 jump to Ra with bit 0 cleared.
-unfoldable pub next : ℕ → ℕ → Machine → ℕ
-next c w m =
-    let on = add (PC m) 2 in
+unfoldable pub next : ℕ → ℕ → ℕ → ℕ → ℕ
+next c w x pc =
+    let on = add pc 2 in
     let target = add on (SE 8 (N8 w) * 2) in
-    let zero = eqb (Ra w m) 0 in
-    getD (on ∷ pick zero target on ∷ pick zero on target ∷ clear0 (Ra w m) ∷ []) (field (bits 13 12) c) 0
+    let isZero = eqb x 0 in
+    getD (on ∷ pick isZero target on ∷ pick isZero on target ∷ clear0 x ∷ []) (field (bits 13 12) c) 0
 
 -- ---- What the step changes
 
@@ -50,24 +51,29 @@ next c w m =
 abbrev pub storeField : ℕ → ℕ
 storeField c = field (bits 11 10) c
 
-unfoldable pub stored : ℕ → ℕ → Machine → Machine
-stored c w m =
-    let u = unit c w m in
-    getD
-    (m
-    ∷ putD (putWord (clear0 u) (Rb w m) (m .D)) m
-    ∷ putD (putByte u (Rb w m) (m .D)) m
-    ∷ putO (N8 w) (Ra w m) m
-    ∷ [])
-    (storeField c) m
+-- 3: the step writes a port
+abbrev pub writesPort : ℕ → Bool
+writesPort c = eqb (storeField c) 3
+
+-- 0 to 2: the data after it
+unfoldable pub storedData : ℕ → ℕ → ℕ → List ℕ → List ℕ
+storedData c y u D = getD (D ∷ putWord (clear0 u) y D ∷ putByte u y D ∷ []) (storeField c) D
+
+unfoldable pub stored : ℕ → ℕ → ℕ → ℕ → ℕ → Machine → Machine
+stored c w x y u m = pick (writesPort c) (putO (N8 w) x m) (putD (storedData c y u (m .D)) m)
 
 -- Bits 1..0 destination: 0 none, 1 bits 5..3, 2 bits 8..6, 3 bits 11..9.
-unfoldable pub written : ℕ → ℕ → ℕ → Machine → Machine
-written c w v m = getD (m ∷ write (d5-3 w) v m ∷ write (d8-6 w) v m ∷ write (d11-9 w) v m ∷ []) (field (bits 1 0) c) m
+unfoldable pub written : ℕ → ℕ → ℕ → State → State
+written c w v s = getD (s ∷ putR (d5-3 w) v s ∷ putR (d8-6 w) v s ∷ putR (d11-9 w) v s ∷ []) (field (bits 1 0) c) s
 
--- the machine after: the store, PC, the destination, and n grows by 1
+-- the machine after: the store, n grows by 1, PC, and the destination
 unfoldable pub performed : ℕ → ℕ → Machine → Machine
-performed c w m = onState count (written c w (result c w m) (jump (next c w m) (stored c w m)))
+performed c w m =
+    let x = Ra w m in
+    let y = Rb w m in
+    let u = unit c w x y in
+    let v = result c w u (PC m) (m .D) (m .I) in
+    onState (λ s. written c w v (putPC (next c w x (PC m)) (count s))) (stored c w x y u m)
 
 -- ---- Whether it can be done
 
@@ -78,10 +84,6 @@ takes u f = pick (eqb u 1) (among f (0 ∷ 1 ∷ 3 ∷ 4 ∷ 5 ∷ [])) true
 -- Bit 14: assigned, in unit 1 also by f.
 unfoldable pub assigned : ℕ → ℕ → Bool
 assigned c w = eqb (field (bits 14 14) c) 1 && takes (unitField c) (f-of w)
-
--- the step writes a port
-abbrev pub writesPort : ℕ → Bool
-writesPort c = eqb (storeField c) 3
 
 unfoldable pub controlStep : ℕ → ℕ → Machine → Next
 controlStep c w m = pick (assigned c w) (to (performed c w m)) (cannot 1)
@@ -115,3 +117,15 @@ controlIn words w = getD words (opcode w * 2 + e-of w) 0
 
 abbrev pub controlOf : ℕ → ℕ
 controlOf w = controlIn table w
+
+-- ---- What a run by a table goes by: the table's word for the word fetched
+
+abbrev pub byControl : List ℕ → Stepper
+byControl words =
+    record {
+      steps = λ m. controlStep (controlIn words (fetched m)) (fetched m) m;
+      writes = λ m. writesPort (controlIn words (fetched m));
+    }
+
+abbrev pub byTable : Stepper
+byTable = byControl table

@@ -1,3 +1,2 @@
-pub mod Engines
 pub mod Loop
 pub mod Refusals

@@ -1,14 +1,11 @@
-// Runs of a trim by either engine.
+// Runs of a trim, by the rules or by a control table.
 ghost use mathlib.Core.Path.{_≡_};
-ghost use mathlib.Core.Bool.{true, _&&_};
-ghost use Rattle.machine.specs.Machine.{Machine};
-ghost use Rattle.machine.specs.Step.{choice, stepBy};
-ghost use Rattle.machine.specs.Run.{isOut};
-ghost use Rattle.machine.specs.Held.{Ready, Becomes, isRule, stopIn, machineOf};
-ghost use Rattle.control.specs.Control.{controlOf};
-ghost use Rattle.engine.specs.Runs.{Left, RunMeets, shownAnswer, shownVerdict, verdict, acceptedLeft};
-ghost use Rattle.engine.specs.Loops.{CanRun};
-use machine::Address;
+ghost use Rattle.machine.specs.Run.{byRules};
+ghost use Rattle.machine.specs.Held.{held, Ready, StepMeets};
+ghost use Rattle.control.specs.Control.{byControl, byTable};
+ghost use Rattle.engine.specs.Runs.{Left, given, left, RunMeets, shownAnswer, shownVerdict, verdict, acceptedLeft};
+ghost use Rattle.engine.specs.Loops.{CanRun, chosen, stepOf, writesOf};
+use control::control_table;
 use machine::State;
 use machine::Stepped;
 use refusal::Refusal;
@@ -38,22 +35,10 @@ pub enum Check {
     Refused(Refusal),
 }
 
-// Why the engine chosen stops before the step of w: 1 unassigned, 2 OUT and the log is full; 0 where it goes on.
-fn stop_before(by_table: bool, control: u16, w: u16, state: State, full: bool) -> u8
-    requires { ⌜ control ≡ controlOf w ⌝ }
-    ensures { λ r. ⌜ ((m : Machine) → m .state ≡ state → r ≡ stopIn (stepBy (choice w) w m) (isOut w && full)) ⌝ }
-{
-    if by_table {
-        control::stop_before(control, w, state, full)
-    } else {
-        rules::stop_before(w, state, full)
-    }
-}
-
-// The step of an assigned word by the engine chosen.
+// The step of w by a table's word for it, or by the rules.
 fn step(
     by_table: bool,
-    control: u16,
+    words: &[u16; 32],
     w: u16,
     state: State,
     memory: &mut [u8],
@@ -62,22 +47,21 @@ fn step(
     log: &mut [u64],
     entries: usize,
 ) -> Stepped
-    requires { ⌜ control ≡ controlOf w ⌝ }
-    requires { ⌜ isRule (choice w) ≡ true ⌝ }
-    requires { ⌜ Ready (isOut w) (record { state = state; D = now memory; I = now inputs; O = now outputs; log = now log; entries = entries }) ⌝ }
-    ensures { λ r. ⌜ Becomes (record { state = state; D = now (memory .entry); I = now (inputs .entry); O = now (outputs .entry); log = now (log .entry); entries = entries }) (record { state = r .state; D = now (memory .exit); I = now (inputs .exit); O = now (outputs .exit); log = now (log .exit); entries = r .entries }) (λ P. stepBy (choice w) w (machineOf P (record { state = state; D = now (memory .entry); I = now (inputs .entry); O = now (outputs .entry); log = now (log .entry); entries = entries }))) ⌝ }
+    requires { ⌜ Ready (held state (now memory) (now inputs) (now outputs) (now log) entries) ⌝ }
+    ensures { λ r. ⌜ StepMeets (stepOf «by_table» (now (words .entry)) w) (writesOf «by_table» (now (words .entry)) w) (held state (now (memory .entry)) (now (inputs .entry)) (now (outputs .entry)) (now (log .entry)) entries) (r .stop) (held (r .state) (now (memory .exit)) (now (inputs .exit)) (now (outputs .exit)) (now (log .exit)) (r .entries)) ⌝ }
 {
     if by_table {
+        let control = control::control_of(words, w);
         control::step(control, w, state, memory, inputs, outputs, log, entries)
     } else {
         rules::step(w, state, memory, inputs, outputs, log, entries)
     }
 }
 
-// The loop of an accepted run. PC is even, so the word at PC is the one at its even address. The control word is looked up
-// whichever engine runs; the rules do not see it.
+// The loop of an accepted run, by a table or by the rules. PC stays even.
 fn run_accepted(
     by_table: bool,
+    words: &[u16; 32],
     start: State,
     program: &[u8],
     memory: &mut [u8],
@@ -86,31 +70,17 @@ fn run_accepted(
     budget: u32,
     log: &mut [u64],
 ) -> Ran
-    requires { ⌜ CanRun start (now program) (now memory) (now inputs) (now outputs) budget ⌝ }
-    ensures { λ r. ⌜ _≡_ {A = Left} (record { reply = shownAnswer (r .answer); state = r .state; D = now (memory .exit); I = now (inputs .exit); O = now (outputs .exit); log = now (log .exit) }) (acceptedLeft (record { state = start; P = now (program .entry); D = now (memory .entry); I = now (inputs .entry); O = now (outputs .entry); budget = budget; log = now (log .entry) })) ⌝ }
+    requires { ⌜ CanRun (given start (now program) (now memory) (now inputs) (now outputs) budget (now log)) ⌝ }
+    ensures { λ r. ⌜ _≡_ {A = Left} (left (shownAnswer (r .answer)) (r .state) (now (program .exit)) (now (memory .exit)) (now (inputs .exit)) (now (outputs .exit)) (now (log .exit))) (acceptedLeft (chosen «by_table» (now (words .entry))) (given start (now (program .entry)) (now (memory .entry)) (now (inputs .entry)) (now (outputs .entry)) budget (now (log .entry)))) ⌝ }
 {
-    let words = control::control_table();
     let mut state = start;
     let mut steps: u32 = 0;
     let mut entries: usize = 0;
     while steps < budget {
-        let w = bus::load_word(program, Address(state.pc));
-        let control = control::control_of(&words, w);
-        let full = log.len() <= entries;
-        let stop = stop_before(by_table, control, w, state, full);
-        if stop != 0 {
-            return Ran {
-                state,
-                answer: Answer::Stopped(Report {
-                    stop,
-                    steps,
-                    entries,
-                }),
-            };
-        }
+        let w = bus::fetch(program, state.pc);
         let done = step(
             by_table,
-            control,
+            words,
             w,
             state,
             memory,
@@ -121,6 +91,16 @@ fn run_accepted(
         );
         state = done.state;
         entries = done.entries;
+        if done.stop != 0 {
+            return Ran {
+                state,
+                answer: Answer::Stopped(Report {
+                    stop: done.stop,
+                    steps,
+                    entries,
+                }),
+            };
+        }
         steps = steps + 1;
     }
     Ran {
@@ -158,6 +138,7 @@ fn checked(
 
 fn run(
     by_table: bool,
+    words: &[u16; 32],
     state: State,
     program: &[u8],
     memory: &mut [u8],
@@ -166,11 +147,12 @@ fn run(
     budget: u32,
     log: &mut [u64],
 ) -> Ran
-    ensures { λ r. ⌜ RunMeets (record { state = state; P = now (program .entry); D = now (memory .entry); I = now (inputs .entry); O = now (outputs .entry); budget = budget; log = now (log .entry) }) (record { reply = shownAnswer (r .answer); state = r .state; D = now (memory .exit); I = now (inputs .exit); O = now (outputs .exit); log = now (log .exit) }) ⌝ }
+    ensures { λ r. ⌜ RunMeets (chosen «by_table» (now (words .entry))) (given state (now (program .entry)) (now (memory .entry)) (now (inputs .entry)) (now (outputs .entry)) budget (now (log .entry))) (left (shownAnswer (r .answer)) (r .state) (now (program .exit)) (now (memory .exit)) (now (inputs .exit)) (now (outputs .exit)) (now (log .exit))) ⌝ }
 {
     match checked(state, program, memory, inputs, outputs, budget) {
         Check::Accepted => run_accepted(
             by_table,
+            words,
             state,
             program,
             memory,
@@ -196,9 +178,45 @@ pub fn run_by_rules(
     budget: u32,
     log: &mut [u64],
 ) -> Ran
-    ensures { λ r. ⌜ RunMeets (record { state = state; P = now (program .entry); D = now (memory .entry); I = now (inputs .entry); O = now (outputs .entry); budget = budget; log = now (log .entry) }) (record { reply = shownAnswer (r .answer); state = r .state; D = now (memory .exit); I = now (inputs .exit); O = now (outputs .exit); log = now (log .exit) }) ⌝ }
+    ensures { λ r. ⌜ RunMeets byRules (given state (now (program .entry)) (now (memory .entry)) (now (inputs .entry)) (now (outputs .entry)) budget (now (log .entry))) (left (shownAnswer (r .answer)) (r .state) (now (program .exit)) (now (memory .exit)) (now (inputs .exit)) (now (outputs .exit)) (now (log .exit))) ⌝ }
 {
-    run(false, state, program, memory, inputs, outputs, budget, log)
+    run(
+        false,
+        &control_table(),
+        state,
+        program,
+        memory,
+        inputs,
+        outputs,
+        budget,
+        log,
+    )
+}
+
+// A run by any table of 32 control words.
+pub fn run_by_control(
+    words: &[u16; 32],
+    state: State,
+    program: &[u8],
+    memory: &mut [u8],
+    inputs: &mut [u16],
+    outputs: &mut [u16],
+    budget: u32,
+    log: &mut [u64],
+) -> Ran
+    ensures { λ r. ⌜ RunMeets (byControl (now (words .entry))) (given state (now (program .entry)) (now (memory .entry)) (now (inputs .entry)) (now (outputs .entry)) budget (now (log .entry))) (left (shownAnswer (r .answer)) (r .state) (now (program .exit)) (now (memory .exit)) (now (inputs .exit)) (now (outputs .exit)) (now (log .exit))) ⌝ }
+{
+    run(
+        true,
+        words,
+        state,
+        program,
+        memory,
+        inputs,
+        outputs,
+        budget,
+        log,
+    )
 }
 
 // A run by the control table.
@@ -211,7 +229,16 @@ pub fn run_by_table(
     budget: u32,
     log: &mut [u64],
 ) -> Ran
-    ensures { λ r. ⌜ RunMeets (record { state = state; P = now (program .entry); D = now (memory .entry); I = now (inputs .entry); O = now (outputs .entry); budget = budget; log = now (log .entry) }) (record { reply = shownAnswer (r .answer); state = r .state; D = now (memory .exit); I = now (inputs .exit); O = now (outputs .exit); log = now (log .exit) }) ⌝ }
+    ensures { λ r. ⌜ RunMeets byTable (given state (now (program .entry)) (now (memory .entry)) (now (inputs .entry)) (now (outputs .entry)) budget (now (log .entry))) (left (shownAnswer (r .answer)) (r .state) (now (program .exit)) (now (memory .exit)) (now (inputs .exit)) (now (outputs .exit)) (now (log .exit))) ⌝ }
 {
-    run(true, state, program, memory, inputs, outputs, budget, log)
+    run_by_control(
+        &control_table(),
+        state,
+        program,
+        memory,
+        inputs,
+        outputs,
+        budget,
+        log,
+    )
 }

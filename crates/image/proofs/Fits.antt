@@ -1,19 +1,19 @@
 -- A test of the refusal table, from the answer of the function that makes it; and what an accepted load is known to fit.
 -- Assumes nothing.
-use Prim.Native.Nat.{ℕ, _+_, _*_, _≤_}
-use mathlib.Core.Path.{_≡_, refl, sym, _∙_}
-use mathlib.Core.Bool.{Bool, true, false, not, _&&_}
+use Prim.Native.Nat.{_+_, _*_, _≤_, ℕ}
+use mathlib.Core.Path.{_≡_, sym, _∙_}
+use mathlib.Core.Bool.{Bool, true, false, not, and-eq-true-iff}
 use mathlib.Core.List.{List}
 use native.Mathlib.Nat.{mul-le-mul-left}
-use native.Mathlib.Omega.{arith}
 use lib.Dec.{leb, eqb}
 use lib.ListN.{length}
 use borrow.Author.Tests.{not-true, not-false, eqb-true, leb-true}
-use Rattle.word.specs.Word.{pick}
+use Rattle.refusal.specs.Refusals.{accepted}
+use Rattle.word.proofs.Tests.{clash, passed}
 use Rattle.machine.specs.Calls.{lengthsFit}
 use Rattle.image.specs.declared.Part.{Part}
 use Rattle.image.specs.Parts.{programPart, dataPart}
-use Rattle.image.specs.Image.{W, programOffset, partsFit, inside, partsInside, LoadReply, accepted, refused, LoadGiven, loadReply}
+use Rattle.image.specs.Image.{W, programOffset, partsFit, inside, partsInside, LoadGiven, loadReply}
 
 pub passes : {answer test : Bool} → answer ≡ test → not answer ≡ false → test ≡ true
 passes e h = sym e ∙ not-false _ h
@@ -34,20 +34,12 @@ pub record Fits (g : LoadGiven) : Type 0 where
   pub inputs : length (g .I) ≡ 256
   pub outputs : length (g .O) ≡ 256
 
-both : (a b : Bool) → (a && b) ≡ true → (a ≡ true) × (b ≡ true)
-both true b e = (refl, e)
-both false b e = (e, let z : _≡_ {A = ℕ} 0 1 = cc in absurd (omega arith))
-
-passed : (test : Bool) (next : LoadReply) (k : ℕ) → accepted ≡ pick test next (refused k) → (test ≡ true) × (accepted ≡ next)
-passed true next k e = (refl, e)
-passed false next k e = let z : _≡_ {A = ℕ} 0 1 = cc in absurd (omega arith)
-
 part-fits : (file memory : List ℕ) (part : Part) → eqb (length memory) 65536 ≡ true → part .count ≤ 65536
     → inside file (part .offset) (part .count) ≡ true → PartFits file memory part
 part-fits file memory part l k h =
     record {
       memory-length = eqb-true _ _ l;
-      inside-file = leb-true _ _ (both (leb 16 (part .offset)) _ h .1);
+      inside-file = leb-true _ _ (and-eq-true-iff (leb 16 (part .offset)) _ .0 h .1);
       inside-memory = k;
     }
 
@@ -55,15 +47,15 @@ pub fits : (g : LoadGiven) → accepted ≡ loadReply g → Fits g
 unfolding loadReply
 fits g e =
     let file = g .file in
-    let lent = passed (lengthsFit (g .P) (g .D) (g .I) (g .O)) _ _ e in
-    let long = passed (leb 16 (length file)) _ _ (lent .1) in
-    let sizes = passed (partsFit file) _ _ (long .1) in
-    let places = passed (partsInside file) _ _ (sizes .1) in
-    let to-outputs = both _ (eqb (length (g .O)) 256) (lent .0) in
-    let to-inputs = both _ (eqb (length (g .I)) 256) (to-outputs .0) in
-    let memories = both (eqb (length (g .P)) 65536) _ (to-inputs .0) in
-    let counts = both (leb (W file) 32768) _ (sizes .0) in
-    let parts = both (inside file (programOffset file) (2 * W file)) _ (places .0) in
+    let lent = passed (lengthsFit (g .P) (g .D) (g .I) (g .O)) (λ x. clash (cc)) (sym e) in
+    let long = passed (leb 16 (length file)) (λ x. clash (cc)) (lent .1) in
+    let sizes = passed (partsFit file) (λ x. clash (cc)) (long .1) in
+    let places = passed (partsInside file) (λ x. clash (cc)) (sizes .1) in
+    let to-outputs = and-eq-true-iff _ (eqb (length (g .O)) 256) .0 (lent .0) in
+    let to-inputs = and-eq-true-iff _ (eqb (length (g .I)) 256) .0 (to-outputs .0) in
+    let memories = and-eq-true-iff (eqb (length (g .P)) 65536) _ .0 (to-inputs .0) in
+    let counts = and-eq-true-iff (leb (W file) 32768) _ .0 (sizes .0) in
+    let parts = and-eq-true-iff (inside file (programOffset file) (2 * W file)) _ .0 (places .0) in
     record {
       header = leb-true _ _ (long .0);
       program = part-fits _ _ _ (memories .0) (mul-le-mul-left 2 (leb-true _ _ (counts .0))) (parts .0);

@@ -5,9 +5,10 @@ use mathlib.Core.Path.{_≡_, refl, ap, _∙_}
 use mathlib.Core.List.{List, _++_}
 use native.Mathlib.Omega.{arith}
 use lib.ListN.{length, take, drop, replicate}
+use Rattle.refusal.specs.Refusals.{Verdict, accepted, refused}
 use Rattle.machine.specs.declared.State.{State}
 use Rattle.machine.specs.Machine.{reset}
-use Rattle.image.specs.Image.{W, programOffset, C, dataOffset, memoryOf, loaded, LoadReply, LoadLeft, accepted, refused, LoadGiven, loadReply, leftBy, loadLeft}
+use Rattle.image.specs.Image.{W, programOffset, C, dataOffset, memoryOf, loaded, LoadLeft, LoadGiven, loadReply, leftBy, loadLeft}
 use Rattle.image.specs.declared.Part.{Part}
 use Rattle.image.specs.Parts.{ReadAs}
 use Rattle.image.proofs.Fits.{PartFits}
@@ -23,7 +24,7 @@ module _ {file memory : List ℕ} {part read : Part} (f : PartFits file memory p
 pub ports-left : {n : ℕ} {M : List ℕ} → n ≡ 256 → M ≡ replicate n 0 → M ≡ replicate 256 0
 ports-left l e = e ∙ rw l
 
-joined : (reply : LoadReply) {state state′ : State} {P P′ D D′ I I′ O O′ : List ℕ} → state ≡ state′ → P ≡ P′ → D ≡ D′ → I ≡ I′ → O ≡ O′
+joined : (reply : Verdict) {state state′ : State} {P P′ D D′ I I′ O O′ : List ℕ} → state ≡ state′ → P ≡ P′ → D ≡ D′ → I ≡ I′ → O ≡ O′
     → _≡_ {A = LoadLeft} (record { reply = reply; state = state; P = P; D = D; I = I; O = O })
     (record { reply = reply; state = state′; P = P′; D = D′; I = I′; O = O′ })
 joined reply s p d i o = cc
@@ -39,7 +40,7 @@ unfolding loaded
 accepted-left file s p d i o = joined accepted s p d i o
 
 module _ (g : LoadGiven) where
-  pub left-by : {reply : LoadReply} {left : LoadLeft} → reply ≡ loadReply g → left ≡ leftBy reply g → left ≡ loadLeft g
+  pub left-by : {reply : Verdict} {left : LoadLeft} → reply ≡ loadReply g → left ≡ leftBy reply g → left ≡ loadLeft g
   unfolding loadLeft
   left-by e h = h ∙ ap (λ reply. leftBy reply g) e
 

@@ -4,7 +4,7 @@ use mathlib.Core.Bool.{Bool, true, false, _&&_}
 use mathlib.Core.List.{List, [], _++_}
 use lib.Dec.{leb}
 use lib.ListN.{length, getD, take, drop, replicate}
-use Rattle.refusal.specs.Refusals.{refusalNumber}
+use Rattle.refusal.specs.Refusals.{refusalNumber, Verdict, accepted, refused}
 use Rattle.word.specs.Word.{pick}
 use Rattle.machine.specs.declared.State.{State}
 use Rattle.machine.specs.Machine.{Machine, reset}
@@ -63,12 +63,7 @@ loaded file =
 
 -- ---- The call
 
--- accepted, or the number of the refusal
-pub data LoadReply : Type 0 where
-  accepted : LoadReply
-  refused : ℕ → LoadReply
-
-abbrev pub shownLoading : Loading → LoadReply
+abbrev pub shownLoading : Loading → Verdict
 shownLoading Accepted = accepted
 shownLoading (Refused r) = refused (refusalNumber r)
 
@@ -80,7 +75,7 @@ pub record LoadGiven : Type 0 where
   pub O : List ℕ
 
 pub record LoadLeft : Type 0 where
-  pub reply : LoadReply
+  pub reply : Verdict
   pub state : State
   pub P : List ℕ
   pub D : List ℕ
@@ -88,7 +83,7 @@ pub record LoadLeft : Type 0 where
   pub O : List ℕ
 
 -- Load 1 to 4: a number is given when its condition holds and no earlier test does.
-unfoldable pub loadReply : LoadGiven → LoadReply
+unfoldable pub loadReply : LoadGiven → Verdict
 loadReply g =
     pick (lengthsFit (g .P) (g .D) (g .I) (g .O))
     (pick (leb 16 (length (g .file)))
@@ -97,7 +92,7 @@ loadReply g =
     (refused 1)
 
 -- A refused load changes nothing lent; the state beside its number is the reset one.
-abbrev pub leftBy : LoadReply → LoadGiven → LoadLeft
+abbrev pub leftBy : Verdict → LoadGiven → LoadLeft
 leftBy accepted g =
     let m = loaded (g .file) in
     record { reply = accepted; state = m .state; P = m .P; D = m .D; I = m .I; O = m .O }

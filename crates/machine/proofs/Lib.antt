@@ -1,5 +1,4 @@
 pub mod Log
 pub mod Registers
 pub mod Runs
-pub mod Steps
-pub mod Rows
+pub mod Answers

@@ -1,68 +1,75 @@
--- The laws by which a run goes: no budget, a machine that can't step, a full log, a step.
+-- The laws by which a run goes: no budget, a step that can't be made, a step.
 -- Assumes nothing.
-use mathlib.Core.Path.{_≡_, refl, sym, subst}
+use mathlib.Core.Path.{_≡_, refl, sym, ap, _∙_}
 use mathlib.Core.Bool.{Bool, true, false}
-use Prim.Native.Nat.{ℕ, suc}
+use Prim.Native.Nat.{ℕ, suc, _+_, _%_, _≤_}
 use native.Mathlib.Omega.{arith}
+use lib.ListN.{length}
 use Rattle.machine.specs.Machine.{Machine}
-use Rattle.machine.specs.Step.{Choice, rule, unassigned, choice, Next, cannot, to, stepBy, fetched, step}
-use Rattle.machine.specs.Run.{Outcome, noPlace, runFrom}
-use Rattle.machine.specs.Held.{stopIn}
+use Rattle.machine.specs.Step.{PC, Next, cannot, to}
+use Rattle.machine.specs.Run.{Stepper, Outcome, noPlace, unless, runFrom}
+use Rattle.machine.specs.Held.{outcomeOf}
 
--- what a run makes of the next step and of the log's test
-abbrev turn : ℕ → ℕ → Machine → Next → Bool → Outcome
-turn budget full m x t =
-    elim x [
-      | cannot q ↦ record { reason = q; after = m }
-      | to next ↦ elim t [ true ↦ record { reason = 2; after = m } | false ↦ runFrom budget full next ]
-    ]
+-- what a run makes of the next step
+abbrev turn : Stepper → ℕ → ℕ → Machine → Next → Outcome
+turn v budget full m x = elim x [ cannot q ↦ record { reason = q; after = m } | to next ↦ runFrom v budget full next ]
 
-pub run-none : (full : ℕ) (m : Machine) → runFrom 0 full m ≡ record { reason = 0; after = m }
+pub run-none : (v : Stepper) (full : ℕ) (m : Machine) → runFrom v 0 full m ≡ record { reason = 0; after = m }
 unfolding runFrom
-run-none full m = refl
+run-none v full m = refl
 
-turned : (budget full : ℕ) (m : Machine) {x : Next} {t : Bool} → step m ≡ x → noPlace full m ≡ t → runFrom (suc budget) full m ≡ turn budget full m x t
+turned : (v : Stepper) (budget full : ℕ) (m : Machine) {x : Next} → unless (noPlace v full m) (v .steps m) ≡ x → runFrom v (suc budget) full m ≡ turn v budget full m x
 unfolding runFrom
-turned budget full m p q = λ i. turn budget full m (p i) (q i)
+turned v budget full m e = ap (turn v budget full m) e
 
-pub run-cannot : (budget full q : ℕ) (m : Machine) → step m ≡ cannot q → runFrom (suc budget) full m ≡ record { reason = q; after = m }
-run-cannot budget full q m e = turned budget full m e refl
+-- ---- By the machine's step and the log's test
 
-pub run-full : (budget full : ℕ) (m next : Machine) → step m ≡ to next → noPlace full m ≡ true → runFrom (suc budget) full m ≡ record { reason = 2; after = m }
-run-full budget full m next e t = turned budget full m e t
+both : (v : Stepper) (full : ℕ) (m : Machine) {x : Next} {t : Bool} → v .steps m ≡ x → noPlace v full m ≡ t → unless (noPlace v full m) (v .steps m) ≡ unless t x
+both v full m e t = λ i. unless (t i) (e i)
 
-pub run-on : (budget full : ℕ) (m next : Machine) → step m ≡ to next → noPlace full m ≡ false → runFrom (suc budget) full m ≡ runFrom budget full next
-run-on budget full m next e t = turned budget full m e t
+module _ (v : Stepper) (budget full : ℕ) (m : Machine) where
+  pub run-cannot : (q : ℕ) → v .steps m ≡ cannot q → runFrom v (suc budget) full m ≡ record { reason = q; after = m }
+  run-cannot q e = turned v budget full m (both v full m e refl)
 
--- ---- The test before a step, as one number
+  pub run-full : (next : Machine) → v .steps m ≡ to next → noPlace v full m ≡ true → runFrom v (suc budget) full m ≡ record { reason = 2; after = m }
+  run-full next e t = turned v budget full m (both v full m e t)
 
-pub cannot-1 : (m : Machine) (q : ℕ) → step m ≡ cannot q → q ≡ 1
-unfolding step
-cannot-1 m q e = by-choice (choice (fetched m)) e
-  where
-    by-choice : (x : Choice) → stepBy x (fetched m) m ≡ cannot q → q ≡ 1
-    by-choice (rule r) e = let z : _≡_ {A = ℕ} 0 1 = cc in absurd (omega arith)
-    by-choice unassigned e = cc
+  pub run-on : (next : Machine) → v .steps m ≡ to next → noPlace v full m ≡ false → runFrom v (suc budget) full m ≡ runFrom v budget full next
+  run-on next e t = turned v budget full m (both v full m e t)
 
--- a reason other than 0 ends the run
-pub run-stops : (budget full q : ℕ) (m : Machine) → q ≡ stopIn (step m) (noPlace full m) → (q ≡ 0 → ⊥) → runFrom (suc budget) full m ≡ record { reason = q; after = m }
-run-stops budget full q m e n = by-next (step m) refl (noPlace full m) refl e
-  where
-    by-next : (x : Next) → step m ≡ x → (t : Bool) → noPlace full m ≡ t → q ≡ stopIn x t → runFrom (suc budget) full m ≡ record { reason = q; after = m }
-    by-next (cannot p) s t f e = rw e (run-cannot budget full p m s)
-    by-next (to next) s true f e = rw e (run-full budget full m next s f)
-    by-next (to next) s false f e = absurd (n e)
+-- ---- What a run's loop relies on
 
--- with 0 there is a step, and a place where it writes a port
-pub record Goes (full : ℕ) (m : Machine) : Type 0 where
-  pub next : Machine
-  pub steps : step m ≡ to next
-  pub place : noPlace full m ≡ false
+pub record Lawful (v : Stepper) : Type 0 where
+  -- 0 is no reason why a machine can't step
+  pub reasons : (m : Machine) (q : ℕ) → v .steps m ≡ cannot q → q ≡ 0 → ⊥
+  -- a step adds 1 to n, keeps an even PC even and drops no entry of L
+  pub counts : (m next : Machine) → v .steps m ≡ to next → next .state .n ≡ m .state .n + 1
+  pub even : (m next : Machine) → v .steps m ≡ to next → PC m % 2 ≡ 0 → PC next % 2 ≡ 0
+  pub grows : (m next : Machine) → v .steps m ≡ to next → length (m .L) ≤ length (next .L)
 
-pub run-goes : (full : ℕ) (m : Machine) → 0 ≡ stopIn (step m) (noPlace full m) → Goes full m
-run-goes full m e = by-next (step m) refl (noPlace full m) refl e
-  where
-    by-next : (x : Next) → step m ≡ x → (t : Bool) → noPlace full m ≡ t → 0 ≡ stopIn x t → Goes full m
-    by-next (cannot p) s t f e = absurd (omega (arith, cannot-1 m p s, e))
-    by-next (to next) s true f e = absurd (omega arith)
-    by-next (to next) s false f e = record { next = next; steps = s; place = f }
+-- ---- By what a step function answers
+
+module _ (v : Stepper) (budget full : ℕ) (m : Machine) where
+  -- a reason other than 0 ends the run
+  pub run-stops : (q : ℕ) {after : Machine} → outcomeOf m (unless (noPlace v full m) (v .steps m)) ≡ record { reason = q; after = after } → (q ≡ 0 → ⊥)
+      → runFrom v (suc budget) full m ≡ record { reason = q; after = after }
+  run-stops q {after} e n = by-next (unless (noPlace v full m) (v .steps m)) refl e
+    where
+      by-next : (x : Next) → unless (noPlace v full m) (v .steps m) ≡ x → outcomeOf m x ≡ record { reason = q; after = after } → runFrom v (suc budget) full m ≡ record { reason = q; after = after }
+      by-next (cannot p) s e = turned v budget full m s ∙ e
+      by-next (to next) s e = let z : 0 ≡ q = ap (λ (o : Outcome). o .reason) e in absurd (n (sym z))
+
+  -- with 0 it goes on from there
+  pub record Goes (after : Machine) : Type 0 where
+    pub steps : v .steps m ≡ to after
+    pub on : runFrom v (suc budget) full m ≡ runFrom v budget full after
+
+  pub run-goes : Lawful v → {after : Machine} → outcomeOf m (unless (noPlace v full m) (v .steps m)) ≡ record { reason = 0; after = after } → Goes after
+  run-goes lawful {after} e = by-next (v .steps m) refl (noPlace v full m) refl e
+    where
+      by-next : (x : Next) → v .steps m ≡ x → (t : Bool) → noPlace v full m ≡ t → outcomeOf m (unless t x) ≡ record { reason = 0; after = after } → Goes after
+      by-next (cannot q) s t f e = absurd (lawful .reasons m q s (ap (λ (o : Outcome). o .reason) e))
+      by-next (to next) s true f e = absurd (omega (arith, ap (λ (o : Outcome). o .reason) e))
+      by-next (to next) s false f e =
+          let a : next ≡ after = ap (λ (o : Outcome). o .after) e in
+          record { steps = s ∙ ap to a; on = run-on v budget full m next s f ∙ ap (runFrom v budget full) a }

@@ -5,7 +5,7 @@ use mathlib.Core.Bool.{Bool, _&&_}
 use mathlib.Core.List.{List, []}
 use lib.Dec.{eqb, leb}
 use lib.ListN.{length, set, take, drop}
-use Rattle.refusal.specs.Refusals.{refusalNumber}
+use Rattle.refusal.specs.Refusals.{refusalNumber, Verdict, accepted, refused}
 use Rattle.word.specs.Word.{pick}
 use Rattle.machine.specs.declared.Setting.{Setting}
 use Rattle.machine.specs.declared.Setting.the-variants.{Done, Refused}
@@ -17,13 +17,8 @@ lengthsFit P D I O = eqb (length P) 65536 && eqb (length D) 65536 && eqb (length
 
 -- ---- Setting an input
 
--- done, or the number of the refusal
-pub data SetReply : Type 0 where
-  done : SetReply
-  refused : ℕ → SetReply
-
-abbrev pub shownSetting : Setting → SetReply
-shownSetting Done = done
+abbrev pub shownSetting : Setting → Verdict
+shownSetting Done = accepted
 shownSetting (Refused r) = refused (refusalNumber r)
 
 pub record SetGiven : Type 0 where
@@ -32,14 +27,14 @@ pub record SetGiven : Type 0 where
   pub value : ℕ
 
 pub record SetLeft : Type 0 where
-  pub reply : SetReply
+  pub reply : Verdict
   pub I : List ℕ
 
 -- Set (p, v): I[p] becomes v. 1: I not 256 words (set looks at I only).
 unfoldable pub setLeft : SetGiven → SetLeft
 setLeft g =
     pick (eqb (length (g .I)) 256)
-    (record { reply = done; I = set (g .I) (g .port) (g .value) })
+    (record { reply = accepted; I = set (g .I) (g .port) (g .value) })
     (record { reply = refused 1; I = g .I })
 
 -- ---- The window

@@ -1,13 +1,14 @@
 -- What an engine holds between two steps, as a machine. It serves the contracts of the engines' step functions, not a caller.
 use mathlib.Core.Path.{_≡_}
-use mathlib.Core.Bool.{Bool, true, false}
+use mathlib.Core.Bool.{Bool, true, false, _&&_}
 use mathlib.Core.List.{List}
 use Prim.Native.Nat.{ℕ, _<_, _≤_}
+use lib.Dec.{leb}
 use lib.ListN.{length, take, drop}
-use Rattle.word.specs.Word.{pick}
 use Rattle.machine.specs.declared.State.{State}
 use Rattle.machine.specs.Machine.{Machine}
-use Rattle.machine.specs.Step.{Choice, rule, unassigned, Next, cannot, to}
+use Rattle.machine.specs.Step.{Next, cannot, to}
+use Rattle.machine.specs.Run.{Outcome, unless}
 
 -- registers, data memory, ports, and the lent log with the number of entries in it
 pub record Held : Type 0 where
@@ -18,32 +19,34 @@ pub record Held : Type 0 where
   pub log : List ℕ
   pub entries : ℕ
 
+abbrev pub held : State → List ℕ → List ℕ → List ℕ → List ℕ → ℕ → Held
+held state D I O log entries = record { state = state; D = D; I = I; O = O; log = log; entries = entries }
+
 -- the machine, with program P: L is the part of the log that is filled
 abbrev pub machineOf : List ℕ → Held → Machine
 machineOf P h = record { state = h .state; P = P; D = h .D; I = h .I; O = h .O; L = take (h .entries) (h .log) }
 
--- what a step needs: a count that can grow, memories and ports of their lengths, and a free place where it writes a port
-pub record Ready (writes : Bool) (h : Held) : Type 0 where
+-- the log has no free place
+abbrev pub isFull : Held → Bool
+isFull h = leb (length (h .log)) (h .entries)
+
+-- what a step needs: a count that can grow, memories and ports of their lengths, and no more entries than the log has places
+pub record Ready (h : Held) : Type 0 where
   pub counts : h .state .n < 4294967295
   pub memory : length (h .D) ≡ 65536
   pub inputs : length (h .I) ≡ 256
   pub outputs : length (h .O) ≡ 256
   pub filled : h .entries ≤ length (h .log)
-  pub place : writes ≡ true → h .entries < length (h .log)
 
--- what is held after a step: the machine that was stepped to, and a log that is as it was after its entries
-pub record Becomes (h after : Held) (next : List ℕ → Next) : Type 0 where
-  pub machine : (P : List ℕ) → next P ≡ to (machineOf P after)
+-- what comes of m: reason 0 and what it steps to, or why it can't step, and m
+abbrev pub outcomeOf : Machine → Next → Outcome
+outcomeOf m (cannot q) = record { reason = q; after = m }
+outcomeOf m (to next) = record { reason = 0; after = next }
+
+-- What a step function answers and leaves. `next` is what a machine steps to, `writes` whether that writes a port. With stop 0
+-- it is what the machine steps to; with another it is the machine as it was. The log is as it was after its entries.
+pub record StepMeets (next : Machine → Next) (writes : Bool) (h : Held) (stop : ℕ) (after : Held) : Type 0 where
+  pub machine :
+      (P : List ℕ) → outcomeOf (machineOf P h) (unless (writes && isFull h) (next (machineOf P h))) ≡ record { reason = stop; after = machineOf P after }
   pub rest : drop (after .entries) (after .log) ≡ drop (after .entries) (h .log)
   pub filled : after .entries ≤ length (after .log)
-
--- the word has a rule
-abbrev pub isRule : Choice → Bool
-isRule (rule r) = true
-isRule unassigned = false
-
--- the test before a step, after the budget's: the reason why the machine can't step; 2 where it would write a port and the
--- log is full; else 0, and the run goes on
-abbrev pub stopIn : Next → Bool → ℕ
-stopIn (cannot q) full = q
-stopIn (to next) full = pick full 2 0

@@ -1,4 +1,4 @@
--- A run of the plain machine (01, "Runs").
+-- A run (01, "Runs"), over what steps the machine and what writes a port.
 use Prim.Native.Nat.{ℕ, zero, suc, _+_}
 use mathlib.Core.Bool.{Bool, true, false, _&&_}
 use lib.Dec.{eqb, leb}
@@ -7,29 +7,44 @@ use Rattle.word.specs.Fields.{opcode, e-of}
 use Rattle.machine.specs.Machine.{Machine}
 use Rattle.machine.specs.Step.{Next, cannot, to, fetched, step}
 
--- why a run stopped, and the machine it left
-pub record Outcome : Type 0 where
-  pub reason : ℕ
-  pub after : Machine
+-- What a run goes by: what a machine steps to, and whether that step writes a port.
+pub record Stepper : Type 0 where
+  pub steps : Machine → Next
+  pub writes : Machine → Bool
 
 -- w is OUT
 abbrev pub isOut : ℕ → Bool
 isOut w = eqb (opcode w) 10 && eqb (e-of w) 1
 
--- the word is OUT, and L, which may grow to `full` entries, has no free place
-unfoldable pub noPlace : ℕ → Machine → Bool
-noPlace full m = isOut (fetched m) && leb full (length (m .L))
+-- by the rules, as the plain machine goes
+abbrev pub byRules : Stepper
+byRules = record { steps = step; writes = λ m. isOut (fetched m) }
+
+-- the step writes a port (the word is OUT), and L, which may grow to `full` entries, has no free place
+unfoldable pub noPlace : Stepper → ℕ → Machine → Bool
+noPlace v full m = v .writes m && leb full (length (m .L))
+
+-- a step that has no place for its log entry can't be made, stop 2; where the machine can't step anyway, that reason comes first
+abbrev pub unless : Bool → Next → Next
+unless full (cannot q) = cannot q
+unless true (to next) = cannot 2
+unless false (to next) = to next
+
+-- why a run stopped, and the machine it left
+pub record Outcome : Type 0 where
+  pub reason : ℕ
+  pub after : Machine
 
 -- Before each step, in this order: budget used, stop 0; word unassigned, stop 1; word is OUT and the log has no free
 -- place, stop 2.
-unfoldable pub runFrom : ℕ → ℕ → Machine → Outcome
-runFrom zero full m = record { reason = 0; after = m }
-runFrom (suc budget) full m =
-    elim (step m) [
+unfoldable pub runFrom : Stepper → ℕ → ℕ → Machine → Outcome
+runFrom v zero full m = record { reason = 0; after = m }
+runFrom v (suc budget) full m =
+    elim (unless (noPlace v full m) (v .steps m)) [
       | cannot q ↦ record { reason = q; after = m }
-      | to next ↦ elim (noPlace full m) [ true ↦ record { reason = 2; after = m } | false ↦ runFrom budget full next ]
+      | to next ↦ runFrom v budget full next
     ]
 
 -- a run with a budget and a log of so many places
-abbrev pub run : ℕ → ℕ → Machine → Outcome
-run budget places m = runFrom budget (length (m .L) + places) m
+abbrev pub run : Stepper → ℕ → ℕ → Machine → Outcome
+run v budget places m = runFrom v budget (length (m .L) + places) m

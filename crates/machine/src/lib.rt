@@ -2,7 +2,8 @@
 ghost use mathlib.Core.Path.{_≡_};
 ghost use Prim.Native.Nat.{_+_, _%_, _<_};
 ghost use lib.ListN.{length};
-ghost use Rattle.word.specs.Word.{pick};
+ghost use Rattle.word.specs.Fields.{a-of, b-of};
+ghost use Rattle.word.specs.Word.{pick, add};
 ghost use lib.Dec.{eqb};
 ghost use Rattle.machine.specs.Machine.{reset, R, putR, putPC, count};
 ghost use Rattle.machine.specs.Calls.{SetLeft, setLeft, shownSetting, partOf, windowOf};
@@ -16,10 +17,30 @@ pub struct State {
     pub n: u32,
 }
 
-// What an engine's step hands back: the register state, and how many places of the log are filled.
+// What an engine's step hands back: stop 0, the register state, and how many places of the log are filled; or why it can't be
+// made (1 the word is unassigned, 2 it writes a port and the log is full), with both as they were.
 pub struct Stepped {
+    pub stop: u8,
     pub state: State,
     pub entries: usize,
+}
+
+impl Stepped {
+    pub fn done(state: State, entries: usize) -> Self
+        ensures { λ r. ⌜ r ≡ record { stop = 0; state = state; entries = entries } ⌝ }
+    {
+        Self::stopped(0, state, entries)
+    }
+
+    pub fn stopped(stop: u8, state: State, entries: usize) -> Self
+        ensures { λ r. ⌜ r ≡ record { stop = stop; state = state; entries = entries } ⌝ }
+    {
+        Self {
+            stop,
+            state,
+            entries,
+        }
+    }
 }
 
 // A port number.
@@ -63,6 +84,20 @@ impl State {
         self.r[i]
     }
 
+    // Ra of the instruction word w.
+    pub fn ra(self, w: u16) -> u16
+        ensures { λ v. ⌜ v ≡ R self (a-of w) ⌝ }
+    {
+        self.register(w / 512)
+    }
+
+    // Rb of the instruction word w.
+    pub fn rb(self, w: u16) -> u16
+        ensures { λ v. ⌜ v ≡ R self (b-of w) ⌝ }
+    {
+        self.register(w / 64)
+    }
+
     // Register k modulo 8 becomes v. (Choosing each element is faster than a store at an index that is not known.)
     pub fn with_register(self, k: u16, v: u16) -> Self
         ensures { λ s. ⌜ s ≡ putR (k % 8) v self ⌝ }
@@ -100,6 +135,14 @@ impl State {
     {
         self.n = self.n + 1;
         self
+    }
+
+    // PC+2, and one step more is done.
+    pub fn advanced(self) -> Self
+        requires { ⌜ self .n < 4294967295 ⌝ }
+        ensures { λ s. ⌜ s ≡ putPC (add (self .pc) 2) (count self) ⌝ }
+    {
+        self.counted().with_pc(word::sum(self.pc, 2))
     }
 }
 

@@ -1,4 +1,4 @@
--- The refusal table of 01: the number of each refusal.
+-- The refusal table of 01: the number of each refusal, and the reply of a call that is accepted or refused with a number.
 use Prim.Native.Nat.{ℕ}
 use Rattle.refusal.specs.declared.Refusal.{Refusal}
 use Rattle.refusal.specs.declared.Refusal.the-variants.{LentLength, ShortFile, LargePart, PartOutside, OddPc, StepCount, InstructionPart, LongFile}
@@ -20,3 +20,8 @@ refusalNumber StepCount = 6
 refusalNumber InstructionPart = 7
 -- the program's file exceeds 65,536 bytes
 refusalNumber LongFile = 8
+
+-- whether a call is accepted: it is, or it is refused with this number
+pub data Verdict : Type 0 where
+  accepted : Verdict
+  refused : ℕ → Verdict

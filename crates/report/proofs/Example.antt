@@ -2,14 +2,15 @@
 -- Assumes nothing.
 use mathlib.Core.Path.{refl}
 use Rattle.word.specs.Word.{signed, lowBits, SE}
-use Rattle.machine.specs.Step.{movi, movhi, output, choice, fetched, step}
+use Rattle.machine.specs.Step.{fetched}
 use Rattle.machine.specs.Run.{noPlace, runFrom}
 use Rattle.image.specs.Image.{loaded, loadReply, loadLeft}
+use Rattle.control.specs.Control.{second, unit, result, next, storedData, stored, written, performed, assigned, controlStep, controlIn}
 use Rattle.engine.specs.Runs.{verdict, runLeft}
 use Rattle.report.specs.Printed.{digit, digits, decimal, hex4, each, runLine, outLine, pcLine, registersLine, refusedLine, stoppedLines, ranLines, printed}
 use Rattle.report.specs.Example.{Example}
 
 pub example : Example
-unfolding signed lowBits SE movi movhi output choice fetched step noPlace runFrom loaded loadReply loadLeft verdict runLeft
+unfolding signed lowBits SE fetched second unit result next storedData stored written performed assigned controlStep controlIn noPlace runFrom loaded loadReply loadLeft verdict runLeft
     digit digits decimal hex4 each runLine outLine pcLine registersLine refusedLine stoppedLines ranLines printed
 example = record { run = refl; refusal = refl }

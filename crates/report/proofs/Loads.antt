@@ -5,8 +5,10 @@ use mathlib.Core.Path.{_≡_, sym, ap, _∙_}
 use mathlib.Core.List.{List}
 use lib.ListN.{length, replicate}
 use borrow.Author.Tests.{le-leb, lt-leb}
-use Rattle.image.specs.Image.{LoadLeft, LoadReply, accepted, refused, loadLeft}
-use Rattle.engine.specs.Runs.{runLeft}
+use Rattle.refusal.specs.Refusals.{Verdict, accepted, refused}
+use Rattle.image.specs.Image.{LoadLeft, loadLeft}
+use Rattle.control.specs.Control.{byTable}
+use Rattle.engine.specs.Runs.{given, runLeft}
 use Rattle.report.specs.declared.Printed.{Printed}
 use Rattle.report.specs.Printed.{refusedLine, ranLines, loadedBy, printed, held}
 
@@ -16,14 +18,14 @@ too-long file h e = rw (lt-leb (length file) 65536 h) e
 
 module _ (file : List ℕ) {l : LoadLeft} (h : length file ≤ 65536)
     (e : l ≡ loadLeft (record { file = file; P = replicate 65536 0; D = replicate 65536 0; I = replicate 256 0; O = replicate 256 0 })) where
-  loaded : {reply : LoadReply} {r : Printed} → l .reply ≡ reply → r ≡ held (loadedBy reply l) → r ≡ held (printed file)
+  loaded : {reply : Verdict} {r : Printed} → l .reply ≡ reply → r ≡ held (loadedBy reply l) → r ≡ held (printed file)
   unfolding printed
   loaded k p =
       rw (le-leb (length file) 65536 h)
       (p ∙ ap (λ reply. held (loadedBy reply l)) (sym k) ∙ ap (λ (x : LoadLeft). held (loadedBy (x .reply) x)) e)
 
   pub accepted-lines : {r : Printed} → l .reply ≡ accepted
-      → r ≡ held (ranLines (runLeft (record { state = l .state; P = l .P; D = l .D; I = l .I; O = l .O; budget = 1000; log = replicate 64 0 })))
+      → r ≡ held (ranLines (runLeft byTable (given (l .state) (l .P) (l .D) (l .I) (l .O) 1000 (replicate 64 0))))
       → r ≡ held (printed file)
   accepted-lines k p = loaded k p
 

@@ -6,10 +6,12 @@ use mathlib.Core.Bool.{true, false}
 use mathlib.Core.List.{List, [], _∷_, _++_}
 use lib.Dec.{ltb, leb}
 use lib.ListN.{length, take, replicate}
+use Rattle.refusal.specs.Refusals.{Verdict, accepted, refused as turned-away}
 use Rattle.word.specs.Word.{pick}
 use Rattle.machine.specs.declared.State.{State}
-use Rattle.image.specs.Image.{LoadReply, accepted, refused as loadRefused, LoadLeft, loadLeft}
-use Rattle.engine.specs.Runs.{RunReply, stopped, refused, Left, runLeft}
+use Rattle.image.specs.Image.{LoadLeft, loadLeft}
+use Rattle.control.specs.Control.{byTable}
+use Rattle.engine.specs.Runs.{given, RunReply, stopped, refused, Left, runLeft}
 use Rattle.report.specs.declared.Printed.{Printed}
 
 -- ---- Words and numbers
@@ -90,11 +92,9 @@ unfoldable pub ranLines : Left → List ℕ
 ranLines l = linesBy (l .reply) l
 
 -- what a load prints; `panelrun` runs the table engine with inputs zero, as the load left them, budget 1,000 and a 64-place log
-abbrev pub loadedBy : LoadReply → LoadLeft → List ℕ
-loadedBy accepted l =
-    ranLines
-    (runLeft (record { state = l .state; P = l .P; D = l .D; I = l .I; O = l .O; budget = 1000; log = replicate 64 0 }))
-loadedBy (loadRefused number) l = refusedLine number
+abbrev pub loadedBy : Verdict → LoadLeft → List ℕ
+loadedBy accepted l = ranLines (runLeft byTable (given (l .state) (l .P) (l .D) (l .I) (l .O) 1000 (replicate 64 0)))
+loadedBy (turned-away number) l = refusedLine number
 
 -- 8: the program's file exceeds 65,536 bytes. The program tests 8 before its load.
 unfoldable pub printed : List ℕ → List ℕ

@@ -1,7 +1,8 @@
 // What the program `panelrun` prints for a trim file: the file is loaded and run by the control table.
 ghost use mathlib.Core.Path.{_≡_};
 ghost use lib.ListN.{replicate};
-ghost use Rattle.engine.specs.Runs.{runLeft};
+ghost use Rattle.control.specs.Control.{byTable};
+ghost use Rattle.engine.specs.Runs.{given, runLeft};
 ghost use Rattle.report.specs.Printed.{ranLines, printed, held};
 use engine::Answer;
 use image::Loading;
@@ -34,7 +35,7 @@ fn run_loaded(
     inputs: &mut [u16],
     outputs: &mut [u16],
 ) -> Printed
-    ensures { λ r. ⌜ r ≡ held (ranLines (runLeft (record { state = state; P = now (program .entry); D = now (memory .entry); I = now (inputs .entry); O = now (outputs .entry); budget = 1000; log = replicate 64 0 }))) ⌝ }
+    ensures { λ r. ⌜ r ≡ held (ranLines (runLeft byTable (given state (now (program .entry)) (now (memory .entry)) (now (inputs .entry)) (now (outputs .entry)) 1000 (replicate 64 0)))) ⌝ }
 {
     let mut log = [0u64; LOG_PLACES];
     let ran = engine::run_by_table(state, program, memory, inputs, outputs, BUDGET, &mut log);

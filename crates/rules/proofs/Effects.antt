@@ -1,87 +1,88 @@
--- From what a rule does to registers and data memory to the step, with an equation for each call of the code.
+-- From what a rule does to registers and data memory to the answer of the step: a law for each kind of effect.
 -- Assumes nothing.
 use mathlib.Core.Path.{_≡_, refl, sym, ap, ap₂, _∙_}
 use mathlib.Core.Bool.{Bool, true, false}
 use mathlib.Core.List.{List}
-use Prim.Native.Nat.{ℕ, _+_, _*_, _%_, _<_}
-use native.Mathlib.Omega.{arith}
+use Prim.Native.Nat.{ℕ, _+_, _*_, _%_}
 use lib.Dec.{eqb}
-use lib.ListN.{getD}
-use Rattle.word.specs.Fields.{e-of, f-of, N8}
+use Rattle.word.specs.Fields.{e-of, N8}
 use Rattle.word.specs.Word.{pick, add, SE}
 use Rattle.machine.specs.declared.State.{State}
+use Rattle.machine.specs.declared.Stepped.{Stepped}
 use Rattle.machine.specs.Machine.{Machine, putR, putPC, count, onState, putD}
-use Rattle.machine.specs.Step.{PC, d5-3, d11-9, write, jump, none, rows, choice, to, stepBy, bz, bnz, movi, movhi}
-use Rattle.rules.specs.Parts.{onwardOf, Known, raOf, rbOf, sumOf, targetOf, branchOf, moveOf}
-use Rattle.rules.proofs.Choices.{ruleIn, ruled}
+use Rattle.machine.specs.Step.{PC, d11-9, write, jump, Rule, rule, unassigned, choice, stepBy, bz, bnz, movi, movhi}
+use Rattle.machine.specs.Run.{Outcome}
+use Rattle.machine.specs.Held.{outcomeOf}
+use Rattle.rules.specs.Parts.{advancedOf, RuleMeets, raOf, targetOf, branchOf, moveOf}
 
 -- PC = PC+2 is done
-abbrev pub on : Machine → Machine
+abbrev on : Machine → Machine
 on m = jump (add (PC m) 2) m
 
--- the rule of opcode k
-abbrev pub ruleAt : ℕ → ℕ → Machine → Machine
-ruleAt k w m = ruleIn (getD rows k none) (e-of w) w m
+-- what is answered
+abbrev pub answer : ℕ → State → ℕ → Stepped
+answer stop t k = record { stop = stop; state = t; entries = k }
 
-module _ {op w : ℕ} {s next : State} {D : List ℕ} (known : Known op w s next D) (small : w < 65536) (k : ℕ) (is : op ≡ k) where
-  -- in a machine with state s and data D the step leaves the state t and the data D′
-  abbrev Leaves : State → List ℕ → Type 0
-  Leaves t D′ = (m : Machine) → m .state ≡ s → m .D ≡ D → stepBy (choice w) w m ≡ to (onState (λ u. t) (putD D′ m))
+-- what comes of m
+abbrev comes : ℕ → State → List ℕ → Machine → Outcome
+comes stop t D m = record { reason = stop; after = onState (λ u. t) (putD D m) }
 
-  leaves : (F : State → State → List ℕ → State) (G : State → List ℕ → List ℕ) {t : State} {D′ : List ℕ}
-      → ((m : Machine) → onState count (ruleAt k w (on m)) ≡ onState (λ u. F u (onwardOf u) (m .D)) (putD (G (m .state) (m .D)) m))
-      → t ≡ F s next D
-      → D′ ≡ G s D
-      → Leaves t D′
-  leaves F G p et eD′ m es eD =
-      ap (λ x. stepBy x w m) (ruled k w small (known .opcode ∙ is) (known .assigned))
-      ∙ ap to (p m)
-      ∙ ap₂ (λ t′ D″. to (onState (λ u. t′) (putD D″ m)))
-      (ap₂ (λ u E. F u (onwardOf u) E) es eD ∙ ap (λ n. F s n D) (sym (known .onward)) ∙ sym et)
-      (ap₂ G es eD ∙ sym eD′)
+module _ {w : ℕ} {s : State} {D : List ℕ} {k : ℕ} {r : Stepped} where
+  meets : {stop : ℕ} {t : State} {D′ : List ℕ}
+      → ((m : Machine) → m .state ≡ s → m .D ≡ D → outcomeOf m (stepBy (choice w) w m) ≡ comes stop t D′ m)
+      → r ≡ answer stop t k
+      → RuleMeets w s D k r D′
+  meets {stop} {t} {D′} p er =
+      record { entries = ap (λ x. x .entries) er; machine = λ m es eD. p m es eD ∙ ap (λ x. comes (x .stop) (x .state) D′ m) (sym er) }
 
-  -- the rule writes a register
-  pub wrote : (d : ℕ → ℕ) (value : ℕ → State → List ℕ → ℕ) {v : ℕ} {t : State}
-      → ((m : Machine) → ruleAt k w (on m) ≡ write (d w) (value w (m .state) (m .D)) (on m))
-      → v ≡ value w s D
-      → t ≡ putR (d w) v next
-      → Leaves t D
-  wrote d value p ev et =
-      leaves (λ u n E. putR (d w) (value w u E) n) (λ u E. E) (λ m. ap (onState count) (p m)) (et ∙ ap (λ x. putR (d w) x next) ev) refl
+  -- the word is unassigned
+  pub stopped : choice w ≡ unassigned → r ≡ answer 1 s k → RuleMeets w s D k r D
+  stopped q er = meets (λ m es eD. ap (λ x. outcomeOf m (stepBy x w m)) q ∙ ap₂ (λ u E. comes 1 u E m) es eD) er
 
-  -- the value goes by f
-  pub operated : (g : ℕ → ℕ → ℕ → ℕ) {x y v : ℕ} {t : State}
-      → ((m : Machine) → ruleAt k w (on m) ≡ write (d5-3 w) (g (f-of w) (raOf w (m .state)) (rbOf w (m .state))) (on m))
-      → x ≡ raOf w s
-      → y ≡ rbOf w s
-      → v ≡ g (w % 8) x y
-      → t ≡ putR (d5-3 w) v next
-      → Leaves t D
-  operated g p ex ey ev et =
-      let f : w % 8 ≡ f-of w = omega arith in
-      wrote d5-3 (λ i u E. g (f-of i) (raOf i u) (rbOf i u)) p (ev ∙ ap₂ (g (w % 8)) ex ey ∙ ap (λ i. g i (raOf w s) (rbOf w s)) f) et
+  module _ {next : State} (x : Rule) (q : choice w ≡ rule x) (advanced : next ≡ advancedOf s) where
+    leaves : (F : State → State → List ℕ → State) (G : State → List ℕ → List ℕ) {t : State} {D′ : List ℕ}
+        → ((m : Machine) → onState count (x w (on m)) ≡ onState (λ u. F u (advancedOf u) (m .D)) (putD (G (m .state) (m .D)) m))
+        → t ≡ F s next D
+        → D′ ≡ G s D
+        → r ≡ answer 0 t k
+        → RuleMeets w s D k r D′
+    leaves F G p et eD′ er =
+        meets
+        (λ m es eD.
+        ap (λ y. outcomeOf m (stepBy y w m)) q
+        ∙ ap (λ after. record { reason = 0; after = after }) (p m)
+        ∙ ap₂ (λ t′ D″. comes 0 t′ D″ m)
+        (ap₂ (λ u E. F u (advancedOf u) E) es eD ∙ ap (λ n. F s n D) (sym advanced) ∙ sym et)
+        (ap₂ G es eD ∙ sym eD′))
+        er
 
-  -- the rule writes the data
-  pub stored : (put : ℕ → ℕ → List ℕ → List ℕ) (at : ℕ → ℕ) {a y : ℕ} {D′ : List ℕ}
-      → ((m : Machine) → ruleAt k w (on m) ≡ putD (put (at (sumOf w (m .state))) (rbOf w (m .state)) (m .D)) (on m))
-      → a ≡ sumOf w s
-      → y ≡ rbOf w s
-      → D′ ≡ put (at a) y D
-      → Leaves next D′
-  stored put at p ea ey eD′ =
-      leaves (λ u n E. n) (λ u E. put (at (sumOf w u)) (rbOf w u) E) (λ m. ap (onState count) (p m)) refl
-      (eD′ ∙ ap₂ (λ b z. put (at b) z D) ea ey)
+    -- the rule writes a register
+    pub wrote : (d : ℕ) (value : State → List ℕ → ℕ) {t : State}
+        → ((m : Machine) → x w (on m) ≡ write d (value (m .state) (m .D)) (on m))
+        → t ≡ putR d (value s D) next
+        → r ≡ answer 0 t k
+        → RuleMeets w s D k r D
+    wrote d value p et = leaves (λ u n E. putR d (value u E) n) (λ u E. E) (λ m. ap (onState count) (p m)) et refl
 
-  -- the rule names PC
-  pub jumped : (F : ℕ → State → State → State) {t : State}
-      → ((m : Machine) → onState count (ruleAt k w (on m)) ≡ onState (λ u. F w u (onwardOf u)) m)
-      → t ≡ F w s next
-      → Leaves t D
-  jumped F p et = leaves (λ u n E. F w u n) (λ u E. E) p et refl
+    -- the rule writes the data
+    pub stored : (put : State → List ℕ → List ℕ) {D′ : List ℕ}
+        → ((m : Machine) → x w (on m) ≡ putD (put (m .state) (m .D)) (on m))
+        → D′ ≡ put s D
+        → r ≡ answer 0 next k
+        → RuleMeets w s D k r D′
+    stored put p eD′ = leaves (λ u n E. n) put (λ m. ap (onState count) (p m)) refl eD′
+
+    -- the rule names PC
+    pub jumped : (F : State → State → State) {t : State}
+        → ((m : Machine) → onState count (x w (on m)) ≡ onState (λ u. F u (advancedOf u)) m)
+        → t ≡ F s next
+        → r ≡ answer 0 t k
+        → RuleMeets w s D k r D
+    jumped F p et = leaves (λ u n E. F u n) (λ u E. E) p et refl
 
 -- ---- The rules by e
 
-pub moves : (w : ℕ) (m : Machine) → ruleAt 9 w (on m) ≡ write (d11-9 w) (moveOf w (m .state)) (on m)
+pub moves : (w : ℕ) (m : Machine) → pick (eqb (e-of w) 0) movi movhi w (on m) ≡ write (d11-9 w) (moveOf w (m .state)) (on m)
 unfolding movi movhi
 moves w m = go (eqb (e-of w) 0)
   where
@@ -89,7 +90,7 @@ moves w m = go (eqb (e-of w) 0)
     go true = refl
     go false = refl
 
-pub branches : (w : ℕ) (m : Machine) → onState count (ruleAt 8 w (on m)) ≡ onState (λ u. branchOf w u (onwardOf u)) m
+pub branches : (w : ℕ) (m : Machine) → onState count (pick (eqb (e-of w) 0) bz bnz w (on m)) ≡ onState (λ u. branchOf w u (advancedOf u)) m
 unfolding bz bnz
 branches w m = ap (onState count) (by-e (eqb (e-of w) 0)) ∙ go (eqb (e-of w) 0) (eqb (raOf w (m .state)) 0) (targetOf w (PC m))
   where
@@ -99,7 +100,7 @@ branches w m = ap (onState count) (by-e (eqb (e-of w) 0)) ∙ go (eqb (e-of w) 0
 
     go : (t z : Bool) (a : ℕ)
         → onState count (pick t (pick z (jump a (on m)) (on m)) (pick z (on m) (jump a (on m))))
-        ≡ onState (λ u. pick z (pick t (putPC a (onwardOf u)) (onwardOf u)) (pick t (onwardOf u) (putPC a (onwardOf u)))) m
+        ≡ onState (λ u. pick z (pick t (putPC a (advancedOf u)) (advancedOf u)) (pick t (advancedOf u) (putPC a (advancedOf u)))) m
     go true true a = refl
     go true false a = refl
     go false true a = refl

@@ -1,3 +1,4 @@
+pub mod Values
 pub mod Choices
 pub mod Effects
-pub mod After
+pub mod Steps

@@ -1,28 +1,38 @@
 -- What the private functions of a step promise. Nothing here is promised to a caller.
 use mathlib.Core.Path.{_≡_}
-use mathlib.Core.Bool.{true}
+use mathlib.Core.Bool.{Bool, not}
+use mathlib.Core.List.{List, [], _∷_}
 use Prim.Native.Nat.{ℕ, _+_, _*_, _/_, _%_}
-use mathlib.Core.List.{List}
 use lib.Dec.{eqb}
-use lib.ListN.{length, getD}
+use lib.ListN.{getD}
 use Rattle.word.specs.Fields.{a-of, b-of, e-of, N6, N8}
 use Rattle.word.specs.Word.{pick, add, clear0, SE}
 use Rattle.machine.specs.declared.State.{State}
-use Rattle.machine.specs.Machine.{R, putR, putPC, count, wordAt}
-use Rattle.machine.specs.Step.{d8-6, choice}
-use Rattle.machine.specs.Held.{isRule}
+use Rattle.machine.specs.declared.Stepped.{Stepped}
+use Rattle.machine.specs.Machine.{Machine, R, putR, putPC, count, onState, putD, wordAt}
+use Rattle.machine.specs.Step.{d8-6, among, choice, stepBy}
+use Rattle.machine.specs.Held.{outcomeOf}
 
--- PC becomes PC+2, n grows by 1
-abbrev pub onwardOf : State → State
-onwardOf s = putPC (add (s .pc) 2) (count s)
+-- ---- A step of w with the opcode op, from the state s
 
--- what is known where the rule of an opcode other than 10 is done
-pub record Known (op w : ℕ) (s next : State) (D : List ℕ) : Type 0 where
+-- PC+2, and the count
+abbrev pub advancedOf : State → State
+advancedOf s = putPC (add (s .pc) 2) (count s)
+
+pub record Begun (op w : ℕ) (s next : State) : Type 0 where
   pub opcode : w / 4096 ≡ op
-  pub no-port : op ≡ 10 → ⊥
-  pub assigned : isRule (choice w) ≡ true
-  pub onward : next ≡ onwardOf s
-  pub memory : length D ≡ 65536
+  pub advanced : next ≡ advancedOf s
+
+-- What a step at no port answers, r, and leaves in data memory, D′, in each machine with state s and data D; the log's entries
+-- stay as many as they were.
+pub record RuleMeets (w : ℕ) (s : State) (D : List ℕ) (k : ℕ) (r : Stepped) (D′ : List ℕ) : Type 0 where
+  pub entries : r .entries ≡ k
+  pub machine :
+      (m : Machine) → m .state ≡ s → m .D ≡ D → outcomeOf m (stepBy (choice w) w m) ≡ record { reason = r .stop; after = onState (λ u. r .state) (putD D′ m) }
+
+-- the f of opcode 1 that are assigned: all but 2, 6, 7
+abbrev pub isComparison : ℕ → Bool
+isComparison f = not (among f (2 ∷ 6 ∷ 7 ∷ []))
 
 -- ---- What a rule writes, read from the state s before the step and the data D
 

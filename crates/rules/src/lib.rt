@@ -1,31 +1,106 @@
-// The engine by the rules: the test before a step, and the step of a word.
+// The engine by the rules: the step of a word.
 ghost use mathlib.Core.Path.{_≡_};
-ghost use mathlib.Core.Bool.{true, _&&_};
-ghost use Rattle.machine.specs.Machine.{Machine};
-ghost use Rattle.machine.specs.Step.{choice, stepBy};
+ghost use mathlib.Core.Bool.{true};
+ghost use mathlib.Core.List.{List};
+ghost use Prim.Native.Nat.{ℕ, _≤_};
+ghost use lib.ListN.{length};
+ghost use Rattle.machine.specs.Step.{rule, choice, stepBy, output};
 ghost use Rattle.machine.specs.Run.{isOut};
-ghost use Rattle.machine.specs.Held.{Held, Ready, Becomes, isRule, stopIn, machineOf};
+ghost use Rattle.machine.specs.Held.{held, Ready, StepMeets};
+ghost use Rattle.rules.specs.Parts.{Begun, RuleMeets};
 use machine::Port;
 use machine::State;
 use machine::Stepped;
 
 mod rule;
-mod tests;
 
-// Why a run stops before the step of w: 1 unassigned, 2 OUT and the log is full; 0 where it goes on.
-pub fn stop_before(w: u16, state: State, full: bool) -> u8
-    ensures { λ r. ⌜ ((m : Machine) → m .state ≡ state → r ≡ stopIn (stepBy (choice w) w m) (isOut w && full)) ⌝ }
+// The step of a word with opcode 1: unassigned where f is 2, 6 or 7.
+fn comparison(w: u16, state: State, next: State, entries: usize) -> Stepped
+    requires { ⌜ Begun 1 w state next ⌝ }
+    ensures { λ r. ⌜ ((D : List ℕ) → RuleMeets w state D entries r D) ⌝ }
 {
-    if !tests::is_assigned(w) {
-        return 1;
+    if rule::is_comparison(w % 8) {
+        Stepped::done(rule::compared(w, state, next), entries)
+    } else {
+        Stepped::stopped(1, state, entries)
     }
-    if !full {
-        return 0;
-    }
-    if tests::is_out(w) { 2 } else { 0 }
 }
 
-// The step of an assigned word. (With an early `return` the compiled step is four times slower.)
+// The step of a word with an opcode other than 10. (The opcode is handed on, so that the tests of it are compiled to one switch.)
+fn by_rule(op: u16, w: u16, state: State, next: State, memory: &mut [u8], entries: usize) -> Stepped
+    requires { ⌜ Begun op w state next ⌝ }
+    requires { ⌜ (op ≡ 10 → ⊥) ⌝ }
+    requires { ⌜ length (now memory) ≡ 65536 ⌝ }
+    ensures { λ r. ⌜ RuleMeets w state (now (memory .entry)) entries r (now (memory .exit)) ⌝ }
+{
+    match op {
+        0 => Stepped::done(rule::operated(w, state, next), entries),
+        1 => comparison(w, state, next, entries),
+        2 => Stepped::done(rule::summed(w, state, next), entries),
+        3 => Stepped::done(rule::load_word(w, state, next, memory), entries),
+        4 => {
+            rule::store_word(w, state, memory);
+            Stepped::done(next, entries)
+        }
+        5 => Stepped::done(rule::load_byte(w, state, next, memory), entries),
+        6 => {
+            rule::store_byte(w, state, memory);
+            Stepped::done(next, entries)
+        }
+        7 => Stepped::done(rule::link(w, state, next), entries),
+        8 => Stepped::done(rule::branch(w, state, next), entries),
+        9 => Stepped::done(rule::moved(w, state, next), entries),
+        _ => Stepped::stopped(1, state, entries),
+    }
+}
+
+// OUT.
+fn output(
+    w: u16,
+    state: State,
+    next: State,
+    outputs: &mut [u16],
+    log: &mut [u64],
+    entries: usize,
+) -> Stepped
+    requires { ⌜ Begun 10 w state next ⌝ }
+    requires { ⌜ length (now outputs) ≡ 256 ⌝ }
+    requires { ⌜ entries ≤ length (now log) ⌝ }
+    ensures { λ r. ⌜ ((D I : List ℕ) → StepMeets (stepBy (rule output) w) true (held state D I (now (outputs .entry)) (now (log .entry)) entries) (r .stop) (held (r .state) D I (now (outputs .exit)) (now (log .exit)) (r .entries))) ⌝ }
+{
+    if log.len() <= entries {
+        Stepped::stopped(2, state, entries)
+    } else {
+        let port = Port((w % 256) as u8);
+        let x = state.ra(w);
+        bus::write_port(outputs, port, x);
+        log[entries] = bus::entry_of(state.n, port, x);
+        Stepped::done(next, entries + 1)
+    }
+}
+
+// IN and OUT.
+fn at_port(
+    w: u16,
+    state: State,
+    next: State,
+    inputs: &[u16],
+    outputs: &mut [u16],
+    log: &mut [u64],
+    entries: usize,
+) -> Stepped
+    requires { ⌜ Begun 10 w state next ⌝ }
+    requires { ⌜ (length (now inputs) ≡ 256) × (length (now outputs) ≡ 256) × (entries ≤ length (now log)) ⌝ }
+    ensures { λ r. ⌜ ((D : List ℕ) → StepMeets (stepBy (choice w) w) (isOut w) (held state D (now (inputs .entry)) (now (outputs .entry)) (now (log .entry)) entries) (r .stop) (held (r .state) D (now (inputs .entry)) (now (outputs .exit)) (now (log .exit)) (r .entries))) ⌝ }
+{
+    if w / 256 % 2 == 0 {
+        Stepped::done(rule::input(w, next, inputs), entries)
+    } else {
+        output(w, state, next, outputs, log, entries)
+    }
+}
+
+// The step of w. (With an early `return` the compiled step is four times slower.)
 pub fn step(
     w: u16,
     state: State,
@@ -35,28 +110,14 @@ pub fn step(
     log: &mut [u64],
     entries: usize,
 ) -> Stepped
-    requires { ⌜ isRule (choice w) ≡ true ⌝ }
-    requires { ⌜ Ready (isOut w) (record { state = state; D = now memory; I = now inputs; O = now outputs; log = now log; entries = entries }) ⌝ }
-    ensures { λ r. ⌜ Becomes (record { state = state; D = now (memory .entry); I = now (inputs .entry); O = now (outputs .entry); log = now (log .entry); entries = entries }) (record { state = r .state; D = now (memory .exit); I = now (inputs .exit); O = now (outputs .exit); log = now (log .exit); entries = r .entries }) (λ P. stepBy (choice w) w (machineOf P (record { state = state; D = now (memory .entry); I = now (inputs .entry); O = now (outputs .entry); log = now (log .entry); entries = entries }))) ⌝ }
+    requires { ⌜ Ready (held state (now memory) (now inputs) (now outputs) (now log) entries) ⌝ }
+    ensures { λ r. ⌜ StepMeets (stepBy (choice w) w) (isOut w) (held state (now (memory .entry)) (now (inputs .entry)) (now (outputs .entry)) (now (log .entry)) entries) (r .stop) (held (r .state) (now (memory .exit)) (now (inputs .exit)) (now (outputs .exit)) (now (log .exit)) (r .entries)) ⌝ }
 {
     let op = w / 4096;
-    let next = rule::onward(state);
+    let next = state.advanced();
     if op == 10 {
-        let port = Port((w % 256) as u8);
-        if w / 256 % 2 == 0 {
-            let state = next.with_register(w / 512, bus::read_port(inputs, port));
-            Stepped { state, entries }
-        } else {
-            let x = rule::ra(w, state);
-            bus::write_port(outputs, port, x);
-            log[entries] = bus::entry_of(state.n, port, x);
-            Stepped {
-                state: next,
-                entries: entries + 1,
-            }
-        }
+        at_port(w, state, next, inputs, outputs, log, entries)
     } else {
-        let state = rule::ruled(op, w, state, next, memory);
-        Stepped { state, entries }
+        by_rule(op, w, state, next, memory, entries)
     }
 }

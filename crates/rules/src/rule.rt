@@ -1,81 +1,105 @@
-// The rules of opcodes 0 to 9: they read the state before the step and change `next`, where PC+2 and the count are done.
+// The rules, one for each opcode: they read the state before the step and change `next`, where PC+2 and the count are done.
 ghost use mathlib.Core.Path.{_≡_};
-ghost use Prim.Native.Nat.{_<_};
-ghost use lib.ListN.{length};
-ghost use Rattle.machine.specs.Machine.{Machine, onState, putD};
-ghost use Rattle.machine.specs.Step.{choice, stepBy, to};
-ghost use Rattle.rules.specs.Parts.{onwardOf, raOf, rbOf, sumOf, wordOf, byteOf, targetOf, branchOf, linkOf, moveOf, Known};
+ghost use lib.ListN.{length, getD};
+ghost use Rattle.word.specs.Fields.{f-of, N8};
+ghost use Rattle.word.specs.Word.{operation, comparison, clear0};
+ghost use Rattle.machine.specs.Machine.{putR, putWord, putByte};
+ghost use Rattle.machine.specs.Step.{d5-3, d8-6, d11-9};
+ghost use Rattle.rules.specs.Parts.{isComparison, raOf, rbOf, sumOf, wordOf, byteOf, branchOf, linkOf, moveOf};
 use machine::Address;
+use machine::Port;
 use machine::State;
 
-// PC+2, and one step more.
-pub fn onward(state: State) -> State
-    requires { ⌜ state .n < 4294967295 ⌝ }
-    ensures { λ r. ⌜ r ≡ onwardOf state ⌝ }
+// Opcode 0.
+pub fn operated(w: u16, state: State, next: State) -> State
+    ensures { λ r. ⌜ r ≡ putR (d5-3 w) (operation (f-of w) (raOf w state) (rbOf w state)) next ⌝ }
 {
-    state.counted().with_pc(word::sum(state.pc, 2))
+    next.with_register(w / 8, word::operate(w % 8, state.ra(w), state.rb(w)))
 }
 
-pub fn ra(w: u16, state: State) -> u16
-    ensures { λ r. ⌜ r ≡ raOf w state ⌝ }
+// The f of opcode 1 that are assigned.
+pub fn is_comparison(f: u16) -> bool
+    ensures { λ r. ⌜ r ≡ isComparison f ⌝ }
 {
-    state.register(w / 512)
+    match f {
+        2 => false,
+        6 => false,
+        7 => false,
+        _ => true,
+    }
 }
 
-fn rb(w: u16, state: State) -> u16
-    ensures { λ r. ⌜ r ≡ rbOf w state ⌝ }
+// Opcode 1.
+pub fn compared(w: u16, state: State, next: State) -> State
+    ensures { λ r. ⌜ r ≡ putR (d5-3 w) (comparison (f-of w) (raOf w state) (rbOf w state)) next ⌝ }
 {
-    state.register(w / 64)
+    next.with_register(w / 8, word::compare(w % 8, state.ra(w), state.rb(w)))
 }
 
 // Ra+SE(N6): ADDI's result, and the address of a load or a store.
 fn sum(w: u16, state: State) -> u16
     ensures { λ r. ⌜ r ≡ sumOf w state ⌝ }
 {
-    word::sum(ra(w, state), word::extend6(w))
+    word::sum(state.ra(w), word::extend6(w))
 }
 
-// LD's result.
-fn load_word(w: u16, state: State, memory: &[u8]) -> u16
-    requires { ⌜ length (now memory) ≡ 65536 ⌝ }
-    ensures { λ r. ⌜ r ≡ wordOf w state (now (memory .entry)) ⌝ }
+// ADDI.
+pub fn summed(w: u16, state: State, next: State) -> State
+    ensures { λ r. ⌜ r ≡ putR (d8-6 w) (sumOf w state) next ⌝ }
 {
-    bus::load_word(memory, Address(sum(w, state)))
+    next.with_register(w / 64, sum(w, state))
 }
 
-// LDB's result.
-fn load_byte(w: u16, state: State, memory: &[u8]) -> u16
+// LD.
+pub fn load_word(w: u16, state: State, next: State, memory: &[u8]) -> State
     requires { ⌜ length (now memory) ≡ 65536 ⌝ }
-    ensures { λ r. ⌜ r ≡ byteOf w state (now (memory .entry)) ⌝ }
+    ensures { λ r. ⌜ r ≡ putR (d8-6 w) (wordOf w state (now (memory .entry))) next ⌝ }
 {
-    word::extend8(bus::load_byte(memory, Address(sum(w, state))))
+    next.with_register(w / 64, bus::load_word(memory, Address(sum(w, state))))
+}
+
+// ST.
+pub fn store_word(w: u16, state: State, memory: &mut [u8])
+    requires { ⌜ length (now memory) ≡ 65536 ⌝ }
+    ensures { λ _. ⌜ now (memory .exit) ≡ putWord (clear0 (sumOf w state)) (rbOf w state) (now (memory .entry)) ⌝ }
+{
+    bus::store_word(memory, Address(sum(w, state)), state.rb(w));
+}
+
+// LDB.
+pub fn load_byte(w: u16, state: State, next: State, memory: &[u8]) -> State
+    requires { ⌜ length (now memory) ≡ 65536 ⌝ }
+    ensures { λ r. ⌜ r ≡ putR (d8-6 w) (byteOf w state (now (memory .entry))) next ⌝ }
+{
+    let byte = bus::load_byte(memory, Address(sum(w, state)));
+    next.with_register(w / 64, word::extend8(byte))
+}
+
+// STB.
+pub fn store_byte(w: u16, state: State, memory: &mut [u8])
+    requires { ⌜ length (now memory) ≡ 65536 ⌝ }
+    ensures { λ _. ⌜ now (memory .exit) ≡ putByte (sumOf w state) (rbOf w state) (now (memory .entry)) ⌝ }
+{
+    bus::store_byte(memory, Address(sum(w, state)), state.rb(w));
 }
 
 // JALR. Ra is read before the link is written, so from the state before the step.
-fn link(w: u16, state: State, next: State) -> State
+pub fn link(w: u16, state: State, next: State) -> State
     ensures { λ r. ⌜ r ≡ linkOf w state next ⌝ }
 {
     let linked = next.with_register(w / 64, next.pc);
-    linked.with_pc(word::clear_bit0(ra(w, state)))
-}
-
-// PC+2+2·SE(N8)
-fn target(w: u16, pc: u16) -> u16
-    ensures { λ r. ⌜ r ≡ targetOf w pc ⌝ }
-{
-    let offset = word::extend8(w) as u32;
-    (((pc as u32) + 2 + 2 * offset) % 65536) as u16
+    linked.with_pc(word::clear_bit0(state.ra(w)))
 }
 
 // BZ and BNZ.
-fn branch(w: u16, state: State, next: State) -> State
+pub fn branch(w: u16, state: State, next: State) -> State
     ensures { λ r. ⌜ r ≡ branchOf w state next ⌝ }
 {
-    let x = ra(w, state);
+    let x = state.ra(w);
     let e = w / 256 % 2;
     if x == 0 {
         if e == 0 {
-            next.with_pc(target(w, state.pc))
+            next.with_pc(word::branch_target(state.pc, w))
         } else {
             next
         }
@@ -83,43 +107,27 @@ fn branch(w: u16, state: State, next: State) -> State
         if e == 0 {
             next
         } else {
-            next.with_pc(target(w, state.pc))
+            next.with_pc(word::branch_target(state.pc, w))
         }
     }
 }
 
-// The result of MOVI and MOVHI.
-fn moved(w: u16, state: State) -> u16
-    ensures { λ r. ⌜ r ≡ moveOf w state ⌝ }
+// MOVI and MOVHI.
+pub fn moved(w: u16, state: State, next: State) -> State
+    ensures { λ r. ⌜ r ≡ putR (d11-9 w) (moveOf w state) next ⌝ }
 {
     if w / 256 % 2 == 0 {
-        word::extend8(w)
+        next.with_register(w / 512, word::extend8(w))
     } else {
-        ra(w, state) % 256 + w % 256 * 256
+        next.with_register(w / 512, state.ra(w) % 256 + w % 256 * 256)
     }
 }
 
-// The step of a word with opcode 0 to 9. (The opcode is handed on, so that the tests of it are compiled to one switch.)
-pub fn ruled(op: u16, w: u16, state: State, next: State, memory: &mut [u8]) -> State
-    requires { ⌜ Known op w state next (now memory) ⌝ }
-    ensures { λ r. ⌜ ((m : Machine) → m .state ≡ state → m .D ≡ now (memory .entry) → stepBy (choice w) w m ≡ to (onState (λ s. r) (putD (now (memory .exit)) m))) ⌝ }
+// IN.
+pub fn input(w: u16, next: State, inputs: &[u16]) -> State
+    requires { ⌜ length (now inputs) ≡ 256 ⌝ }
+    ensures { λ r. ⌜ r ≡ putR (d11-9 w) (getD (now (inputs .entry)) (N8 w) 0) next ⌝ }
 {
-    match op {
-        0 => next.with_register(w / 8, word::operate(w % 8, ra(w, state), rb(w, state))),
-        1 => next.with_register(w / 8, word::compare(w % 8, ra(w, state), rb(w, state))),
-        2 => next.with_register(w / 64, sum(w, state)),
-        3 => next.with_register(w / 64, load_word(w, state, memory)),
-        4 => {
-            bus::store_word(memory, Address(sum(w, state)), rb(w, state));
-            next
-        },
-        5 => next.with_register(w / 64, load_byte(w, state, memory)),
-        6 => {
-            bus::store_byte(memory, Address(sum(w, state)), rb(w, state));
-            next
-        },
-        7 => link(w, state, next),
-        8 => branch(w, state, next),
-        _ => next.with_register(w / 512, moved(w, state)),
-    }
+    let port = Port((w % 256) as u8);
+    next.with_register(w / 512, bus::read_port(inputs, port))
 }

@@ -6,40 +6,42 @@ use mathlib.Core.Path.{_≡_, sym, _∙_, ap}
 use borrow.Author.Tests.{le-leb, lt-leb}
 use lib.IntN.{ℤ}
 use lib.ListN.{getD}
+use Rattle.refusal.specs.Refusals.{Verdict}
 use Rattle.isa.specs.declared.Kind.{Kind}
 use Rattle.isa.specs.declared.Kind.the-variants.{And}
 use Rattle.isa.specs.Sheet.{kinds, kindNumber}
 use Rattle.isa.specs.Instructions.{Written, writeOf}
 use Rattle.isa.proofs.Every.{listed}
 use Rattle.machine.specs.declared.State.{State}
-use Rattle.machine.specs.Calls.{SetReply, SetGiven, SetLeft, setLeft}
-use Rattle.image.specs.Image.{LoadReply, LoadGiven, LoadLeft, loadLeft}
-use Rattle.engine.specs.Runs.{Given, RunReply, RunMeets}
+use Rattle.machine.specs.Run.{Stepper}
+use Rattle.machine.specs.Calls.{SetGiven, SetLeft, setLeft}
+use Rattle.image.specs.Image.{LoadGiven, LoadLeft, loadLeft}
+use Rattle.engine.specs.Runs.{Given, left, RunReply, RunMeets}
 use Rattle.sisa.specs.declared.SisaLoad.{SisaLoad}
 use Rattle.sisa.specs.declared.SisaRun.{SisaRun}
 use Rattle.sisa.specs.declared.SisaWord.{SisaWord}
-use Rattle.sisa.specs.Sisa.{sisaLoad, SisaLoadLeft, loadInNumbers, sisaLoadLeft, setNumber, SisaSetLeft, setInNumbers, sisaSetLeft, sisaRun, runInNumbers, sisaRunLeft, SisaRunMeets, sisaWord, sisaWrite}
+use Rattle.sisa.specs.Sisa.{sisaLoad, SisaLoadLeft, loadInNumbers, sisaLoadLeft, verdictNumber, SisaSetLeft, setInNumbers, sisaSetLeft, sisaRun, sisaLeft, runInNumbers, sisaRunLeft, SisaRunMeets, sisaWord, sisaWrite}
 
-pub load-meets : (g : LoadGiven) {reply : LoadReply} {state : State} {P D I O : List ℕ} {r : SisaLoad}
+pub load-meets : (g : LoadGiven) {reply : Verdict} {state : State} {P D I O : List ℕ} {r : SisaLoad}
     → _≡_ {A = LoadLeft} (record { reply = reply; state = state; P = P; D = D; I = I; O = O }) (loadLeft g)
     → r ≡ sisaLoad reply state
     → _≡_ {A = SisaLoadLeft} (record { reply = r; P = P; D = D; I = I; O = O }) (sisaLoadLeft g)
 unfolding sisaLoadLeft
 load-meets g e h = rw h (ap loadInNumbers e)
 
-pub set-meets : (g : SetGiven) {reply : SetReply} {I : List ℕ} {r : ℕ}
+pub set-meets : (g : SetGiven) {reply : Verdict} {I : List ℕ} {r : ℕ}
     → _≡_ {A = SetLeft} (record { reply = reply; I = I }) (setLeft g)
-    → r ≡ setNumber reply
+    → r ≡ verdictNumber reply
     → _≡_ {A = SisaSetLeft} (record { refusal = r; I = I }) (sisaSetLeft g)
 unfolding sisaSetLeft
 set-meets g e h = rw h (ap setInNumbers e)
 
-pub run-meets : (g : Given) {reply : RunReply} {state : State} {D I O log : List ℕ} {r : SisaRun}
-    → RunMeets g (record { reply = reply; state = state; D = D; I = I; O = O; log = log })
+pub run-meets : (v : Stepper) (g : Given) {reply : RunReply} {state : State} {P D I O log : List ℕ} {r : SisaRun}
+    → RunMeets v g (left reply state P D I O log)
     → r ≡ sisaRun reply state
-    → SisaRunMeets g (record { reply = r; D = D; I = I; O = O; log = log })
+    → SisaRunMeets v g (sisaLeft r P D I O log)
 unfolding sisaRunLeft
-run-meets g e h = rw h (ap runInNumbers e)
+run-meets v g e h = rw h (ap runInNumbers e)
 
 pub write-refused : (kind a b d : ℕ) (n : ℤ) {k : ℕ} → 24 < kind → k ≡ 7 → record { refusal = k; word = 0 } ≡ sisaWrite kind a b d n
 unfolding sisaWrite

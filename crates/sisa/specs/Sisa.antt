@@ -8,14 +8,17 @@ use mathlib.Core.Path.{_≡_}
 use lib.Dec.{eqb, leb}
 use lib.IntN.{ℤ, pos}
 use lib.ListN.{length, getD, take, drop}
+use Rattle.refusal.specs.Refusals.{Verdict, accepted, refused}
 use Rattle.word.specs.Word.{pick}
 use Rattle.isa.specs.declared.Kind.the-variants.{And}
 use Rattle.isa.specs.Sheet.{kinds, kindNumber}
 use Rattle.isa.specs.Instructions.{Read, instruction, unassigned, Written, word, refused as write-refused, writeOf}
 use Rattle.machine.specs.declared.State.{State}
-use Rattle.machine.specs.Calls.{SetReply, done, refused as set-refused, SetGiven, SetLeft, setLeft}
-use Rattle.image.specs.Image.{LoadReply, accepted, refused as load-refused, LoadGiven, LoadLeft, loadLeft}
-use Rattle.engine.specs.Runs.{Given, RunReply, stopped, refused as run-refused, Left, runLeft}
+use Rattle.machine.specs.Run.{Stepper}
+use Rattle.machine.specs.Calls.{SetGiven, SetLeft, setLeft}
+use Rattle.image.specs.Image.{LoadGiven, LoadLeft, loadLeft}
+use Rattle.control.specs.Control.{byTable}
+use Rattle.engine.specs.Runs.{Given, given, RunReply, stopped, refused as run-refused, Left, runLeft}
 use Rattle.sisa.specs.declared.SisaLoad.{SisaLoad}
 use Rattle.sisa.specs.declared.SisaRun.{SisaRun}
 use Rattle.sisa.specs.declared.SisaAnswer.{SisaAnswer}
@@ -23,11 +26,15 @@ use Rattle.sisa.specs.declared.SisaInstruction.{SisaInstruction}
 use Rattle.sisa.specs.declared.SisaWord.{SisaWord}
 use Rattle.sisa.specs.declared.SisaWindow.{SisaWindow}
 
+-- 0, or the refusal's number
+abbrev pub verdictNumber : Verdict → ℕ
+verdictNumber accepted = 0
+verdictNumber (refused k) = k
+
 -- ---- sisa_load
 
-abbrev pub sisaLoad : LoadReply → State → SisaLoad
-sisaLoad accepted s = record { state = s; refusal = 0 }
-sisaLoad (load-refused k) s = record { state = s; refusal = k }
+abbrev pub sisaLoad : Verdict → State → SisaLoad
+sisaLoad reply s = record { state = s; refusal = verdictNumber reply }
 
 pub record SisaLoadLeft : Type 0 where
   pub reply : SisaLoad
@@ -44,16 +51,12 @@ sisaLoadLeft g = loadInNumbers (loadLeft g)
 
 -- ---- sisa_set_input
 
-abbrev pub setNumber : SetReply → ℕ
-setNumber done = 0
-setNumber (set-refused k) = k
-
 pub record SisaSetLeft : Type 0 where
   pub refusal : ℕ
   pub I : List ℕ
 
 abbrev pub setInNumbers : SetLeft → SisaSetLeft
-setInNumbers l = record { refusal = setNumber (l .reply); I = l .I }
+setInNumbers l = record { refusal = verdictNumber (l .reply); I = l .I }
 
 unfoldable pub sisaSetLeft : SetGiven → SisaSetLeft
 sisaSetLeft g = setInNumbers (setLeft g)
@@ -67,24 +70,46 @@ sisaRun (run-refused k) state = record { state = state; refusal = k; stop = 0; s
 
 pub record SisaRunLeft : Type 0 where
   pub reply : SisaRun
+  pub P : List ℕ
   pub D : List ℕ
   pub I : List ℕ
   pub O : List ℕ
   pub log : List ℕ
 
+abbrev pub sisaLeft : SisaRun → List ℕ → List ℕ → List ℕ → List ℕ → List ℕ → SisaRunLeft
+sisaLeft reply P D I O log = record { reply = reply; P = P; D = D; I = I; O = O; log = log }
+
 abbrev pub runInNumbers : Left → SisaRunLeft
-runInNumbers l = record { reply = sisaRun (l .reply) (l .state); D = l .D; I = l .I; O = l .O; log = l .log }
+runInNumbers l = sisaLeft (sisaRun (l .reply) (l .state)) (l .P) (l .D) (l .I) (l .O) (l .log)
 
-unfoldable pub sisaRunLeft : Given → SisaRunLeft
-sisaRunLeft g = runInNumbers (runLeft g)
+unfoldable pub sisaRunLeft : Stepper → Given → SisaRunLeft
+sisaRunLeft v g = runInNumbers (runLeft v g)
 
--- All three contracts cite this.
-abbrev pub SisaRunMeets : Given → SisaRunLeft → Type 0
-SisaRunMeets g l = l ≡ sisaRunLeft g
+-- the contract of both runs, where v is what the run goes by
+abbrev pub SisaRunMeets : Stepper → Given → SisaRunLeft → Type 0
+SisaRunMeets v g l = l ≡ sisaRunLeft v g
 
--- A host step is a run with budget 1. The state that the host holds afterwards and the answer make up the run's reply.
+-- what the host holds and lends to a host step, before or after it
+pub record HostLent : Type 0 where
+  pub state : State
+  pub P : List ℕ
+  pub D : List ℕ
+  pub I : List ℕ
+  pub O : List ℕ
+  pub log : List ℕ
+
+abbrev pub hostLent : State → List ℕ → List ℕ → List ℕ → List ℕ → List ℕ → HostLent
+hostLent state P D I O log = record { state = state; P = P; D = D; I = I; O = O; log = log }
+
+-- the state that the host holds afterwards and the answer make up a run's reply
 abbrev pub withState : State → SisaAnswer → SisaRun
 withState s a = record { state = s; refusal = a .refusal; stop = a .stop; steps = a .steps; entries = a .entries }
+
+-- A host step is a run by the table with budget 1 over registers that the host holds: its contract.
+abbrev pub HostStepMeets : HostLent → SisaAnswer → HostLent → Type 0
+HostStepMeets h answer after =
+    SisaRunMeets byTable (given (h .state) (h .P) (h .D) (h .I) (h .O) 1 (h .log))
+    (sisaLeft (withState (after .state) answer) (after .P) (after .D) (after .I) (after .O) (after .log))
 
 -- ---- sisa_read
 

@@ -3,9 +3,12 @@
 ghost use mathlib.Core.Path.{_≡_};
 ghost use mathlib.Core.Bool.{not};
 ghost use lib.Dec.{eqb};
+ghost use Rattle.machine.specs.Run.{byRules};
 ghost use Rattle.machine.specs.Calls.{windowOf};
+ghost use Rattle.control.specs.Control.{byTable};
+ghost use Rattle.engine.specs.Runs.{given};
 ghost use Rattle.isa.specs.Instructions.{readOf};
-ghost use Rattle.sisa.specs.Sisa.{SisaLoadLeft, sisaLoadLeft, SisaSetLeft, sisaSetLeft, SisaRunMeets, sisaInstruction, sisaWrite, chosen, sisaWindow, bytesOf};
+ghost use Rattle.sisa.specs.Sisa.{SisaLoadLeft, sisaLoadLeft, SisaSetLeft, sisaSetLeft, sisaLeft, SisaRunMeets, sisaInstruction, sisaWrite, chosen, sisaWindow, bytesOf};
 use isa::Instruction;
 use machine::Port;
 use machine::State;
@@ -92,7 +95,7 @@ pub extern "C" fn sisa_run_by_rules(
     budget: u32,
     log: &mut [u64],
 ) -> SisaRun
-    ensures { λ r. ⌜ SisaRunMeets (record { state = state; P = now (program .entry); D = now (memory .entry); I = now (inputs .entry); O = now (outputs .entry); budget = budget; log = now (log .entry) }) (record { reply = r; D = now (memory .exit); I = now (inputs .exit); O = now (outputs .exit); log = now (log .exit) }) ⌝ }
+    ensures { λ r. ⌜ SisaRunMeets byRules (given state (now (program .entry)) (now (memory .entry)) (now (inputs .entry)) (now (outputs .entry)) budget (now (log .entry))) (sisaLeft r (now (program .exit)) (now (memory .exit)) (now (inputs .exit)) (now (outputs .exit)) (now (log .exit))) ⌝ }
 {
     let ran = engine::run_by_rules(state, program, memory, inputs, outputs, budget, log);
     replies::run(ran)
@@ -108,7 +111,7 @@ pub extern "C" fn sisa_run_by_table(
     budget: u32,
     log: &mut [u64],
 ) -> SisaRun
-    ensures { λ r. ⌜ SisaRunMeets (record { state = state; P = now (program .entry); D = now (memory .entry); I = now (inputs .entry); O = now (outputs .entry); budget = budget; log = now (log .entry) }) (record { reply = r; D = now (memory .exit); I = now (inputs .exit); O = now (outputs .exit); log = now (log .exit) }) ⌝ }
+    ensures { λ r. ⌜ SisaRunMeets byTable (given state (now (program .entry)) (now (memory .entry)) (now (inputs .entry)) (now (outputs .entry)) budget (now (log .entry))) (sisaLeft r (now (program .exit)) (now (memory .exit)) (now (inputs .exit)) (now (outputs .exit)) (now (log .exit))) ⌝ }
 {
     let ran = engine::run_by_table(state, program, memory, inputs, outputs, budget, log);
     replies::run(ran)

@@ -4,7 +4,7 @@ ghost use Rattle.image.specs.Image.{shownLoading};
 ghost use Rattle.machine.specs.Calls.{shownSetting};
 ghost use Rattle.engine.specs.Runs.{shownAnswer};
 ghost use Rattle.isa.specs.Instructions.{shownReading, shownWriting};
-ghost use Rattle.sisa.specs.Sisa.{sisaLoad, setNumber, sisaRun, sisaInstruction, sisaWord};
+ghost use Rattle.sisa.specs.Sisa.{sisaLoad, verdictNumber, sisaRun, sisaInstruction, sisaWord};
 use crate::SisaInstruction;
 use crate::SisaLoad;
 use crate::SisaRun;
@@ -32,7 +32,7 @@ pub fn load(loaded: Loaded) -> SisaLoad
 }
 
 pub fn set(setting: Setting) -> u8
-    ensures { λ r. ⌜ r ≡ setNumber (shownSetting setting) ⌝ }
+    ensures { λ r. ⌜ r ≡ verdictNumber (shownSetting setting) ⌝ }
 {
     match setting {
         Setting::Done => 0,

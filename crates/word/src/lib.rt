@@ -1,6 +1,6 @@
 // Arithmetic on 16-bit words: what both engines and the instruction reader share.
 ghost use mathlib.Core.Path.{_≡_};
-ghost use Prim.Native.Nat.{_<_};
+ghost use Prim.Native.Nat.{_*_, _<_};
 ghost use lib.Signed.{ltZ, leZ};
 ghost use Rattle.word.specs.Fields.{N6, N8};
 ghost use Rattle.word.specs.Word.{flag, add, subtract, clear0, signed, SE, shifted, amount, sha, shl, operation, comparison};
@@ -37,6 +37,14 @@ pub fn extend8(w: u16) -> u16
 {
     let n = w % 256;
     n + n / 128 * 65280
+}
+
+// PC+2+2·SE(N8): where the branch w at pc goes.
+pub fn branch_target(pc: u16, w: u16) -> u16
+    ensures { λ r. ⌜ r ≡ add (add pc 2) (SE 8 (N8 w) * 2) ⌝ }
+{
+    let offset = extend8(w) as u32;
+    (((pc as u32) + 2 + 2 * offset) % 65536) as u16
 }
 
 // x shifted by the low 5 bits t of y: left by t below 16, else right by 32 - t, where 16 bits `fill` stand above x.

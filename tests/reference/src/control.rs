@@ -1,7 +1,9 @@
-//! The step by the control table.
+//! The step by a control table, the paper's or any other.
 //!
 //! "Except by f in units 0 and 1, the table engine learns only from this word
-//! what to do."
+//! what to do." A value that a field doesn't list "stands for the number 0,
+//! bit 15 says nothing, and what a step reads it reads before it stores"
+//! (docs/CONFORMANCE.md).
 
 use crate::machine::{
     branch_target, comparison, data_word, e, f, log_entry, opcode, operation, store_data_word,
@@ -10,7 +12,10 @@ use crate::machine::{
 use crate::number::{bit_0_cleared, bits, modulo16, sign_extend, unsigned};
 
 /// "32 words, at opcode times 2 plus e."
-pub const TABLE: [u16; 32] = [
+pub type Table = [u16; 32];
+
+/// The paper's table.
+pub const TABLE: Table = [
     0x4001, 0x4001, // 0
     0x4021, 0x4021, // 1
     0x4142, 0x4142, // 2
@@ -26,8 +31,8 @@ pub const TABLE: [u16; 32] = [
 ];
 
 /// The table's own word for an instruction word.
-pub fn control_word(w: u16) -> u16 {
-    TABLE[(opcode(w) * 2 + e(w)) as usize]
+pub fn control_word(table: &Table, w: u16) -> u16 {
+    table[(opcode(w) * 2 + e(w)) as usize]
 }
 
 /// "Bits 7..5 unit"
@@ -45,8 +50,7 @@ pub fn writes_port(c: u16) -> bool {
     bits(c, 11, 10) == 3
 }
 
-/// "Bits 9..8 second operand: 0 Rb, 1 SE(N6), 2 SE(N8)." 3 is in none of the
-/// 32 words; here it is 0.
+/// "Bits 9..8 second operand: 0 Rb, 1 SE(N6), 2 SE(N8)."
 fn second_operand(c: u16, w: u16, rb: u16) -> u16 {
     match bits(c, 9, 8) {
         0 => rb,
@@ -57,8 +61,7 @@ fn second_operand(c: u16, w: u16, rb: u16) -> u16 {
 }
 
 /// "unit: 0 opcode 0's operations by f, 1 comparisons by f, 2 sum, 3 second
-/// operand, 4 low byte of the first under low byte of the second." 5 to 7 are
-/// in none of the 32 words; here they give 0.
+/// operand, 4 low byte of the first under low byte of the second."
 fn unit_result(c: u16, w: u16, first: u16, second: u16) -> u16 {
     match unit(c) {
         0 => operation(f(w), first, second),
@@ -96,8 +99,8 @@ impl Read {
 }
 
 /// "Bits 4..2 result: 0 unit, 1 word read, 2 SE of the byte read, 3 PC+2,
-/// 4 input." 5 to 7 are in none of the 32 words; here they give 0.
-/// "The unit's result is the data address, with bit 0 cleared for a word".
+/// 4 input." "The unit's result is the data address, with bit 0 cleared for a
+/// word".
 fn result(c: u16, x: &Read, places: &Places) -> u16 {
     match bits(c, 4, 2) {
         0 => x.unit,
@@ -143,7 +146,7 @@ pub fn step(c: u16, w: u16, state: State, places: &mut Places) -> Option<Stepped
     if !assigned(c, w) {
         return None;
     }
-    // "Registers are read before any is written."
+    // "Registers are read before any is written." So is memory.
     let x = Read::of(c, w, &state);
     let result = result(c, &x, places);
     let entry = store(c, &x, state.n, places);

@@ -218,3 +218,10 @@ pub fn write(x: Instruction) -> Result<u16, u8> {
     };
     Ok((row.opcode * 4_096 + rest) as u16)
 }
+
+/// The same with the kind by its number: "a kind over 24 is refused with 7"
+/// (docs/CONFORMANCE.md, and so the header).
+pub fn write_numbered(kind: u8, a: i32, b: i32, d: i32, n: i32) -> Result<u16, u8> {
+    let kind = Kind::from_number(kind).ok_or(7)?;
+    write(Instruction { kind, a, b, d, n })
+}

@@ -31,7 +31,7 @@ fn outcome(file: &[u8]) -> Result<Vec<String>, u8> {
     let mut log = [0; 64];
     let state = load(file, &mut p, &mut d, &mut i, &mut o)?;
     // "runs the table engine with inputs zero, budget 1,000 and a 64-place log"
-    let table = Engine::Table;
+    let table = Engine::PAPER_TABLE;
     match run(table, state, &p, &mut d, &i, &mut o, 1_000, &mut log) {
         Reply::Refused { number, .. } => Err(number),
         Reply::Done {

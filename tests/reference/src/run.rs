@@ -1,30 +1,33 @@
-//! A run, by the rules or by the control table, and the host step.
+//! A run, by the rules or by a control table, and the host step.
 
-use crate::control;
+use crate::control::{self, control_word, Table};
 use crate::machine::{self, word, Places, State, Stepped};
 
 /// What decides a step: "one engine from the rules, one from the control
 /// table".
 #[derive(Clone, Copy, Debug, PartialEq, Eq)]
-pub enum Engine {
+pub enum Engine<'a> {
     Rules,
-    Table,
+    /// By these 32 words.
+    Table(&'a Table),
 }
 
-impl Engine {
+impl Engine<'_> {
+    pub const PAPER_TABLE: Engine<'static> = Engine::Table(&control::TABLE);
+
     /// Whether a step is possible on the word.
     fn assigned(self, w: u16) -> bool {
         match self {
             Engine::Rules => machine::assigned(w),
-            Engine::Table => control::assigned(control::control_word(w), w),
+            Engine::Table(table) => control::assigned(control_word(table, w), w),
         }
     }
 
-    /// Whether the word is OUT.
-    fn is_out(self, w: u16) -> bool {
+    /// Whether the word is OUT, or its control word's store is the port.
+    fn writes_port(self, w: u16) -> bool {
         match self {
             Engine::Rules => machine::is_out(w),
-            Engine::Table => control::writes_port(control::control_word(w)),
+            Engine::Table(table) => control::writes_port(control_word(table, w)),
         }
     }
 
@@ -32,9 +35,9 @@ impl Engine {
     pub fn step(self, state: State, places: &mut Places) -> Option<Stepped> {
         match self {
             Engine::Rules => machine::step(state, places),
-            Engine::Table => {
+            Engine::Table(table) => {
                 let w = word(places.p, state.pc);
-                control::step(control::control_word(w), w, state, places)
+                control::step(control_word(table, w), w, state, places)
             }
         }
     }
@@ -129,7 +132,7 @@ fn admitted(
             break 1;
         }
         // "word is OUT and the log has no free place, stop 2"
-        if engine.is_out(w) && entries as usize >= log.len() {
+        if engine.writes_port(w) && entries as usize >= log.len() {
             break 2;
         }
         let Some(stepped) = engine.step(state, places) else {
@@ -160,7 +163,7 @@ pub fn host_step(
     o: &mut [u16],
     log: &mut [u64],
 ) -> Reply {
-    let reply = run(Engine::Table, *held, p, d, i, o, 1, log);
+    let reply = run(Engine::PAPER_TABLE, *held, p, d, i, o, 1, log);
     *held = reply.state();
     reply
 }

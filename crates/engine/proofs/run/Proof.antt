@@ -10,16 +10,16 @@ use Rattle.engine.proofs.run.Tie as tie
 run-accepted-requires : tie.Need-run-accepted-requires
 run-accepted-requires c κs =
     let k = c .before .before .before .before in
-    accepted-fits _ _ _ _ _ _ (sym (ap shownVerdict (k .enum-told .given .1)) ∙ k .before .before .checked .ensures)
+    accepted-fits _ (sym (ap shownVerdict (k .enum-told .given .1)) ∙ k .before .before .checked .ensures)
 
 returns : tie.Need-returns
 returns c =
     let r = c .before .before .before .before .before .before .before .before in
     let k = r .before .before .before .before .before in
-    run-accepted _ (sym (ap shownVerdict (k .enum-told .given .1)) ∙ k .before .before .checked .ensures) (r .run-accepted .ensures)
+    run-accepted _ _ (sym (ap shownVerdict (k .enum-told .given .1)) ∙ k .before .before .checked .ensures) (r .run-accepted .ensures)
 
 returns-2 : tie.Need-returns-2
-returns-2 c = run-refused _ (sym (ap shownVerdict (c .before .refusal .given .1)) ∙ c .before .before .before .checked .ensures)
+returns-2 c = run-refused _ _ (sym (ap shownVerdict (c .before .refusal .given .1)) ∙ c .before .before .before .checked .ensures)
 
 pub run-spec : {M : Type 1} → statement M
 run-spec =

@@ -1,26 +1,30 @@
 -- By the engine chosen.
 -- Assumes nothing.
 use borrow.Author.Needs.{needs}
-use Rattle.engine.proofs.Engines.{ready-by-table, step-by-table}
+use Rattle.engine.proofs.Loop.{by-table, by-rules}
 use Rattle.engine.proofs.step.Statement.{statement}
 use Rattle.engine.proofs.step.Tie as tie
 
-step-requires : tie.Need-step-requires
-step-requires c κs =
-    let a = c .before .before .before .before .before .before .before .before .before in
-    ready-by-table (a .args .w) (a .pre .0) (a .pre .1 .1)
-
 returns : tie.Need-returns
 returns c =
-    let r = c .before .before .before .before .before .before .before .before in
-    let a = r .before .before .before .before .before .before .before .before .before .before in
-    step-by-table (a .args .w) (a .pre .0) (a .pre .1 .0) (r .step .ensures)
+    let s = c .before .before .before .before .before .before .before .before in
+    let looked = s .before .before .before .before .before in
+    let a = looked .before .before .before .before .before .before .args in
+    by-table (a .by-table) (a .words .now) (a .w) (looked .before .if1 .taken) (looked .control-of .ensures) (s .step .ensures)
+
+returns-2 : tie.Need-returns-2
+returns-2 c =
+    let s = c .before .before .before .before .before .before .before .before in
+    let else = s .before .before .before .before .before in
+    let a = else .before .before .before .before .before .args in
+    by-rules (a .by-table) (a .words .now) (a .w) (else .if1 .left) (s .step2 .ensures)
 
 pub step-spec : {M : Type 1} → statement M
 step-spec =
     tie.close
     (tie.spec
-    step-requires
+    (λ c κs. search needs)
+    (λ c κs. search needs)
     (λ c κs. search needs)
     (λ c. search needs)
     (λ c. search needs)
@@ -31,4 +35,4 @@ step-spec =
     (λ c. search needs)
     (λ c. search needs)
     (λ c. search needs)
-    (λ c. search needs))
+    returns-2)

@@ -1,12 +1,7 @@
-//! Prints what docs/CONFORMANCE.md says.
+//! Prints what docs/CONFORMANCE.md says of `conformance`.
 
-use std::io::{self, Write};
+use reference::conformance::{lines, print};
 
-fn main() -> io::Result<()> {
-    let mut out = io::BufWriter::new(io::stdout().lock());
-    for line in reference::conformance::lines() {
-        out.write_all(line.as_bytes())?;
-        out.write_all(b"\n")?;
-    }
-    out.flush()
+fn main() -> std::io::Result<()> {
+    print(&lines())
 }

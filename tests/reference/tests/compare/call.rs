@@ -28,7 +28,8 @@ impl fmt::Debug for File {
 pub enum Call {
     Load(File),
     Set(u8, u16),
-    Run(Engine, State, u32),
+    /// The library knows the paper's table only.
+    Run(Engine<'static>, State, u32),
     HostStep(State),
     Window(u8, usize, usize),
 }
@@ -154,7 +155,7 @@ pub fn of_library(call: &Call, lent: &mut Lent) -> Answer {
         Call::Run(Engine::Rules, state, budget) => {
             Answer::Run(ffi::run_by_rules(header_state(state), budget, lent))
         }
-        Call::Run(Engine::Table, state, budget) => {
+        Call::Run(Engine::Table(_), state, budget) => {
             Answer::Run(ffi::run_by_table(header_state(state), budget, lent))
         }
         Call::HostStep(state) => {

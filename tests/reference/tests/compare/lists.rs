@@ -101,7 +101,7 @@ impl List {
                 let engine = if k % 2 == 0 {
                     Engine::Rules
                 } else {
-                    Engine::Table
+                    Engine::PAPER_TABLE
                 };
                 self.run(engine, &lengths)
             }
@@ -127,7 +127,7 @@ impl List {
         )
     }
 
-    fn run(&mut self, engine: Engine, lengths: &Lengths) -> Call {
+    fn run(&mut self, engine: Engine<'static>, lengths: &Lengths) -> Call {
         let budget = make::budget(&mut self.random);
         let state = self.handed(budget);
         let budget = match self.random.below(32) {

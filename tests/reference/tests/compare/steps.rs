@@ -36,7 +36,7 @@ fn one_step_of_every_word() {
             let state = random_state(&mut random, w);
             let call = match export {
                 0 => Call::Run(Engine::Rules, state, 1),
-                1 => Call::Run(Engine::Table, state, 1),
+                1 => Call::Run(Engine::PAPER_TABLE, state, 1),
                 _ => Call::HostStep(state),
             };
             sides.put_word(state.pc, w);

@@ -20,7 +20,7 @@ impl Tally {
             Call::Load(_) => "load",
             Call::Set(..) => "set",
             Call::Run(Engine::Rules, ..) => "rules",
-            Call::Run(Engine::Table, ..) => "table",
+            Call::Run(Engine::Table(_), ..) => "table",
             Call::HostStep(_) => "host",
             Call::Window(..) => "window",
         };

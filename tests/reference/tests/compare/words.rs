@@ -4,7 +4,7 @@ use crate::ffi;
 use crate::make::one_of;
 use crate::random::Random;
 use crate::{random_of, seed};
-use reference::instruction::{read, write, Instruction, Kind};
+use reference::instruction::{read, write_numbered, Instruction, Kind};
 
 fn read_by_reference(w: u16) -> ffi::Instruction {
     let (assigned, x) = match read(w) {
@@ -31,18 +31,8 @@ fn read_by_reference(w: u16) -> ffi::Instruction {
     }
 }
 
-/// A kind over 24 is refused with 7, as the header says.
 fn write_by_reference(kind: u8, a: u8, b: u8, d: u8, n: i16) -> ffi::Word {
-    let written = match Kind::from_number(kind) {
-        None => Err(7),
-        Some(kind) => write(Instruction {
-            kind,
-            a: a.into(),
-            b: b.into(),
-            d: d.into(),
-            n: n.into(),
-        }),
-    };
+    let written = write_numbered(kind, a.into(), b.into(), d.into(), n.into());
     ffi::Word {
         refusal: written.err().unwrap_or(0),
         word: written.unwrap_or(0),

@@ -1,6 +1,7 @@
 //! A machine with its memories and ports, for the tests.
 
 use crate::random::Random;
+use reference::control::{Table, TABLE};
 use reference::machine::{Places, State, Stepped, MEMORY, PORTS};
 use reference::run::{run, Reply};
 
@@ -15,7 +16,23 @@ pub struct Board {
     pub o: Vec<u16>,
 }
 
-pub const BOTH: [Engine; 2] = [Engine::Rules, Engine::Table];
+/// "bit 15 says nothing": another table that must do as the paper's.
+const WITH_BIT_15: Table = {
+    let mut table = TABLE;
+    let mut at = 0;
+    while at < table.len() {
+        table[at] |= 0x8000;
+        at += 1;
+    }
+    table
+};
+
+/// Engines that agree on every word.
+pub const ENGINES: [Engine; 3] = [
+    Engine::Rules,
+    Engine::PAPER_TABLE,
+    Engine::Table(&WITH_BIT_15),
+];
 
 impl Board {
     pub fn new() -> Board {
@@ -77,11 +94,13 @@ impl Board {
 
     /// One step of the engine; None if no step is possible.
     pub fn step(&mut self, engine: Engine) -> Option<Stepped> {
-        let s = self.s;
-        let mut places = Places::of(&self.p, &mut self.d, &self.i, &mut self.o).unwrap();
-        let stepped = engine.step(s, &mut places)?;
+        let stepped = engine.step(self.s, &mut self.places())?;
         self.s = stepped.state;
         Some(stepped)
+    }
+
+    pub fn places(&mut self) -> Places<'_> {
+        Places::of(&self.p, &mut self.d, &self.i, &mut self.o).unwrap()
     }
 
     /// A run of the engine; the board keeps the state it replies.
@@ -101,20 +120,18 @@ impl Board {
     }
 }
 
-/// What one word leaves, by both engines, which must agree.
+/// What one word leaves, by all engines, which must agree.
 pub fn after(pc: u16, w: u16, registers: &[(usize, u16)]) -> Board {
     after_on(&Board::at(pc, w, registers))
 }
 
-/// What one step leaves of this board, by both engines, which must agree.
+/// What one step leaves of this board, by all engines, which must agree.
 pub fn after_on(before: &Board) -> Board {
-    let mut rules = before.clone();
-    let mut table = before.clone();
-    let by_rules = rules.step(Engine::Rules).expect("a step is possible");
-    let by_table = table.step(Engine::Table).expect("a step is possible");
-    assert_eq!(by_rules, by_table);
-    assert!(rules == table);
-    rules
+    let mut boards = ENGINES.map(|_| before.clone());
+    let stepped = [0, 1, 2].map(|k| boards[k].step(ENGINES[k]).expect("a step is possible"));
+    assert!(stepped.iter().all(|x| *x == stepped[0]), "{stepped:?}");
+    assert!(boards.iter().all(|board| *board == boards[0]));
+    boards[0].clone()
 }
 
 /// A trim file: the four header numbers, then the rest.

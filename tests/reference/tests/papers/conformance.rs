@@ -1,6 +1,8 @@
-//! The list of docs/CONFORMANCE.md: its numbers by hand, and that it is lively.
+//! The plays of docs/CONFORMANCE.md: their numbers by hand, and that they are
+//! lively.
 
-use reference::conformance::{file, lines, number, Digest};
+use reference::conformance::{file, lines, number, table, table_lines, Digest};
+use reference::control::TABLE;
 
 #[test]
 fn numbers_by_hand() {
@@ -10,6 +12,7 @@ fn numbers_by_hand() {
     assert_eq!(number(0, 1), 41_733);
     assert_eq!(number(1, 0), 50_975);
     assert_eq!(number(63, 5_176), 13_576);
+    assert_eq!(number(1_127, 5_048), 52_865);
 }
 
 #[test]
@@ -48,6 +51,53 @@ fn damage_by_number_2() {
     }
 }
 
+/// Table t as the paper's with other words at some places.
+fn replaced(t: u64, words: &[(usize, u16)]) {
+    let mut expected = TABLE;
+    for &(place, word) in words {
+        expected[place] = word;
+    }
+    assert_eq!(table(t), expected, "{t}");
+}
+
+#[test]
+fn tables_by_hand() {
+    // number(1_000, 40) mod 32 and number(1_000, 41), and so on.
+    replaced(0, &[(22, 55_443)]);
+    replaced(4, &[(25, 27_614)]);
+    replaced(5, &[(1, 0x4021), (3, 0x4001)]);
+    for t in (8..128).step_by(16) {
+        replaced(t, &[(20, 0x4C00)]);
+    }
+    // Bit 14 of number(1_006, 103) was clear, of number(1_006, 100) set.
+    assert_eq!((table(6)[0], table(6)[3]), (53_689, 54_043));
+    assert_eq!((table(7)[0], table(7)[31]), (40_425, 11_549));
+}
+
+#[test]
+fn first_line_by_a_table() {
+    let c = 1_000;
+    // number(1_000, 2) damages the header alone, here not even that.
+    let file = file(c);
+    let (program, data) = file[16..].split_at(2 * (1 + number(c, 0) as usize % 200));
+    let mut digest = Digest::default();
+    (60..68).for_each(|k| digest.take(number(c, k)));
+    // PC handed is 1, n is 0.
+    digest.take(1);
+    digest.take(0);
+    for part in [program, data] {
+        (0..65_536).for_each(|at| digest.take(part.get(at).copied().unwrap_or(0).into()));
+    }
+    (400..656).for_each(|k| digest.take(number(c, k)));
+    (0..256).for_each(|_| digest.take(0));
+    for place in 1_000..1_064 {
+        digest.take(place);
+        digest.take(0);
+    }
+    let expected = format!("run control 0 0 5 0 0 0 {}", digest.value());
+    assert_eq!(table_lines()[0], expected);
+}
+
 /// How many lines begin with these words; `*` is any word.
 fn count(lines: &[String], words: &str) -> usize {
     let alike = |line: &&String| {
@@ -59,25 +109,65 @@ fn count(lines: &[String], words: &str) -> usize {
     lines.iter().filter(alike).count()
 }
 
+/// Asserts that lines begin so, with each of the endings.
+fn occur(lines: &[String], start: &str, endings: &[&str]) {
+    for ending in endings {
+        let words = format!("{start} {ending}");
+        assert!(count(lines, &words) > 0, "no {words}");
+    }
+}
+
+/// Refusals, and stop reasons of accepted runs.
+const OF_RUNS: [&str; 6] = ["1", "5", "6", "0 0", "0 1", "0 2"];
+
 #[test]
 fn every_refusal_and_stop_reason_occurs() {
     let lines = lines();
     assert_eq!(count(&lines, "load"), 64);
-    for refusal in ["0", "2", "3", "4"] {
-        assert!(count(&lines, &format!("load * {refusal}")) > 0);
+    occur(&lines, "load *", &["0", "1", "2", "3", "4"]);
+    occur(&lines, "set * *", &["0", "1"]);
+    occur(&lines, "run rules * *", &OF_RUNS);
+    occur(&lines, "run table * *", &OF_RUNS);
+    occur(&lines, "run host * *", &OF_RUNS);
+    let windows = count(&lines, "window");
+    assert!((1..windows).contains(&count(&lines, "window * * 0 0 0")));
+    for assigned in ["1", "0"] {
+        let start = format!("instruction * * {assigned} * * * * *");
+        occur(&lines, &start, &["0", "7"]);
     }
-    for refusal in ["0", "1"] {
-        assert!(count(&lines, &format!("set * * {refusal}")) > 0);
-    }
-    for engine in ["rules", "table"] {
-        for refusal in ["1", "5", "6"] {
-            assert!(count(&lines, &format!("run {engine} * * {refusal}")) > 0);
+    occur(&lines, "refused", &["2", "3", "4", "8"]);
+    occur(&lines, "run", &["0", "1", "2"]);
+}
+
+#[test]
+fn every_refusal_and_stop_reason_of_a_run_occurs_by_any_table() {
+    let lines = table_lines();
+    assert_eq!(lines.len(), 512);
+    assert_eq!(count(&lines, "run control"), 512);
+    occur(&lines, "run control * *", &OF_RUNS);
+    // Table 56 has OUT's word at IN's place. Its program: SHA, IN, LDB,
+    // unassigned. The log lent has no place, then four.
+    occur(&lines, "run control 56", &["0 0 2 1 0", "1 0 1 2 1"]);
+}
+
+/// Asserts that runs which stop with 2 have filled the log lent, the first
+/// number(c, q + 2) mod `modulus` places; c is `first` plus the number printed.
+fn log_full_at_stop_2(lines: &[String], engine: &str, first: u64, modulus: u64) {
+    for line in lines {
+        let words: Vec<&str> = line.split(' ').collect();
+        if words[..2] == ["run", engine] && words[5] == "2" {
+            let [c, i, entries] = [2, 3, 7].map(|k| words[k].parse::<u64>().unwrap());
+            let places = number(first + c, 5_002 + 16 * i) % modulus;
+            assert_eq!(entries, places, "{line}");
         }
-        for stop in ["0", "1", "2"] {
-            assert!(count(&lines, &format!("run {engine} * * 0 {stop}")) > 0);
-        }
     }
-    for refusal in ["2", "3", "4", "8"] {
-        assert!(count(&lines, &format!("refused {refusal}")) > 0);
-    }
+}
+
+#[test]
+fn logs_lent() {
+    let lines = lines();
+    log_full_at_stop_2(&lines, "rules", 0, 40);
+    log_full_at_stop_2(&lines, "table", 0, 40);
+    log_full_at_stop_2(&lines, "host", 0, 2);
+    log_full_at_stop_2(&table_lines(), "control", 1_000, 8);
 }

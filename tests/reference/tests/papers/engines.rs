@@ -1,9 +1,9 @@
 //! Both engines agree, on random machines and on random lists of calls.
 
-use crate::board::{Board, Engine, BOTH};
+use crate::board::{Board, Engine, ENGINES};
 use crate::random::Random;
-use reference::control::{self, control_word, TABLE};
-use reference::machine::{Places, State};
+use reference::control::{Table, TABLE};
+use reference::machine::State;
 use reference::run::Reply;
 use reference::set::set;
 
@@ -43,29 +43,30 @@ fn one_step_of_every_word() {
         }
         assert_eq!(
             rules.step(Engine::Rules),
-            table.step(Engine::Table),
+            table.step(Engine::PAPER_TABLE),
             "{w:04X} on {state:?}"
         );
     }
     assert!(rules == table);
 }
 
-#[test]
-fn random_runs() {
-    let mut random = Random::new(0xC010_0123);
+/// Random runs by the rules, and by the table and on the board that `other`
+/// makes of the rules' board. They must agree in all but the program.
+fn compare_runs(seed: u64, other: impl Fn(&mut Random, &Board) -> (Table, Board)) {
+    let mut random = Random::new(seed);
     let mut stops = [0; 3];
     let mut total = 0;
     for _ in 0..300 {
-        let mut rules = Board::random(&mut random);
-        let mut table = rules.clone();
+        let mut ours = Board::random(&mut random);
+        let (table, mut theirs) = other(&mut random, &ours);
         let places = random.below(40) as usize;
         let budget = random.below(2_000) as u32;
-        let (mut rules_log, mut table_log) = (vec![0xEEEE; places], vec![0xEEEE; places]);
-        let by_rules = rules.run(Engine::Rules, budget, &mut rules_log);
-        let by_table = table.run(Engine::Table, budget, &mut table_log);
+        let (mut our_log, mut their_log) = (vec![0xEEEE; places], vec![0xEEEE; places]);
+        let by_rules = ours.run(Engine::Rules, budget, &mut our_log);
+        let by_table = theirs.run(Engine::Table(&table), budget, &mut their_log);
         assert_eq!(by_rules, by_table);
-        assert_eq!(rules_log, table_log);
-        assert!(rules == table);
+        assert_eq!(our_log, their_log);
+        assert!((&ours.d, &ours.i, &ours.o) == (&theirs.d, &theirs.i, &theirs.o));
         if let Reply::Done { stop, steps, .. } = by_rules {
             stops[usize::from(stop)] += 1;
             total += steps;
@@ -76,38 +77,34 @@ fn random_runs() {
 }
 
 #[test]
-fn any_control_word_of_the_table_beside_any_instruction_word() {
-    let mut random = Random::new(0xAB1E);
-    let mut board = Board::random(&mut random);
-    for c in TABLE {
-        for _ in 0..2_000 {
-            let w = random.word();
-            for k in 0..8 {
-                board.s.r[k] = random.value();
-            }
-            let before = board.s;
-            let mut places = Places::of(&board.p, &mut board.d, &board.i, &mut board.o).unwrap();
-            let stepped = control::step(c, w, before, &mut places);
-            let assigned = c != 0 && (c != 0x4021 || ![2, 6, 7].contains(&(w & 7)));
-            assert_eq!(stepped.is_some(), assigned);
-            if let Some(stepped) = stepped {
-                assert_eq!(stepped.state.n, before.n + 1);
-                assert_eq!(stepped.entry.is_some(), c == 0x4C00);
-                assert_eq!(stepped.state.pc % 2, 0);
-            }
-        }
+fn random_runs() {
+    compare_runs(0xC010_0123, |_, board| (TABLE, board.clone()));
+}
+
+/// The opcodes 0 to 15 in any order.
+fn random_order(random: &mut Random) -> [u16; 16] {
+    let mut order: [u16; 16] = std::array::from_fn(|k| k as u16);
+    for k in 1..16 {
+        order.swap(k, random.below(k as u64 + 1) as usize);
     }
-    assert_eq!(control_word(0xA3FF), 0x4C00);
+    order
 }
 
 #[test]
-fn any_control_word_at_all_does_not_panic() {
-    let mut random = Random::new(0xAB1F);
-    let mut board = Board::random(&mut random);
-    for c in 0..=0xFFFF_u16 {
-        let mut places = Places::of(&board.p, &mut board.d, &board.i, &mut board.o).unwrap();
-        control::step(c, random.word(), board.s, &mut places);
-    }
+fn a_reordered_table_runs_reordered_words_alike() {
+    compare_runs(0x0DE2, |random, board| {
+        let order = random_order(random);
+        let mut table = [0; 32];
+        for (k, &place) in order.iter().enumerate() {
+            let place = 2 * usize::from(place);
+            table[place..place + 2].copy_from_slice(&TABLE[2 * k..2 * k + 2]);
+        }
+        let mut recoded = board.clone();
+        for high in recoded.p.iter_mut().skip(1).step_by(2) {
+            *high = 16 * order[usize::from(*high / 16)] as u8 + *high % 16;
+        }
+        (table, recoded)
+    });
 }
 
 /// One call of a list.
@@ -215,8 +212,8 @@ fn random_lists_of_calls() {
         for _ in 0..12 {
             let call = random_call(&mut random);
             let expected = plain(&mut machine, &mut l, &call);
-            let mixed = BOTH[random.below(2) as usize];
-            let engines = [Engine::Rules, Engine::Table, mixed];
+            let mixed = ENGINES[random.below(3) as usize];
+            let engines = [Engine::Rules, Engine::PAPER_TABLE, mixed];
             for (k, engine) in engines.into_iter().enumerate() {
                 assert_eq!(
                     library(&mut boards[k], &mut joined[k], engine, &call),
@@ -245,7 +242,7 @@ fn a_run_cut_in_pieces_is_the_same_run() {
         while done < steps {
             let mut part = vec![0; 600];
             let budget = (1 + random.below(50) as u32).min(steps - done);
-            match pieces.run(BOTH[random.below(2) as usize], budget, &mut part) {
+            match pieces.run(ENGINES[random.below(3) as usize], budget, &mut part) {
                 Reply::Done {
                     stop: 0,
                     steps,

@@ -12,4 +12,5 @@ mod refusals;
 mod rules;
 mod runs;
 mod slips;
+mod tables;
 mod words;

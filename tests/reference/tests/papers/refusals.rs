@@ -1,6 +1,6 @@
 //! The refusal table and its boundaries; "Nothing lent changes."
 
-use crate::board::{bytes_of, file, Board, Engine, BOTH};
+use crate::board::{bytes_of, file, Board, Engine, ENGINES};
 use crate::random::Random;
 use reference::load::load;
 use reference::machine::State;
@@ -194,7 +194,7 @@ fn refused_run(board: &Board, engine: Engine, budget: u32) -> Option<u8> {
 
 #[test]
 fn run_1_then_5_then_6() {
-    for engine in BOTH {
+    for engine in [Engine::Rules, Engine::PAPER_TABLE, Engine::Table(&[0; 32])] {
         for place in 0..4 {
             for length in lengths(if place < 2 { 65_536 } else { 256 }) {
                 for (pc, n, then) in [(0, 0, None), (1, u32::MAX, Some(5)), (2, u32::MAX, Some(6))]
@@ -219,7 +219,7 @@ fn run_1_then_5_then_6() {
 
 #[test]
 fn run_5_odd_pc() {
-    for engine in BOTH {
+    for engine in ENGINES {
         let mut board = noisy();
         for pc in [1, 3, 0x7FFF, 0xFFFF] {
             board.s.pc = pc;
@@ -235,7 +235,7 @@ fn run_5_odd_pc() {
 
 #[test]
 fn run_6_n_plus_budget() {
-    for engine in BOTH {
+    for engine in ENGINES {
         // BZ R0,-1 branches to itself for ever.
         let mut board = Board::with(&[0x80FF]);
         let rows = [

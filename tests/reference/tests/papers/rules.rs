@@ -1,6 +1,6 @@
 //! Each rule, with numbers worked by hand or in another way than the source.
 
-use crate::board::{after, after_on, Board};
+use crate::board::{after, after_on, Board, ENGINES};
 use reference::machine::{comparison, operation};
 
 /// R3 after an opcode 0 or 1 word with f, of R1 and R2.
@@ -191,8 +191,7 @@ fn ports_are_apart_from_memory_and_from_each_other() {
 
 #[test]
 fn an_entry_holds_n_before_the_step_port_and_value() {
-    use crate::board::BOTH;
-    for engine in BOTH {
+    for engine in ENGINES {
         let mut board = Board::at(0, 0xA7FE, &[(3, 0xCAFE)]);
         board.s.n = 0x8000_0001;
         let stepped = board.step(engine).unwrap();

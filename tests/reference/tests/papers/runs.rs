@@ -1,10 +1,10 @@
 //! Budgets, stop reasons and the log.
 
-use crate::board::{Board, BOTH};
+use crate::board::{Board, ENGINES};
 use reference::machine::State;
 use reference::run::{host_step, Reply};
 
-fn done(reply: Reply) -> (u8, u32, u32) {
+pub fn done(reply: Reply) -> (u8, u32, u32) {
     match reply {
         Reply::Done {
             stop,
@@ -21,13 +21,13 @@ fn three_outs() -> Board {
     Board::with(&[0x9207, 0xA301, 0xA302, 0xA303, 0xF000])
 }
 
-fn entry(n: u64, port: u64, value: u64) -> u64 {
+pub fn entry(n: u64, port: u64, value: u64) -> u64 {
     (n << 24) | (port << 16) | value
 }
 
 #[test]
 fn stop_0_comes_first() {
-    for engine in BOTH {
+    for engine in ENGINES {
         // On an unassigned word, and on an OUT with no free place.
         assert_eq!(
             done(Board::with(&[0xF000]).run(engine, 0, &mut [])),
@@ -45,7 +45,7 @@ fn stop_0_comes_first() {
 
 #[test]
 fn stop_1_on_every_unassigned_word_and_on_no_other() {
-    for engine in BOTH {
+    for engine in ENGINES {
         let mut board = Board::new();
         let mut log = [0; 1];
         for w in 0..=0xFFFF_u16 {
@@ -62,7 +62,7 @@ fn stop_1_on_every_unassigned_word_and_on_no_other() {
 
 #[test]
 fn stop_2_only_before_an_out_that_the_log_cannot_hold() {
-    for engine in BOTH {
+    for engine in ENGINES {
         for places in 0..5_usize {
             let mut board = three_outs();
             let mut log = vec![0xEEEE; places];
@@ -84,7 +84,7 @@ fn stop_2_only_before_an_out_that_the_log_cannot_hold() {
 
 #[test]
 fn each_run_fills_its_log_from_place_0() {
-    for engine in BOTH {
+    for engine in ENGINES {
         let mut board = three_outs();
         let mut log = [0xEEEE; 2];
         assert_eq!(done(board.run(engine, 2, &mut log)), (0, 2, 1));
@@ -96,7 +96,7 @@ fn each_run_fills_its_log_from_place_0() {
 
 #[test]
 fn pc_wraps_around_the_program() {
-    for engine in BOTH {
+    for engine in ENGINES {
         // ADDI R0,R0,1 everywhere: 32,768 words, so 40,000 steps go round.
         let mut board = Board::with(&vec![0x2001; 32_768]);
         assert_eq!(done(board.run(engine, 40_000, &mut [])), (0, 40_000, 0));

@@ -1,37 +1,37 @@
 -- The two bits give the place of the list. A port's store, and none, leave data memory as it was.
 -- Assumes nothing.
-use mathlib.Core.Path.{_≡_, sym}
+use mathlib.Core.Path.{_≡_}
 use Prim.Native.Nat.{_/_, _%_}
 use native.Mathlib.Omega.{arith}
 use borrow.Author.Needs.{needs}
-use Rattle.control.specs.Control.{stored}
+use Rattle.control.specs.Control.{storedData}
 use Rattle.control.proofs.Choice.{two-bits}
 use Rattle.control.proofs.fields.store_data.Statement.{statement}
 use Rattle.control.proofs.fields.store_data.Tie as tie
 
 returns : tie.Need-returns
-unfolding stored
-returns c w m ey eu eD =
+unfolding storedData
+returns c =
     let a = c .before .before .before .before .before .before .before .args .control in
     let k : a / 1024 % 4 ≡ 1 = omega (arith, two-bits a 1024) in
-    rw (k, ey, eu, eD) (c .before .before .store-word .ensures)
+    rw k (c .before .before .store-word .ensures)
 
 returns-2 : tie.Need-returns-2
-unfolding stored
-returns-2 c w m ey eu eD =
-    let a = c .before .before .before .args .control in let k : a / 1024 % 4 ≡ 0 = omega (arith, two-bits a 1024) in rw k (sym eD)
+unfolding storedData
+returns-2 c =
+    let a = c .before .before .before .args .control in let k : a / 1024 % 4 ≡ 0 = omega (arith, two-bits a 1024) in rw k
 
 returns-3 : tie.Need-returns-3
-unfolding stored
-returns-3 c w m ey eu eD =
+unfolding storedData
+returns-3 c =
     let a = c .before .before .before .before .before .before .before .args .control in
     let k : a / 1024 % 4 ≡ 2 = omega (arith, two-bits a 1024) in
-    rw (k, ey, eu, eD) (c .before .before .store-byte .ensures)
+    rw k (c .before .before .store-byte .ensures)
 
 returns-4 : tie.Need-returns-4
-unfolding stored
-returns-4 c w m ey eu eD =
-    let a = c .before .before .before .args .control in let k : a / 1024 % 4 ≡ 3 = omega (arith, two-bits a 1024) in rw k (sym eD)
+unfolding storedData
+returns-4 c =
+    let a = c .before .before .before .args .control in let k : a / 1024 % 4 ≡ 3 = omega (arith, two-bits a 1024) in rw k
 
 pub store-data-spec : {M : Type 1} → statement M
 store-data-spec =

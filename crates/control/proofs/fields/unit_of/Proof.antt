@@ -5,13 +5,11 @@ use Prim.Native.Nat.{_/_, _%_}
 use native.Mathlib.Nat.{div-one}
 use native.Mathlib.Omega.{arith}
 use borrow.Author.Needs.{needs}
-use Rattle.control.specs.Control.{unit}
 use Rattle.control.proofs.Choice.{two-bits, three-bits, past-five}
 use Rattle.control.proofs.fields.unit_of.Statement.{statement}
 use Rattle.control.proofs.fields.unit_of.Tie as tie
 
 pub unit-of-spec : {M : Type 1} → statement M
-unfolding unit
 unit-of-spec =
     tie.close
     (tie.spec
@@ -20,9 +18,9 @@ unit-of-spec =
     (λ c κs. search needs)
     (λ c. search needs)
     (λ c. search needs)
-    (λ c m ex ey. let a = c .before .before .before .before .args .control in let k : a / 32 % 8 ≡ 0 = omega (arith, two-bits a 32, three-bits a 32) in rw (k, ex, ey, div-one) (c .operate .ensures))
-    (λ c m ex ey. let a = c .before .before .before .before .args .control in let k : a / 32 % 8 ≡ 1 = omega (arith, two-bits a 32, three-bits a 32) in rw (k, ex, ey, div-one) (c .compare .ensures))
-    (λ c m ex ey. let a = c .before .before .before .before .args .control in let k : a / 32 % 8 ≡ 2 = omega (arith, two-bits a 32, three-bits a 32) in rw (k, ex, ey) (c .sum .ensures))
-    (λ c m ex ey. let a = c .before .before .before .args .control in let k : a / 32 % 8 ≡ 3 = omega (arith, two-bits a 32, three-bits a 32) in rw (k, ey))
-    (λ c m ex ey. let a = c .before .before .args .control in let k : a / 32 % 8 ≡ 4 = omega (arith, two-bits a 32, three-bits a 32) in rw (k, ex, ey))
-    (λ c m ex ey. let a = c .before .before .args .control in past-five _ _ _ _ _ (a / 32 % 8) (omega (arith, two-bits a 32, three-bits a 32))))
+    (λ c. let a = c .before .before .before .before .args .control in let k : a / 32 % 8 ≡ 0 = omega (arith, two-bits a 32, three-bits a 32) in rw (k, div-one) (c .operate .ensures))
+    (λ c. let a = c .before .before .before .before .args .control in let k : a / 32 % 8 ≡ 1 = omega (arith, two-bits a 32, three-bits a 32) in rw (k, div-one) (c .compare .ensures))
+    (λ c. let a = c .before .before .before .before .args .control in let k : a / 32 % 8 ≡ 2 = omega (arith, two-bits a 32, three-bits a 32) in rw k (c .sum .ensures))
+    (λ c. let a = c .before .before .before .args .control in let k : a / 32 % 8 ≡ 3 = omega (arith, two-bits a 32, three-bits a 32) in rw k)
+    (λ c. let a = c .before .before .args .control in let k : a / 32 % 8 ≡ 4 = omega (arith, two-bits a 32, three-bits a 32) in rw k)
+    (λ c. let a = c .before .before .args .control in past-five _ _ _ _ _ (a / 32 % 8) (omega (arith, two-bits a 32, three-bits a 32))))

@@ -10,7 +10,7 @@ use Rattle.rules.proofs.rule.branch.Tie as tie
 returns : tie.Need-returns
 returns c =
     rw (sym (c .before .before .before .before .ra .ensures) ∙ c .before .before .before .if1 .taken, c .before .before .if2 .taken)
-    (c .with-pc .ensures ∙ ap (λ p. putPC p (c .before .before .before .before .before .args .next)) (c .before .target .ensures))
+    (c .with-pc .ensures ∙ ap (λ p. putPC p (c .before .before .before .before .before .args .next)) (c .before .branch-target .ensures))
 
 returns-2 : tie.Need-returns-2
 returns-2 c = rw (sym (c .before .before .ra .ensures) ∙ c .before .if1 .taken, ne-eqb _ 0 (c .if2 .left))
@@ -21,7 +21,7 @@ returns-3 c = rw (ne-eqb _ 0 (λ h. c .before .if1 .left (c .before .before .ra 
 returns-4 : tie.Need-returns-4
 returns-4 c =
     rw (ne-eqb _ 0 (λ h. c .before .before .before .if1 .left (c .before .before .before .before .ra .ensures ∙ h)), ne-eqb _ 0 (c .before .before .if3 .left))
-    (c .with-pc2 .ensures ∙ ap (λ p. putPC p (c .before .before .before .before .before .args .next)) (c .before .target2 .ensures))
+    (c .with-pc2 .ensures ∙ ap (λ p. putPC p (c .before .before .before .before .before .args .next)) (c .before .branch-target2 .ensures))
 
 pub branch-spec : {M : Type 1} → statement M
 branch-spec =

@@ -51,7 +51,9 @@ use Rattle.machine.proofs.State as T
 use Rattle.machine.proofs.State.Laws as T′
 use Rattle.sisa.specs.declared.SisaAnswer.{SisaAnswer}
 use Rattle.sisa.specs.declared.SisaRun.{SisaRun}
-use Rattle.sisa.specs.Sisa.{SisaRunMeets}
+use Rattle.control.specs.Control.{byTable}
+use Rattle.engine.specs.Runs.{given as run-given}
+use Rattle.sisa.specs.Sisa.{sisaLeft, SisaRunMeets}
 use Rattle.sisa.proofs.SisaAnswer as E
 use Rattle.sisa.proofs.SisaAnswer.Laws as E′
 use Rattle.sisa.proofs.SisaRun as R
@@ -129,8 +131,7 @@ module _ {M : Type 1} (𝓤 : URA M) (H : Heap 𝓤) (A : Atoms 𝓤) (W : Given
   -- what the run's clause says
   abbrev Said : SisaRun → List ℕ → List ℕ → List ℕ → List ℕ → Type 0
   Said r ds is us ls =
-      SisaRunMeets (record { state = h; P = p .now; D = d .now; I = i .now; O = u .now; budget = 1; log = l .now })
-      (record { reply = r; D = ds; I = is; O = us; log = ls })
+      SisaRunMeets byTable (run-given h (p .now) (d .now) (i .now) (u .now) 1 (l .now)) (sisaLeft r (p .now) ds is us ls)
 
   -- the end of the walk
   abbrev Had : SisaRun → List ℕ → List ℕ → List ℕ → List ℕ → List (Item 𝓤)

@@ -1,0 +1,180 @@
+-- What holds of a step by any control word: it adds 1 to n, keeps an even PC even, drops no entry of L, keeps P and the lengths, and
+-- does not look at L. So it holds of a run by any table, and of the plain machine, whose steps are the table's.
+-- Assumes nothing.
+use mathlib.Core.Path.{_≡_, refl, ap, subst, _∙_}
+use mathlib.Core.Bool.{Bool, true, false}
+use mathlib.Core.List.{List, [], _∷_, _++_, append-assoc}
+use Prim.Native.Nat.{ℕ, _+_, _*_, _%_, _≤_}
+use native.Mathlib.Omega.{arith}
+use lib.Dec.{eqb}
+use lib.ListN.{length, length-append, length-set}
+use Rattle.word.specs.Fields.{bits, field, N8}
+use Rattle.word.specs.Word.{pick, add, clear0, SE}
+use Rattle.word.proofs.Tables.{looked-up}
+use Rattle.word.proofs.Tests.{clash, either}
+use Rattle.machine.specs.declared.State.{State}
+use Rattle.machine.specs.Machine.{Machine, putR, putPC, count, onState, putD, putO, putWord, putByte}
+use Rattle.machine.specs.Step.{PC, Ra, Rb, d5-3, d8-6, d11-9, fetched, Next, cannot, to}
+use Rattle.machine.specs.Run.{Stepper, byRules}
+use Rattle.machine.proofs.Runs.{Lawful}
+use Rattle.control.specs.Control.{unit, result, next, storeField, writesPort, storedData, stored, written, performed, assigned, controlStep, controlIn, byControl, table}
+use Rattle.control.proofs.Agreement.{same-stepper}
+
+-- ---- The parts
+
+-- the destination's write keeps PC and n
+written-keeps : (c w v : ℕ) (s : State) → (written c w v s .pc ≡ s .pc) × (written c w v s .n ≡ s .n)
+unfolding written
+written-keeps c w v s =
+    looked-up (λ t. (t .pc ≡ s .pc) × (t .n ≡ s .n)) (s ∷ putR (d5-3 w) v s ∷ putR (d8-6 w) v s ∷ putR (d11-9 w) v s ∷ [])
+    ((refl, refl), ((refl, refl), ((refl, refl), ((refl, refl), tt)))) (refl, refl) (field (bits 1 0) c)
+
+added : (x y : ℕ) → x % 2 ≡ 0 → add x (y * 2) % 2 ≡ 0
+added x y h = omega arith
+
+next-even : (c w x pc : ℕ) → pc % 2 ≡ 0 → next c w x pc % 2 ≡ 0
+unfolding next
+next-even c w x pc h =
+    let on = add pc 2 in
+    let target = add on (SE 8 (N8 w) * 2) in
+    let on-even : on % 2 ≡ 0 = added pc 1 h in
+    let target-even : target % 2 ≡ 0 = added on (SE 8 (N8 w)) on-even in
+    looked-up (λ p. p % 2 ≡ 0) (on ∷ pick (eqb x 0) target on ∷ pick (eqb x 0) on target ∷ clear0 x ∷ [])
+    (on-even, (either (λ p. p % 2 ≡ 0) (eqb x 0) target-even on-even, (either (λ p. p % 2 ≡ 0) (eqb x 0) on-even target-even, (omega arith, tt))))
+    refl (field (bits 13 12) c)
+
+data-length : (c y u : ℕ) (D : List ℕ) → length (storedData c y u D) ≡ length D
+unfolding storedData
+data-length c y u D =
+    looked-up (λ E. length E ≡ length D) (D ∷ putWord (clear0 u) y D ∷ putByte u y D ∷ []) (refl, (simp length-set, (simp length-set, tt))) refl (storeField c)
+
+-- what a step keeps: the program, and the lengths of the data memory and the ports
+abbrev pub kept : Machine → List ℕ × ℕ × ℕ × ℕ
+kept m = (m .P, length (m .D), length (m .I), length (m .O))
+
+-- a machine whose L has l in front
+abbrev pub shift : List ℕ → Machine → Machine
+shift l m = record { state = m .state; P = m .P; D = m .D; I = m .I; O = m .O; L = l ++ m .L }
+
+record StoreKeeps (m after : Machine) : Type 0 where
+  state : after .state ≡ m .state
+  lent : kept after ≡ kept m
+  grows : length (m .L) ≤ length (after .L)
+
+store-keeps : (c w x y u : ℕ) (m : Machine) → StoreKeeps m (stored c w x y u m)
+unfolding stored
+store-keeps c w x y u m =
+    either (StoreKeeps m) (writesPort c)
+    (record { state = refl; lent = simp length-set; grows = simp length-append (omega arith) })
+    (record { state = refl; lent = simp data-length; grows = omega arith })
+
+store-shift : (c w x y u : ℕ) (l : List ℕ) (m : Machine) → stored c w x y u (shift l m) ≡ shift l (stored c w x y u m)
+unfolding stored
+store-shift c w x y u l m = go (writesPort c)
+  where
+    go : (t : Bool) → pick t (putO (N8 w) x (shift l m)) (putD (storedData c y u (m .D)) (shift l m)) ≡ shift l (pick t (putO (N8 w) x m) (putD (storedData c y u (m .D)) m))
+    go true = simp append-assoc
+    go false = refl
+
+-- ---- The step
+
+record Keeps (m after : Machine) : Type 0 where
+  counts : after .state .n ≡ m .state .n + 1
+  even : PC m % 2 ≡ 0 → PC after % 2 ≡ 0
+  grows : length (m .L) ≤ length (after .L)
+  lent : kept after ≡ kept m
+
+step-keeps : (c w : ℕ) (m : Machine) → Keeps m (performed c w m)
+unfolding performed
+step-keeps c w m =
+    let x = Ra w m in
+    let u = unit c w x (Rb w m) in
+    let v = result c w u (PC m) (m .D) (m .I) in
+    let p = next c w x (PC m) in
+    let s = store-keeps c w x (Rb w m) u m in
+    let r = written-keeps c w v (putPC p (count (stored c w x (Rb w m) u m .state))) in
+    record {
+      counts = r .1 ∙ ap (λ (t : State). t .n + 1) (s .state);
+      even = λ h. ap (λ k. k % 2) (r .0) ∙ next-even c w x (PC m) h;
+      grows = s .grows;
+      lent = s .lent;
+    }
+
+step-shift : (c w : ℕ) (l : List ℕ) (m : Machine) → performed c w (shift l m) ≡ shift l (performed c w m)
+unfolding performed
+step-shift c w l m =
+    let x = Ra w m in
+    let u = unit c w x (Rb w m) in
+    let v = result c w u (PC m) (m .D) (m .I) in
+    ap (onState (λ s. written c w v (putPC (next c w x (PC m)) (count s)))) (store-shift c w x (Rb w m) u l m)
+
+-- ---- What a stepper may be relied on for
+
+abbrev pub shiftNext : List ℕ → Next → Next
+shiftNext l (cannot q) = cannot q
+shiftNext l (to next) = to (shift l next)
+
+pub record Local (v : Stepper) : Type 0 where
+  pub keeps : (m next : Machine) → v .steps m ≡ to next → kept next ≡ kept m
+  -- it does not look at L
+  pub steps-shift : (l : List ℕ) (m : Machine) → v .steps (shift l m) ≡ shiftNext l (v .steps m)
+  pub writes-shift : (l : List ℕ) (m : Machine) → v .writes (shift l m) ≡ v .writes m
+
+-- the step by a table's word, at a machine
+abbrev word-at : List ℕ → Machine → ℕ
+word-at words m = controlIn words (fetched m)
+
+abbrev done-at : List ℕ → Machine → Machine
+done-at words m = performed (word-at words m) (fetched m) m
+
+module _ (words : List ℕ) where
+  -- where it stepped, it did what the control word says
+  stepped : (m next : Machine) → byControl words .steps m ≡ to next → Keeps m next
+  unfolding controlStep
+  stepped m next = by-test (assigned (word-at words m) (fetched m))
+    where
+      by-test : (t : Bool) → pick t (to (done-at words m)) (cannot 1) ≡ to next → Keeps m next
+      by-test true e = let z : done-at words m ≡ next = cc in subst (Keeps m) z (step-keeps (word-at words m) (fetched m) m)
+      by-test false e = clash (cc)
+
+  pub cannot-1-control : (m : Machine) (q : ℕ) → byControl words .steps m ≡ cannot q → q ≡ 1
+  unfolding controlStep
+  cannot-1-control m q = by-test (assigned (word-at words m) (fetched m))
+    where
+      by-test : (t : Bool) → pick t (to (done-at words m)) (cannot 1) ≡ cannot q → q ≡ 1
+      by-test true e = clash (cc)
+      by-test false e = cc
+
+  pub lawful-control : Lawful (byControl words)
+  lawful-control =
+      record {
+        reasons = λ m q e z. omega (arith, cannot-1-control m q e);
+        counts = λ m next e. stepped m next e .counts;
+        even = λ m next e. stepped m next e .even;
+        grows = λ m next e. stepped m next e .grows;
+      }
+
+  local-control : Local (byControl words)
+  unfolding controlStep fetched
+  local-control =
+      record {
+        keeps = λ m next e. stepped m next e .lent;
+        steps-shift = λ l m. by-test l m (assigned (word-at words m) (fetched m));
+        writes-shift = λ l m. refl;
+      }
+    where
+      by-test : (l : List ℕ) (m : Machine) (t : Bool)
+          → pick t (to (performed (word-at words m) (fetched m) (shift l m))) (cannot 1) ≡ shiftNext l (pick t (to (done-at words m)) (cannot 1))
+      by-test l m true = ap to (step-shift (word-at words m) (fetched m) l m)
+      by-test l m false = refl
+
+-- ---- The plain machine's
+
+pub lawful-rules : Lawful byRules
+lawful-rules = subst Lawful same-stepper (lawful-control table)
+
+pub local-rules : Local byRules
+local-rules = subst Local same-stepper (local-control table)
+
+pub cannot-1 : (m : Machine) (q : ℕ) → byRules .steps m ≡ cannot q → q ≡ 1
+cannot-1 = subst (λ v. (m : Machine) (q : ℕ) → v .steps m ≡ cannot q → q ≡ 1) same-stepper (cannot-1-control table)

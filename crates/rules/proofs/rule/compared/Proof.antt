@@ -1,0 +1,23 @@
+-- `rules::rule::compared` meets its contract, by the equations of what it calls.
+-- Assumes nothing.
+use borrow.Author.Needs.{needs}
+use Rattle.word.specs.Word.{comparison}
+use Rattle.rules.proofs.Values.{written-by-f}
+use Rattle.rules.proofs.rule.compared.Statement.{statement}
+use Rattle.rules.proofs.rule.compared.Tie as tie
+
+returns : tie.Need-returns
+returns c =
+    let start = c .before .before .before .before .args in
+    written-by-f comparison (start .w) (start .state) (start .next) (c .with-register .ensures)
+    (c .before .compare .ensures) (c .before .before .before .ra .ensures) (c .before .before .rb .ensures)
+
+pub compared-spec : {M : Type 1} → statement M
+compared-spec =
+    tie.close
+    (tie.spec
+    (λ c κs. search needs)
+    (λ c κs. search needs)
+    (λ c κs. search needs)
+    (λ c κs. search needs)
+    returns)

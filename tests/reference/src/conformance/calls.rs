@@ -1,0 +1,132 @@
+//! "`conformance`: the calls of case c", and the printed runs.
+
+use super::files::{file, undamaged};
+use super::host::{By, Host};
+use super::{number, Call, Digest};
+use crate::instruction::{read, write_numbered};
+use crate::machine::{MEMORY, PORTS};
+use crate::report;
+use crate::run::Engine;
+use crate::set::set;
+use crate::window::{window, Memory};
+
+/// "Cases are 0 to 63."
+const CASES: u64 = 64;
+
+/// "sixteen calls follow"
+const CALLS: u64 = 16;
+
+/// All lines, without line ends.
+pub fn lines() -> Vec<String> {
+    let mut host = Host::at_the_start();
+    let mut lines = Vec::new();
+    for c in 0..CASES {
+        lines.extend(host.case(c));
+    }
+    lines.extend(printed());
+    lines
+}
+
+impl Host {
+    /// Case c: its load and, where that is accepted, its calls.
+    fn case(&mut self, c: u64) -> Vec<String> {
+        let memory = match number(c, 4) % 8 {
+            0 => 65_535,
+            _ => MEMORY,
+        };
+        let refusal = self.load(&file(c), memory);
+        let mut lines = vec![format!("load {c} {refusal} {}", self.digest(self.kept))];
+        if refusal == 0 {
+            lines.extend((0..CALLS).map(|i| self.call(Call { c, i })));
+        }
+        lines
+    }
+
+    fn call(&mut self, call: Call) -> String {
+        let at = format!("{} {}", call.c, call.i);
+        let rules = By::Engine(Engine::Rules);
+        let table = By::Engine(Engine::PAPER_TABLE);
+        match call.number(0) % 8 {
+            0 => format!("set {at} {}", self.set(call)),
+            1 | 2 => format!("run rules {at} {}", self.run(rules, 40, call)),
+            3 | 4 => format!("run table {at} {}", self.run(table, 40, call)),
+            // "for a host step mod 2"
+            5 => format!("run host {at} {}", self.run(By::HostStep, 2, call)),
+            6 => format!("window {at} {}", self.window(call)),
+            _ => format!("instruction {at} {}", instruction(call)),
+        }
+    }
+
+    /// "REFUSAL DIGEST"
+    fn set(&mut self, call: Call) -> String {
+        let length = match call.number(3) % 16 {
+            0 => 255,
+            _ => PORTS,
+        };
+        let port = (call.number(1) % 256) as u8;
+        let value = call.number(2) as u16;
+        let refusal = set(&mut self.inputs[..length], port, value)
+            .err()
+            .unwrap_or(0);
+        format!("{refusal} {}", self.digest(self.kept))
+    }
+
+    /// "START COUNT DIGEST"
+    fn window(&self, call: Call) -> String {
+        let chosen = match call.number(1) % 2 {
+            0 => Memory::Program,
+            _ => Memory::Data,
+        };
+        let start = call.number(2) as usize;
+        let count = match call.number(4) % 8 {
+            0 => MEMORY - start,
+            1 => MEMORY - start + 1,
+            2 => 0,
+            _ => call.number(3) as usize % 4_096,
+        };
+        let part = window(chosen, &self.program, &self.memory, start, count);
+        // "the empty part has 0 and 0"
+        let start = if part.is_empty() { 0 } else { start };
+        let mut digest = Digest::default();
+        digest.take_all(part);
+        format!("{start} {} {}", part.len(), digest.value())
+    }
+}
+
+/// "ASSIGNED KIND A B D N REFUSAL WORD"
+fn instruction(call: Call) -> String {
+    let found = read(call.number(1) as u16);
+    let (assigned, mut kind, mut a, mut b, mut d, mut n) = match found {
+        Some(x) => (1, x.kind.number(), x.a, x.b, x.d, x.n),
+        None => (0, 0, 0, 0, 0, 0),
+    };
+    // "N modulo 65,536"
+    let shown = format!("{assigned} {kind} {a} {b} {d} {}", n.rem_euclid(65_536));
+    match (found, call.number(2) % 8) {
+        (None, _) => kind = (call.number(3) % 32) as u8,
+        (_, 0) => a += 8,
+        (_, 1) => b += 1,
+        (_, 2) => d += 1,
+        (_, 3) => n += 64,
+        _ => {}
+    }
+    let written = write_numbered(kind, a, b, d, n);
+    format!(
+        "{shown} {} {}",
+        written.err().unwrap_or(0),
+        written.unwrap_or(0)
+    )
+}
+
+/// "Printed runs"
+fn printed() -> Vec<String> {
+    let mut files: Vec<Vec<u8>> = (0..CASES).map(file).collect();
+    // "three more files"
+    files.push(Vec::new());
+    for length in [65_536, 65_537] {
+        let mut file = undamaged(4);
+        file.resize(length, 0);
+        files.push(file);
+    }
+    files.iter().flat_map(|file| report::lines(file)).collect()
+}

@@ -1,0 +1,68 @@
+//! "`conformance_tables`: runs by any table"
+
+use super::files::undamaged;
+use super::host::{By, Host};
+use super::{number, Call};
+use crate::control::{Table, TABLE};
+use crate::machine::{MEMORY, PORTS};
+use crate::run::Engine;
+
+/// "Tables are 0 to 127"
+const TABLES: u64 = 128;
+
+/// "Four runs by the table follow"
+const RUNS: u64 = 4;
+
+/// "c is 1,000 + t"
+fn case_of(t: u64) -> u64 {
+    1_000 + t
+}
+
+/// "The table's 32 words"
+pub fn table(t: u64) -> Table {
+    let c = case_of(t);
+    let at = |k: u64, places: u64| (number(c, k) % places) as usize;
+    let mut table = TABLE;
+    match t % 4 {
+        // "Where t mod 16 is 8 it is otherwise"
+        _ if t % 16 == 8 => table[20] = TABLE[21],
+        0 => table[at(40, 32)] = number(c, 41) as u16,
+        1 => table.swap(at(40, 22), at(41, 22)),
+        // "with bit 14 set"
+        2 => table = numbers(c, 100).map(|word: u16| word | 0x4000),
+        _ => table = numbers(c, 100),
+    }
+    table
+}
+
+/// The numbers of case c from number k on.
+fn numbers<const COUNT: usize>(c: u64, k: u64) -> [u16; COUNT] {
+    std::array::from_fn(|j| number(c, k + j as u64) as u16)
+}
+
+/// All lines, without line ends.
+pub fn lines() -> Vec<String> {
+    let mut host = Host::at_the_start();
+    let mut lines = Vec::new();
+    for t in 0..TABLES {
+        lines.extend(host.runs(t));
+    }
+    lines
+}
+
+impl Host {
+    /// The load of table t's file, which is not printed, and the runs by t.
+    fn runs(&mut self, t: u64) -> Vec<String> {
+        let c = case_of(t);
+        self.load(&undamaged(c), MEMORY);
+        // "Then input p becomes number(c, 400 + p), for every p"
+        self.inputs = numbers::<PORTS>(c, 400).to_vec();
+        // "with Rk made number(c, 60 + k)"
+        self.kept.r = numbers(c, 60);
+        let table = table(t);
+        let by = By::Engine(Engine::Table(&table));
+        (0..RUNS)
+            .map(|i| format!("run control {t} {i} {}", self.run(by, 8, Call { c, i })))
+            .collect()
+    }
+}
