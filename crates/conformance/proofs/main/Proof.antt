@@ -1,4 +1,4 @@
--- A loop's measure is the number of turns left: of the places filled, the calls of a case, the cases, the printed runs.
+-- The measure is the number of cases left.
 -- Assumes nothing.
 use Prim.Native.Nat.{_-_}
 use native.Mathlib.Omega.{arith}
@@ -9,30 +9,9 @@ pub main-spec : {M : Type 1} → statement M
 main-spec =
     tie.close
     (tie.spec
-    (λ _ _ _ _ _ _ _ _ _ _ _. Unit {0})
-    (λ _ _ _ _ _ _ _ _ _ _ i. 65536 - i)
-    (λ _ _ _ _ _ _ _ _ _ _ _ _ _ _ _ _. Unit {0})
-    (λ _ _ _ _ _ _ _ _ _ i-end _ _ _ _ _ i. i-end - i)
-    (λ _ _ _ _ _ _ _ _ _ _ _ _ _ _. Unit {0})
-    (λ _ _ _ _ _ _ _ _ _ _ _ _ _ c. 64 - c)
-    (λ _ _ _ _. Unit {0})
-    (λ _ _ _ c. 64 - c)
-    (λ c. tt)
+    (λ _ _ _ _ _ _ _ _ _ _ _ _. Unit {0})
+    (λ _ _ _ _ _ _ _ _ _ _ _ c. 64 - c)
     (λ c κs. tt)
-    (λ c. omega arith)
-    (λ c. omega arith)
-    (λ c. tt)
-    (λ c. tt)
-    (λ c κs. tt)
-    (λ c κs. tt)
-    (λ c. tt)
-    (λ c κs. tt)
-    (λ c. omega arith)
-    (λ c. omega arith)
-    (λ c. tt)
-    (λ c. omega arith)
-    (λ c. omega arith)
-    (λ c. tt)
     (λ c. tt)
     (λ c κs. tt)
     (λ c. omega arith)

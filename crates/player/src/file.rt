@@ -1,41 +1,49 @@
 // The file of a case.
 ghost use Prim.Native.Nat.{_<_};
-use crate::lent::Buffer;
+use crate::lent::File;
 use crate::numbers::number;
 
+// A damage that is none.
+pub const NO_DAMAGE: u16 = 16;
+
+// How the file of case c is damaged.
+pub fn damage(c: u16) -> u16 {
+    number(c, 2) % 16
+}
+
 // W of the page.
-fn words(c: usize) -> usize
+fn words(c: u16) -> u16
     ensures { λ r. ⌜ r < 201 ⌝ }
 {
     1 + number(c, 0) % 200
 }
 
 // C of the page.
-fn bytes(c: usize) -> usize
+fn bytes(c: u16) -> u16
     ensures { λ r. ⌜ r < 300 ⌝ }
 {
     number(c, 1) % 300
 }
 
-// 1 where the file is damaged in this way, else 0.
-fn damaged(c: usize, way: usize) -> usize
+// 1 where x is y, else 0.
+fn equal(x: u16, y: u16) -> u16
     ensures { λ r. ⌜ r < 2 ⌝ }
 {
-    if number(c, 2) % 16 == way { 1 } else { 0 }
+    if x == y { 1 } else { 0 }
 }
 
 // Number i of the header.
-fn header(c: usize, i: usize) -> usize {
+fn header(c: u16, damage: u16, i: u16) -> u16 {
     match i {
-        0 => words(c) + 32768 * damaged(c, 1),
-        1 => 16 - damaged(c, 2),
+        0 => words(c) + 32768 * equal(damage, 1),
+        1 => 16 - equal(damage, 2),
         2 => bytes(c),
-        _ => 16 + 2 * words(c) + damaged(c, 3),
+        _ => 16 + 2 * words(c) + equal(damage, 3),
     }
 }
 
 // Word j of the program. (The remainders of j change nothing.)
-fn program_word(c: usize, j: usize) -> usize {
+fn program_word(c: u16, j: u16) -> u16 {
     let x = number(c, 1000 + j % 200);
     if number(c, 2000 + j % 200) % 16 == 0 {
         x
@@ -44,19 +52,19 @@ fn program_word(c: usize, j: usize) -> usize {
     }
 }
 
-// Byte i of a number below 65,536.
-fn part(x: usize, i: usize) -> u8 {
+// Byte i of a number.
+fn part(x: u16, i: u16) -> u8 {
     match i {
         0 => (x % 256) as u8,
-        1 => (x / 256 % 256) as u8,
+        1 => (x / 256) as u8,
         _ => 0,
     }
 }
 
-// Byte `at` of the buffer.
-fn byte(c: usize, at: usize) -> u8 {
+// Byte `at` of the file, zero after its end.
+fn byte(c: u16, damage: u16, at: u16) -> u8 {
     if at < 16 {
-        return part(header(c, at / 4), at % 4);
+        return part(header(c, damage, at / 4), at % 4);
     }
     let at = at - 16;
     let program_bytes = 2 * words(c);
@@ -70,15 +78,18 @@ fn byte(c: usize, at: usize) -> u8 {
     0
 }
 
-pub fn make(c: usize, file: &mut Buffer) {
-    for at in 0..65537 {
-        file[at] = byte(c, at);
+// The file of case c with a damage, and zeros after it.
+pub fn make(c: u16, damage: u16) -> File {
+    let mut file = [0; 65537];
+    for at in 0..65536 {
+        file[at] = byte(c, damage, at as u16);
     }
+    file
 }
 
-pub fn length(c: usize) -> usize {
+pub fn length(c: u16, damage: u16) -> u16 {
     let whole = 16 + 2 * words(c) + bytes(c);
-    if damaged(c, 0) == 1 {
+    if damage == 0 {
         number(c, 3) % whole
     } else {
         whole

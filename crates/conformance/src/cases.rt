@@ -1,0 +1,84 @@
+// A case: its load and its calls.
+use crate::calls;
+use player::file;
+use player::lent::Log;
+use player::lent::Memory;
+use player::lent::Ports;
+use player::lent::all_but;
+use player::numbers::number;
+use player::print;
+use sisa::SisaLoad;
+
+// The memory lent is short where the page says so.
+fn load(
+    c: u16,
+    file: &[u8],
+    program: &mut [u8],
+    memory: &mut [u8],
+    inputs: &mut [u16],
+    outputs: &mut [u16],
+) -> SisaLoad {
+    let bytes = all_but(number(c, 4) % 8 == 0, memory.len());
+    sisa::sisa_load(file, program, &mut memory[0..bytes], inputs, outputs)
+}
+
+fn load_file(
+    c: u16,
+    program: &mut Memory,
+    memory: &mut Memory,
+    inputs: &mut Ports,
+    outputs: &mut Ports,
+) -> SisaLoad {
+    let damage = file::damage(c);
+    let length = file::length(c, damage) as usize;
+    let file = file::make(c, damage);
+    load(c, &file[0..length], program, memory, inputs, outputs)
+}
+
+fn print_load(
+    c: u16,
+    load: SisaLoad,
+    program: &Memory,
+    memory: &Memory,
+    inputs: &Ports,
+    outputs: &Ports,
+    log: &Log,
+) {
+    print::text(b"load");
+    print::field(c as u64);
+    print::field(load.refusal as u64);
+    print::left(load.state, program, memory, inputs, outputs, log);
+}
+
+// How many calls follow a load.
+fn call_count(refusal: u8) -> u16 {
+    if refusal == 0 { 16 } else { 0 }
+}
+
+fn play_calls(
+    c: u16,
+    load: SisaLoad,
+    program: &Memory,
+    memory: &mut Memory,
+    inputs: &mut Ports,
+    outputs: &mut Ports,
+    log: &mut Log,
+) {
+    let mut kept = load.state;
+    for i in 0..call_count(load.refusal) {
+        kept = calls::call(c, i, kept, program, memory, inputs, outputs, log);
+    }
+}
+
+pub fn play(
+    c: u16,
+    program: &mut Memory,
+    memory: &mut Memory,
+    inputs: &mut Ports,
+    outputs: &mut Ports,
+    log: &mut Log,
+) {
+    let load = load_file(c, program, memory, inputs, outputs);
+    print_load(c, load, program, memory, inputs, outputs, log);
+    play_calls(c, load, program, memory, inputs, outputs, log);
+}

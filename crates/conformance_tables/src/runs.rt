@@ -1,0 +1,148 @@
+// The runs by a table.
+use crate::tables;
+use crate::tables::Table;
+use engine::Answer;
+use engine::Ran;
+use machine::State;
+use player::file;
+use player::file::NO_DAMAGE;
+use player::lent::Log;
+use player::lent::Memory;
+use player::lent::Ports;
+use player::lent::least;
+use player::numbers::number;
+use player::print;
+use player::runs::Reply;
+use player::runs::Request;
+use player::runs::finish;
+use player::runs::of_call;
+use player::runs::request_of;
+
+fn reply_of(ran: Ran) -> Reply {
+    let state = ran.state;
+    let answer = ran.answer;
+    match answer {
+        Answer::Stopped(report) => Reply {
+            state,
+            refusal: 0,
+            stop: report.stop,
+            steps: report.steps,
+            entries: report.entries as u64,
+        },
+        Answer::Refused(refusal) => Reply {
+            state,
+            refusal: refusal::number(refusal),
+            stop: 0,
+            steps: 0,
+            entries: 0,
+        },
+    }
+}
+
+fn run_request(
+    words: &Table,
+    request: Request,
+    program: &[u8],
+    memory: &mut [u8],
+    inputs: &mut [u16],
+    outputs: &mut [u16],
+    log: &mut [u64],
+) -> Reply {
+    let bytes = least(request.bytes, memory.len());
+    let ports = least(request.ports, outputs.len());
+    let places = least(request.places, log.len());
+    let ran = engine::run_by_control(
+        words,
+        request.state,
+        program,
+        &mut memory[0..bytes],
+        inputs,
+        &mut outputs[0..ports],
+        request.budget,
+        &mut log[0..places],
+    );
+    reply_of(ran)
+}
+
+// Run i. Answers the state that the host keeps.
+fn run(
+    words: &Table,
+    t: u16,
+    c: u16,
+    i: u16,
+    kept: State,
+    program: &Memory,
+    memory: &mut Memory,
+    inputs: &mut Ports,
+    outputs: &mut Ports,
+    log: &mut Log,
+) -> State {
+    let places = (of_call(c, i, 2) % 8) as usize;
+    let request = request_of(c, i, kept, 4294967000, places);
+    let reply = run_request(words, request, program, memory, inputs, outputs, log);
+    print::text(b"run control");
+    finish(t, i, kept, reply, program, memory, inputs, outputs, log)
+}
+
+fn run_all(
+    t: u16,
+    c: u16,
+    start: State,
+    program: &Memory,
+    memory: &mut Memory,
+    inputs: &mut Ports,
+    outputs: &mut Ports,
+    log: &mut Log,
+) {
+    let words = tables::table_of(t, c);
+    let mut kept = start;
+    for i in 0..4 {
+        kept = run(&words, t, c, i, kept, program, memory, inputs, outputs, log);
+    }
+}
+
+fn registers(c: u16) -> [u16; 8] {
+    let mut r = [0; 8];
+    for k in 0..8 {
+        r[k] = number(c, 60 + k as u16);
+    }
+    r
+}
+
+fn set_inputs(c: u16, inputs: &mut Ports) {
+    for p in 0..State::PORTS {
+        inputs[p] = number(c, 400 + p as u16);
+    }
+}
+
+// The state that the runs start from.
+fn load(
+    c: u16,
+    program: &mut Memory,
+    memory: &mut Memory,
+    inputs: &mut Ports,
+    outputs: &mut Ports,
+) -> State {
+    let length = file::length(c, NO_DAMAGE) as usize;
+    let file = file::make(c, NO_DAMAGE);
+    let loaded = image::load(&file[0..length], program, memory, inputs, outputs);
+    set_inputs(c, inputs);
+    let mut state = loaded.state;
+    let r = registers(c);
+    state.r = r;
+    state
+}
+
+// The runs by table t. (The remainder changes nothing.)
+pub fn play(
+    t: u16,
+    program: &mut Memory,
+    memory: &mut Memory,
+    inputs: &mut Ports,
+    outputs: &mut Ports,
+    log: &mut Log,
+) {
+    let c = 1000 + t % 128;
+    let start = load(c, program, memory, inputs, outputs);
+    run_all(t, c, start, program, memory, inputs, outputs, log);
+}

@@ -1,0 +1,50 @@
+// The tables.
+use player::numbers::number;
+
+pub type Table = [u16; 32];
+
+// The paper's table with OUT's word at IN's place too.
+fn with_out_at_in() -> Table {
+    let mut words = control::control_table();
+    words[20] = words[21];
+    words
+}
+
+fn replaced(c: u16) -> Table {
+    let mut words = control::control_table();
+    let at = (number(c, 40) % 32) as usize;
+    words[at] = number(c, 41);
+    words
+}
+
+fn exchanged(c: u16) -> Table {
+    let mut words = control::control_table();
+    let a = (number(c, 40) % 22) as usize;
+    let b = (number(c, 41) % 22) as usize;
+    let word = words[a];
+    words[a] = words[b];
+    words[b] = word;
+    words
+}
+
+// Words of which each has these bits set.
+fn random(c: u16, bits: u16) -> Table {
+    let mut words = [0; 32];
+    for j in 0..32 {
+        words[j] = number(c, 100 + j as u16) | bits;
+    }
+    words
+}
+
+// Table t, for case c.
+pub fn table_of(t: u16, c: u16) -> Table {
+    if t % 16 == 8 {
+        return with_out_at_in();
+    }
+    match t % 4 {
+        0 => replaced(c),
+        1 => exchanged(c),
+        2 => random(c, 16384),
+        _ => random(c, 0),
+    }
+}

@@ -1,0 +1,22 @@
+-- The result is computed from what `mixed` answers.
+-- Assumes nothing.
+use borrow.Author.Needs.{needs}
+use Rattle.player.specs.Numbers.{numberOf}
+use Rattle.player.proofs.numbers.number.Statement.{statement}
+use Rattle.player.proofs.numbers.number.Tie as tie
+
+pub number-spec : {M : Type 1} → statement M
+unfolding numberOf
+number-spec =
+    tie.close
+    (tie.spec
+    (λ c. search needs)
+    (λ c. search needs)
+    (λ c. search needs)
+    (λ c. search needs)
+    (λ c. search needs)
+    (λ c κs. search needs)
+    (λ c. search needs)
+    (λ c. search needs)
+    (λ c. search needs)
+    (λ c. rw (c .mixed .ensures)))

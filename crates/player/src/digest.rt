@@ -1,0 +1,69 @@
+// Digests.
+use crate::lent::Log;
+use crate::lent::Memory;
+use crate::lent::Ports;
+use machine::State;
+
+pub fn taken(digest: u32, x: u32) -> u32 {
+    ((digest as u64 * 16777619 + x as u64 + 1) % 4294967296) as u32
+}
+
+fn byte(x: u8) -> u32 {
+    x as u32
+}
+
+fn word(x: u16) -> u32 {
+    x as u32
+}
+
+pub fn bytes(digest: u32, part: &[u8]) -> u32 {
+    let mut after = digest;
+    for i in 0..part.len() {
+        after = taken(after, byte(part[i]));
+    }
+    after
+}
+
+fn words(digest: u32, part: &[u16]) -> u32 {
+    let mut after = digest;
+    for i in 0..part.len() {
+        after = taken(after, word(part[i]));
+    }
+    after
+}
+
+fn place(digest: u32, x: u64) -> u32 {
+    let low = (x % 4294967296) as u32;
+    let high = (x / 4294967296) as u32;
+    taken(taken(digest, low), high)
+}
+
+fn places(digest: u32, log: &[u64]) -> u32 {
+    let mut after = digest;
+    for i in 0..log.len() {
+        after = place(after, log[i]);
+    }
+    after
+}
+
+fn of_state(state: State) -> u32 {
+    let r = state.r;
+    let after = words(0, &r);
+    taken(taken(after, word(state.pc)), state.n)
+}
+
+// The digest of what is left.
+pub fn of_all(
+    state: State,
+    program: &Memory,
+    memory: &Memory,
+    inputs: &Ports,
+    outputs: &Ports,
+    log: &Log,
+) -> u32 {
+    let after = bytes(of_state(state), program);
+    let after = bytes(after, memory);
+    let after = words(after, inputs);
+    let after = words(after, outputs);
+    places(after, log)
+}

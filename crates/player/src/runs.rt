@@ -1,0 +1,92 @@
+// The runs of both programs: what is handed and lent, what is printed, and what the host keeps.
+use crate::lent::Log;
+use crate::lent::Memory;
+use crate::lent::Ports;
+use crate::lent::all_but;
+use crate::numbers::number;
+use crate::print;
+use machine::State;
+use std::num::wrapping_add_u16;
+
+// What a run is handed, and how much of the memory, the outputs and the log it is lent.
+pub struct Request {
+    pub state: State,
+    pub budget: u32,
+    pub bytes: usize,
+    pub ports: usize,
+    pub places: usize,
+}
+
+// What a run replies.
+pub struct Reply {
+    pub state: State,
+    pub refusal: u8,
+    pub stop: u8,
+    pub steps: u32,
+    pub entries: u64,
+}
+
+// Number q + k of case c, for its call i. (The remainders change nothing.)
+pub fn of_call(c: u16, i: u16, k: u16) -> u16 {
+    number(c, 5000 + 16 * (i % 16) + k % 16)
+}
+
+// The state handed. Where its n is exchanged it becomes n.
+fn handed(kept: State, change: u16, n: u32) -> State {
+    let mut state = kept;
+    if change == 0 {
+        state.pc = wrapping_add_u16(kept.pc, 1);
+    }
+    if change == 1 {
+        state.n = n;
+    }
+    state
+}
+
+pub fn request_of(c: u16, i: u16, kept: State, n: u32, places: usize) -> Request {
+    let change = of_call(c, i, 3) % 16;
+    Request {
+        state: handed(kept, change, n),
+        budget: (of_call(c, i, 1) % 2000) as u32,
+        bytes: all_but(change == 2, State::MEMORY_BYTES),
+        ports: all_but(change == 3, State::PORTS),
+        places,
+    }
+}
+
+fn kept_after(kept: State, reply: Reply) -> State {
+    if reply.refusal != 0 {
+        return kept;
+    }
+    let mut state = reply.state;
+    if reply.stop == 1 {
+        state.pc = wrapping_add_u16(state.pc, 2);
+    }
+    state
+}
+
+fn print_reply(c: u16, i: u16, reply: Reply) {
+    print::field(c as u64);
+    print::field(i as u64);
+    print::field(reply.refusal as u64);
+    print::field(reply.stop as u64);
+    print::field(reply.steps as u64);
+    print::field(reply.entries);
+}
+
+// Prints what follows the engine's name on the line of a run. Answers the state that the host keeps.
+pub fn finish(
+    c: u16,
+    i: u16,
+    kept: State,
+    reply: Reply,
+    program: &Memory,
+    memory: &Memory,
+    inputs: &Ports,
+    outputs: &Ports,
+    log: &Log,
+) -> State {
+    print_reply(c, i, reply);
+    print::left(reply.state, program, memory, inputs, outputs, log);
+    kept_after(kept, reply)
+}
