@@ -2,15 +2,15 @@
 -- Assumes nothing.
 use mathlib.Core.Path.{_≡_, refl, sym, _∙_, ap}
 use mathlib.Core.Bool.{Bool, true, false}
-use Prim.Native.Nat.{ℕ, _*_, _/_, _%_, _<_}
+use Prim.Native.Nat.{ℕ, _/_, _%_, _<_}
 use native.Mathlib.Omega.{arith}
 use borrow.Author.Tests.{ltb-true, eq-eqb}
 use lib.Dec.{T, eqb, ltb}
-use lib.ListN.{getD}
+use lib.ListN.{length, getD}
 use Rattle.refusal.specs.declared.Refusal.the-variants.{InstructionPart}
 use Rattle.word.specs.Fields.{opcode, e-of, f-of}
 use Rattle.word.specs.Word.{pick}
-use Rattle.word.proofs.Computed.{all, all-at}
+use Rattle.word.proofs.Computed.{all}
 use Rattle.word.proofs.Tests.{clash}
 use Rattle.isa.specs.declared.Kind.{Kind}
 use Rattle.isa.specs.declared.Kind.the-variants.{And}
@@ -20,14 +20,14 @@ use Rattle.isa.specs.declared.Writing.the-variants.{Word, Refused}
 use Rattle.isa.specs.declared.rows.Entry.{Entry}
 use Rattle.isa.specs.declared.rows.Entry.the-variants.{Assigned}
 use Rattle.isa.specs.declared.layout.Form.{Form}
-use Rattle.isa.specs.declared.layout.Form.the-variants.{Three, Not, Load, Store, Jump, Branch, Output, Move, Input}
+use Rattle.isa.specs.declared.layout.Form.the-variants.{Abd, Axd, AdSigned, AbSigned, Adx, ASigned, AUnsigned, DSigned, DUnsigned}
 use Rattle.isa.specs.declared.layout.Layout.{Layout}
 use Rattle.isa.specs.declared.parts.Low.{Low}
 use Rattle.isa.specs.declared.parts.Low.the-variants.{Nothing, Bits}
-use Rattle.isa.specs.Sheet.{kinds, kindAt, sheet}
-use Rattle.isa.specs.Instructions.{instruction, readAs, readOf, word, refused, shownWriting, writeOf}
-use Rattle.isa.specs.Layouts.{formOf, layoutOf, wordSum, numberOf, bitsOf, fieldsOf, writeBits, writeIn}
-use Rattle.isa.proofs.Every.{every, same, same-is}
+use Rattle.isa.specs.Sheet.{kinds, kindAt}
+use Rattle.isa.specs.Instructions.{instruction, readAs, readOf, word, shownWriting, writeOf}
+use Rattle.isa.specs.Layouts.{formOf, entryNumber, layoutOf, wordSum, numberOf, bitsOf, fieldsOf, writeBits, writeIn}
+use Rattle.isa.proofs.Every.{every, entry-fixed, at-word, kind-same}
 use Rattle.isa.proofs.Numbers.{back}
 use Rattle.isa.proofs.Lines.{rest, restOf, base-of, Fixed, fixed, sound, parts-are, write-is}
 
@@ -44,22 +44,18 @@ unless false b = true
 -- where opcode, e and f are those of k's fixed bits, the kind is k
 test : Kind → ℕ → ℕ → ℕ → Bool
 test k op e f =
-    unless (eqb op (base-of (formOf k) / 4096)) (unless (eqb (rest (formOf k) e f) (restOf (formOf k) (base-of (formOf k)))) (same (kindAt op e f) (Assigned k)))
+    unless (eqb op (base-of (formOf k) / 4096))
+    (unless (eqb (rest (formOf k) e f) (restOf (formOf k) (base-of (formOf k)))) (eqb (entryNumber (kindAt op e f)) (entryNumber (Assigned k))))
 
-tested : T (all 25 (λ n. all 16 (λ op. all 2 (λ e. all 8 (λ f. test (getD kinds n And) op e f)))))
-unfolding all test unless same kindAt
+tested : T (all (length kinds) (λ n. all 16 (λ op. all 2 (λ e. all 8 (λ f. test (getD kinds n And) op e f)))))
+unfolding all test unless kindAt
 tested = tt
 
 kind-found : (k : Kind) (w : ℕ) → w < 65536 → Keyed (formOf k) w → kindAt (opcode w) (e-of w) (f-of w) ≡ Assigned k
 unfolding test unless
 kind-found k w h q =
-    let t = every (λ k. all 16 (λ op. all 2 (λ e. all 8 (λ f. test k op e f)))) tested k in
-    let t₀ = all-at 16 (λ op. all 2 (λ e. all 8 (λ f. test k op e f))) t (w / 4096) (omega arith) in
-    let t₁ = all-at 2 (λ e. all 8 (λ f. test k (w / 4096) e f)) t₀ (w / 256 % 2) (omega arith) in
-    let t₂ = all-at 8 (λ f. test k (w / 4096) (w / 256 % 2) f) t₁ (w % 8) (omega arith) in
-    let op : opcode w ≡ w / 4096 = omega arith in
-    let f : f-of w ≡ w % 8 = omega arith in
-    (λ j. kindAt (op j) (e-of w) (f j)) ∙ same-is _ (Assigned k) (rw (eq-eqb _ _ (q .0), eq-eqb _ _ (q .1)) at t₂)
+    let t = at-word (test k) (every (λ k. all 16 (λ op. all 2 (λ e. all 8 (λ f. test k op e f)))) tested k) w h in
+    sym (kind-same w h) ∙ entry-fixed _ (Assigned k) (rw (eq-eqb _ _ (q .0), eq-eqb _ _ (q .1)) at t)
 
 -- ---- The parts
 
@@ -67,26 +63,26 @@ record Placed (y : Form) (a b d x : ℕ) : Type 0 where
   key : Keyed y (wordSum (layoutOf y) a b d x)
   a-is : wordSum (layoutOf y) a b d x / 512 % (layoutOf y .a) ≡ a
   b-is : wordSum (layoutOf y) a b d x / 64 % (layoutOf y .b) ≡ b
-  d-is : wordSum (layoutOf y) a b d x / (layoutOf y .at) % (layoutOf y .d) ≡ d
+  d-is : wordSum (layoutOf y) a b d x / (layoutOf y .weight) % (layoutOf y .d) ≡ d
   x-is : wordSum (layoutOf y) a b d x % (layoutOf y .size) ≡ x
 
 -- (with fewer facts in reach than `placed` has, which `omega` needs)
-placed-three : (v a b d x : ℕ) → v % 4096 < 8 → a < 8 → b < 8 → d < 8 → x < 1 → Placed (Three v) a b d x
-placed-three v a b d x g p q r s = omega arith
+placed-abd : (v a b d x : ℕ) → v % 4096 < 8 → a < 8 → b < 8 → d < 8 → x < 1 → Placed (Abd v) a b d x
+placed-abd v a b d x g p q r s = omega arith
 
-placed-not : (v a b d x : ℕ) → v % 4096 < 8 → a < 8 → b < 1 → d < 8 → x < 1 → Placed (Not v) a b d x
-placed-not v a b d x g p q r s = omega arith
+placed-axd : (v a b d x : ℕ) → v % 4096 < 8 → a < 8 → b < 1 → d < 8 → x < 1 → Placed (Axd v) a b d x
+placed-axd v a b d x g p q r s = omega arith
 
 placed : (y : Form) → Fixed y → (a b d x : ℕ) → a < layoutOf y .a → b < layoutOf y .b → d < layoutOf y .d → x < layoutOf y .size → Placed y a b d x
-placed (Three v) g a b d x p q r s = placed-three v a b d x (omega (arith, g .low)) p q r s
-placed (Not v) g a b d x p q r s = placed-not v a b d x (omega (arith, g .low)) p q r s
-placed (Load v) g a b d x p q r s = omega arith
-placed (Store v) g a b d x p q r s = omega arith
-placed (Jump v) g a b d x p q r s = omega arith
-placed (Branch v) g a b d x p q r s = omega arith
-placed (Output v) g a b d x p q r s = omega arith
-placed (Move v) g a b d x p q r s = omega arith
-placed (Input v) g a b d x p q r s = omega arith
+placed (Abd v) g a b d x p q r s = placed-abd v a b d x (omega (arith, g .low)) p q r s
+placed (Axd v) g a b d x p q r s = placed-axd v a b d x (omega (arith, g .low)) p q r s
+placed (AdSigned v) g a b d x p q r s = omega arith
+placed (AbSigned v) g a b d x p q r s = omega arith
+placed (Adx v) g a b d x p q r s = omega arith
+placed (ASigned v) g a b d x p q r s = omega arith
+placed (AUnsigned v) g a b d x p q r s = omega arith
+placed (DSigned v) g a b d x p q r s = omega arith
+placed (DUnsigned v) g a b d x p q r s = omega arith
 
 -- ---- What a written instruction has
 
@@ -95,7 +91,7 @@ record Accepted (m : Layout) (i : Instruction) (w : ℕ) : Type 0 where
   b-in : i .b < m .b
   d-in : i .d < m .d
   x : ℕ
-  bits : bitsOf (m .size) (m .below) (i .n) ≡ Bits x
+  bits : bitsOf (m .size) (m .negatives) (i .n) ≡ Bits x
   is : wordSum m (i .a) (i .b) (i .d) x ≡ w
 
 pick-word : (t : Bool) (u : Writing) (w : ℕ) → pick t u (Refused InstructionPart) ≡ Word w → (t ≡ true) × (u ≡ Word w)
@@ -119,13 +115,13 @@ shown-word (Word v) w e = ap Word (cc)
 shown-word (Refused k) w e = clash (cc)
 
 -- the fields of a word that was placed are the parts
-fields-back : (y : Form) (i : Instruction) (w : ℕ) → Fixed y → (below : layoutOf y .below < layoutOf y .size) → Accepted (layoutOf y) i w
+fields-back : (y : Form) (i : Instruction) (w : ℕ) → Fixed y → layoutOf y .negatives < layoutOf y .size → Accepted (layoutOf y) i w
     → Keyed y w × (fieldsOf (layoutOf y) (i .kind) w ≡ i)
-fields-back y i w g below h =
-    let n = back (layoutOf y .size) (layoutOf y .below) (i .n) (h .x) below (h .bits) in
+fields-back y i w g few h =
+    let n = back (layoutOf y .size) (layoutOf y .negatives) (i .n) (h .x) few (h .bits) in
     let p = placed y g (i .a) (i .b) (i .d) (h .x) (h .a-in) (h .b-in) (h .d-in) (n .0) in (
       rw (h .is) at (p .key),
-      rw (← (h .is)) (λ j. record { kind = i .kind; a = p .a-is j; b = p .b-is j; d = p .d-is j; n = (ap (numberOf (layoutOf y .size) (layoutOf y .below)) (p .x-is) ∙ n .1) j }),
+      rw (← (h .is)) (λ j. record { kind = i .kind; a = p .a-is j; b = p .b-is j; d = p .d-is j; n = (ap (numberOf (layoutOf y .size) (layoutOf y .negatives)) (p .x-is) ∙ n .1) j }),
     )
 
 pub written-then-read : (i : Instruction) (w : ℕ) → writeOf i ≡ word w → (w < 65536) × (readOf w ≡ instruction i)
@@ -134,9 +130,9 @@ written-then-read i w e =
     let k = i .kind in
     let m = layoutOf (formOf k) in
     let a = accepted m i w (shown-word _ w (write-is i ∙ e)) in
-    let x = back (m .size) (m .below) (i .n) (a .x) (sound k .below-few) (a .bits) in
+    let x = back (m .size) (m .negatives) (i .n) (a .x) (sound k .negatives-few) (a .bits) in
     let small : w < 65536 = rw (a .is) at (sound k .room (i .a) (i .b) (i .d) (a .x) (a .a-in) (a .b-in) (a .d-in) (x .0)) in
-    let h = fields-back (formOf k) i w (fixed k) (sound k .below-few) a in (
+    let h = fields-back (formOf k) i w (fixed k) (sound k .negatives-few) a in (
       small,
       ap (λ (x : Entry). readAs x w) (kind-found k w small (h .0)) ∙ ap instruction (sym (parts-are k w) ∙ h .1),
     )

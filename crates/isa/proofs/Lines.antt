@@ -21,7 +21,7 @@ use Rattle.isa.specs.declared.Kind.the-variants.{And}
 use Rattle.isa.specs.declared.Instruction.{Instruction}
 use Rattle.isa.specs.declared.Writing.the-variants.{Refused}
 use Rattle.isa.specs.declared.layout.Form.{Form}
-use Rattle.isa.specs.declared.layout.Form.the-variants.{Three, Not, Load, Store, Jump, Branch, Output, Move, Input}
+use Rattle.isa.specs.declared.layout.Form.the-variants.{Abd, Axd, AdSigned, AbSigned, Adx, ASigned, AUnsigned, DSigned, DUnsigned}
 use Rattle.isa.specs.declared.layout.Layout.{Layout}
 use Rattle.isa.specs.declared.parts.Low.the-variants.{Nothing, Bits}
 use Rattle.isa.specs.Sheet.{Format, R3, R3-NOT, R2-ab, R2-ad, R2-JALR, R1-a, R1-d, Code, F, E, only, Number, signed-n, unsigned-n, Line, sheet, kinds, kindNumber}
@@ -36,15 +36,15 @@ abbrev lineIn : Format → ℕ → Code → Number → Line
 lineIn r v c z = record { format = r; opcode = v / 4096; code = c; number = z }
 
 abbrev pub lineOf : Form → Line
-lineOf (Three v) = lineIn R3 v (F (v % 8)) unsigned-n
-lineOf (Not v) = lineIn R3-NOT v (F (v % 8)) unsigned-n
-lineOf (Load v) = lineIn R2-ad v only signed-n
-lineOf (Store v) = lineIn R2-ab v only signed-n
-lineOf (Jump v) = lineIn R2-JALR v only unsigned-n
-lineOf (Branch v) = lineIn R1-a v (E (v / 256 % 2)) signed-n
-lineOf (Output v) = lineIn R1-a v (E (v / 256 % 2)) unsigned-n
-lineOf (Move v) = lineIn R1-d v (E (v / 256 % 2)) signed-n
-lineOf (Input v) = lineIn R1-d v (E (v / 256 % 2)) unsigned-n
+lineOf (Abd v) = lineIn R3 v (F (v % 8)) unsigned-n
+lineOf (Axd v) = lineIn R3-NOT v (F (v % 8)) unsigned-n
+lineOf (AdSigned v) = lineIn R2-ad v only signed-n
+lineOf (AbSigned v) = lineIn R2-ab v only signed-n
+lineOf (Adx v) = lineIn R2-JALR v only unsigned-n
+lineOf (ASigned v) = lineIn R1-a v (E (v / 256 % 2)) signed-n
+lineOf (AUnsigned v) = lineIn R1-a v (E (v / 256 % 2)) unsigned-n
+lineOf (DSigned v) = lineIn R1-d v (E (v / 256 % 2)) signed-n
+lineOf (DUnsigned v) = lineIn R1-d v (E (v / 256 % 2)) unsigned-n
 
 -- the code's table is the sheet's, line by line
 table : map sheet kinds ≡ map lineOf forms
@@ -55,7 +55,7 @@ line-is k =
     ap sheet (sym (listed k .1))
     ∙ sym (List·getD-map sheet kinds (kindNumber k) And)
     ∙ ap (λ (ls : List Line). getD ls (kindNumber k) (sheet And)) table
-    ∙ List·getD-map lineOf forms (kindNumber k) (Three 0)
+    ∙ List·getD-map lineOf forms (kindNumber k) (Abd 0)
 
 -- ---- Reading
 
@@ -70,15 +70,15 @@ signed-part : (k w : ℕ) → pick (ltb (w % 2 ^ k) (2 ^ (k - 1))) (pos (w % 2 ^
 signed-part k w = rw (div-one w) (sym (signed-is k (w % 2 ^ k) (mod-lt w (pow-pos k))))
 
 parts-in : (y : Form) (k : Kind) (w : ℕ) → fieldsOf (layoutOf y) k w ≡ partsOf (lineOf y) k w
-parts-in (Three v) k w = same-parts k refl refl refl (unsigned-part 1 w (omega arith))
-parts-in (Not v) k w = same-parts k refl (omega arith) refl (unsigned-part 1 w (omega arith))
-parts-in (Load v) k w = same-parts k refl (omega arith) refl (signed-part 6 w)
-parts-in (Store v) k w = same-parts k refl refl (omega arith) (signed-part 6 w)
-parts-in (Jump v) k w = same-parts k refl (omega arith) refl (unsigned-part 1 w (omega arith))
-parts-in (Branch v) k w = same-parts k refl (omega arith) (omega arith) (signed-part 8 w)
-parts-in (Output v) k w = same-parts k refl (omega arith) (omega arith) (unsigned-part 256 w (omega arith))
-parts-in (Move v) k w = same-parts k (omega arith) (omega arith) refl (signed-part 8 w)
-parts-in (Input v) k w = same-parts k (omega arith) (omega arith) refl (unsigned-part 256 w (omega arith))
+parts-in (Abd v) k w = same-parts k refl refl refl (unsigned-part 1 w (omega arith))
+parts-in (Axd v) k w = same-parts k refl (omega arith) refl (unsigned-part 1 w (omega arith))
+parts-in (AdSigned v) k w = same-parts k refl (omega arith) refl (signed-part 6 w)
+parts-in (AbSigned v) k w = same-parts k refl refl (omega arith) (signed-part 6 w)
+parts-in (Adx v) k w = same-parts k refl (omega arith) refl (unsigned-part 1 w (omega arith))
+parts-in (ASigned v) k w = same-parts k refl (omega arith) (omega arith) (signed-part 8 w)
+parts-in (AUnsigned v) k w = same-parts k refl (omega arith) (omega arith) (unsigned-part 256 w (omega arith))
+parts-in (DSigned v) k w = same-parts k (omega arith) (omega arith) refl (signed-part 8 w)
+parts-in (DUnsigned v) k w = same-parts k (omega arith) (omega arith) refl (unsigned-part 256 w (omega arith))
 
 pub parts-are : (k : Kind) (w : ℕ) → fieldsOf (layoutOf (formOf k)) k w ≡ partsOf (sheet k) k w
 parts-are k w = parts-in (formOf k) k w ∙ ap (λ (l : Line). partsOf l k w) (sym (line-is k))
@@ -87,15 +87,15 @@ parts-are k w = parts-in (formOf k) k w ∙ ap (λ (l : Line). partsOf l k w) (s
 
 -- what tells a form's kinds with one opcode apart, in its place: f, e or nothing
 abbrev pub rest : Form → ℕ → ℕ → ℕ
-rest (Three v) e f = f
-rest (Not v) e f = f
-rest (Load v) e f = 0
-rest (Store v) e f = 0
-rest (Jump v) e f = 0
-rest (Branch v) e f = e * 256
-rest (Output v) e f = e * 256
-rest (Move v) e f = e * 256
-rest (Input v) e f = e * 256
+rest (Abd v) e f = f
+rest (Axd v) e f = f
+rest (AdSigned v) e f = 0
+rest (AbSigned v) e f = 0
+rest (Adx v) e f = 0
+rest (ASigned v) e f = e * 256
+rest (AUnsigned v) e f = e * 256
+rest (DSigned v) e f = e * 256
+rest (DUnsigned v) e f = e * 256
 
 -- the same of a word
 abbrev pub restOf : Form → ℕ → ℕ
@@ -123,27 +123,27 @@ fixed k =
 -- the code's sum is the line's word, wherever the parts are in their ranges
 word-in : (y : Form) → Fixed y → (a b d x : ℕ) → a < layoutOf y .a → b < layoutOf y .b → d < layoutOf y .d → x < layoutOf y .size
     → wordSum (layoutOf y) a b d x ≡ wordOf (lineOf y) a b d x
-word-in (Three v) g a b d x p q r s = omega (arith, g .low)
-word-in (Not v) g a b d x p q r s = omega (arith, g .low)
-word-in (Load v) g a b d x p q r s = omega (arith, g .low)
-word-in (Store v) g a b d x p q r s = omega (arith, g .low)
-word-in (Jump v) g a b d x p q r s = omega (arith, g .low)
-word-in (Branch v) g a b d x p q r s = omega (arith, g .low)
-word-in (Output v) g a b d x p q r s = omega (arith, g .low)
-word-in (Move v) g a b d x p q r s = omega (arith, g .low)
-word-in (Input v) g a b d x p q r s = omega (arith, g .low)
+word-in (Abd v) g a b d x p q r s = omega (arith, g .low)
+word-in (Axd v) g a b d x p q r s = omega (arith, g .low)
+word-in (AdSigned v) g a b d x p q r s = omega (arith, g .low)
+word-in (AbSigned v) g a b d x p q r s = omega (arith, g .low)
+word-in (Adx v) g a b d x p q r s = omega (arith, g .low)
+word-in (ASigned v) g a b d x p q r s = omega (arith, g .low)
+word-in (AUnsigned v) g a b d x p q r s = omega (arith, g .low)
+word-in (DSigned v) g a b d x p q r s = omega (arith, g .low)
+word-in (DUnsigned v) g a b d x p q r s = omega (arith, g .low)
 
-bits-in : (y : Form) (n : ℤ) → bitsOf (layoutOf y .size) (layoutOf y .below) n
+bits-in : (y : Form) (n : ℤ) → bitsOf (layoutOf y .size) (layoutOf y .negatives) n
     ≡ pick (inRange (lineOf y .number) (lineOf y .format .n) n) (Bits (lowBits (lineOf y .format .n .count) n)) Nothing
-bits-in (Three v) n = unsigned-bits 0 n
-bits-in (Not v) n = unsigned-bits 0 n
-bits-in (Load v) n = signed-bits 6 31 n refl
-bits-in (Store v) n = signed-bits 6 31 n refl
-bits-in (Jump v) n = unsigned-bits 0 n
-bits-in (Branch v) n = signed-bits 8 127 n refl
-bits-in (Output v) n = unsigned-bits 8 n
-bits-in (Move v) n = signed-bits 8 127 n refl
-bits-in (Input v) n = unsigned-bits 8 n
+bits-in (Abd v) n = unsigned-bits 0 n
+bits-in (Axd v) n = unsigned-bits 0 n
+bits-in (AdSigned v) n = signed-bits 6 31 n refl
+bits-in (AbSigned v) n = signed-bits 6 31 n refl
+bits-in (Adx v) n = unsigned-bits 0 n
+bits-in (ASigned v) n = signed-bits 8 127 n refl
+bits-in (AUnsigned v) n = unsigned-bits 8 n
+bits-in (DSigned v) n = signed-bits 8 127 n refl
+bits-in (DUnsigned v) n = unsigned-bits 8 n
 
 -- as many values as the line's bits can hold
 record Sizes (m : Layout) (l : Line) : Type 0 where
@@ -153,15 +153,15 @@ record Sizes (m : Layout) (l : Line) : Type 0 where
   n : m .size ≡ 2 ^ l .format .n .count
 
 sizes : (y : Form) → Sizes (layoutOf y) (lineOf y)
-sizes (Three v) = record { a = refl; b = refl; d = refl; n = refl }
-sizes (Not v) = record { a = refl; b = refl; d = refl; n = refl }
-sizes (Load v) = record { a = refl; b = refl; d = refl; n = refl }
-sizes (Store v) = record { a = refl; b = refl; d = refl; n = refl }
-sizes (Jump v) = record { a = refl; b = refl; d = refl; n = refl }
-sizes (Branch v) = record { a = refl; b = refl; d = refl; n = refl }
-sizes (Output v) = record { a = refl; b = refl; d = refl; n = refl }
-sizes (Move v) = record { a = refl; b = refl; d = refl; n = refl }
-sizes (Input v) = record { a = refl; b = refl; d = refl; n = refl }
+sizes (Abd v) = record { a = refl; b = refl; d = refl; n = refl }
+sizes (Axd v) = record { a = refl; b = refl; d = refl; n = refl }
+sizes (AdSigned v) = record { a = refl; b = refl; d = refl; n = refl }
+sizes (AbSigned v) = record { a = refl; b = refl; d = refl; n = refl }
+sizes (Adx v) = record { a = refl; b = refl; d = refl; n = refl }
+sizes (ASigned v) = record { a = refl; b = refl; d = refl; n = refl }
+sizes (AUnsigned v) = record { a = refl; b = refl; d = refl; n = refl }
+sizes (DSigned v) = record { a = refl; b = refl; d = refl; n = refl }
+sizes (DUnsigned v) = record { a = refl; b = refl; d = refl; n = refl }
 
 -- the code's tests one after the other are the line's
 tested : (a b d n : Bool) (m : Layout) (i : Instruction) (x v : ℕ) → (a ≡ true → b ≡ true → d ≡ true → wordSum m (i .a) (i .b) (i .d) x ≡ v)
@@ -187,15 +187,15 @@ write-is i = write-in (formOf (i .kind)) (fixed (i .kind)) i ∙ ap (λ (l : Lin
 -- ---- What the code relies on
 
 sound-in : (y : Form) → Fixed y → Sound (layoutOf y)
-sound-in (Three v) g = omega (arith, g .low)
-sound-in (Not v) g = omega (arith, g .low)
-sound-in (Load v) g = omega (arith, g .low)
-sound-in (Store v) g = omega (arith, g .low)
-sound-in (Jump v) g = omega (arith, g .low)
-sound-in (Branch v) g = omega (arith, g .low)
-sound-in (Output v) g = omega (arith, g .low)
-sound-in (Move v) g = omega (arith, g .low)
-sound-in (Input v) g = omega (arith, g .low)
+sound-in (Abd v) g = omega (arith, g .low)
+sound-in (Axd v) g = omega (arith, g .low)
+sound-in (AdSigned v) g = omega (arith, g .low)
+sound-in (AbSigned v) g = omega (arith, g .low)
+sound-in (Adx v) g = omega (arith, g .low)
+sound-in (ASigned v) g = omega (arith, g .low)
+sound-in (AUnsigned v) g = omega (arith, g .low)
+sound-in (DSigned v) g = omega (arith, g .low)
+sound-in (DUnsigned v) g = omega (arith, g .low)
 
 pub sound : (k : Kind) → Sound (layoutOf (formOf k))
 sound k = sound-in (formOf k) (fixed k)

@@ -11,6 +11,7 @@ use lib.Dec.{ltb, leb, leb·zero, leb·suc-suc}
 use lib.IntN.{ℤ, pos, negsuc}
 use lib.Signed.{leZ, ltZ}
 use Rattle.word.specs.Word.{pick, lowBits}
+use Rattle.word.proofs.Tests.{clash}
 use Rattle.isa.specs.declared.parts.Low.{Low}
 use Rattle.isa.specs.declared.parts.Low.the-variants.{Nothing, Bits}
 use Rattle.isa.specs.Layouts.{numberOf, bitsOf}
@@ -51,17 +52,17 @@ signed-bits k g (negsuc y) h =
 
 pick-bits : (t : Bool) (x y : ℕ) → pick t (Bits x) Nothing ≡ Bits y → (t ≡ true) × (x ≡ y)
 pick-bits true x y e = (refl, cc)
-pick-bits false x y e = let z : _≡_ {A = ℕ} 0 1 = cc in absurd (omega arith)
+pick-bits false x y e = clash (cc)
 
 -- the bits of a number are below the size and stand for it
-pub back : (size below : ℕ) (n : ℤ) (x : ℕ) → below < size → bitsOf size below n ≡ Bits x → (x < size) × (numberOf size below x ≡ n)
-back size below (pos v) x h e =
-    let p = pick-bits (ltb v (size - below)) v x e in
-    let q = ltb-true v (size - below) (p .0) in
-    let s : x < size - below = omega (arith, p .1) in
+pub back : (size negatives : ℕ) (n : ℤ) (x : ℕ) → negatives < size → bitsOf size negatives n ≡ Bits x → (x < size) × (numberOf size negatives x ≡ n)
+back size negatives (pos v) x h e =
+    let p = pick-bits (ltb v (size - negatives)) v x e in
+    let q = ltb-true v (size - negatives) (p .0) in
+    let s : x < size - negatives = omega (arith, p .1) in
     (omega arith, rw (lt-ltb _ _ s) (ap pos (sym (p .1))))
-back size below (negsuc y) x h e =
-    let p = pick-bits (ltb y below) (size - suc y) x e in
-    let q = ltb-true y below (p .0) in
-    let s : size - below ≤ x = omega (arith, p .1) in
+back size negatives (negsuc y) x h e =
+    let p = pick-bits (ltb y negatives) (size - suc y) x e in
+    let q = ltb-true y negatives (p .0) in
+    let s : size - negatives ≤ x = omega (arith, p .1) in
     (omega (arith, p .1), rw (le-ltb _ _ s) (ap negsuc (omega (arith, p .1))))

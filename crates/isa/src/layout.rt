@@ -1,28 +1,31 @@
 // The sheet's lines in the numbers that reading and writing compute with.
 ghost use mathlib.Core.Path.{_≡_};
-ghost use Rattle.isa.specs.Layouts.{formOf, numbersOf, layoutOf, Sound};
+ghost use Prim.Native.Nat.{_<_};
+ghost use lib.ListN.{length, getD};
+ghost use Rattle.isa.specs.declared.layout.Form.the-variants.{Abd};
+ghost use Rattle.isa.specs.Sheet.{kinds};
+ghost use Rattle.isa.specs.Layouts.{forms, formOf, numbersOf, layoutOf, Sound};
 use crate::Kind;
 
-// A bit row of the sheet and how its n is read; the number holds the word's fixed bits: opcode, e and f.
+// A bit row of the sheet and how its n is read: a, b and d are the row's registers in their order, x its ignored bits. The
+// number holds the word's fixed bits: opcode, e and f.
 pub enum Form {
-    // a b d
-    Three(u16),
-    // a d at bits 5..3
-    Not(u16),
-    // a d n, n signed
-    Load(u16),
-    // a b n, n signed
-    Store(u16),
-    // a d
-    Jump(u16),
-    // a n, n signed
-    Branch(u16),
-    // a n
-    Output(u16),
-    // d n, n signed
-    Move(u16),
-    // d n
-    Input(u16),
+    // a b d f
+    Abd(u16),
+    // a x d f
+    Axd(u16),
+    // a d n
+    AdSigned(u16),
+    // a b n
+    AbSigned(u16),
+    // a d x
+    Adx(u16),
+    // a e n
+    ASigned(u16),
+    AUnsigned(u16),
+    // d e n
+    DSigned(u16),
+    DUnsigned(u16),
 }
 
 // A form in numbers: the fixed bits; how many values a, b and d may have (1 where the part is unused, and so 0);
@@ -32,54 +35,59 @@ pub struct Layout {
     pub a: u16,
     pub b: u16,
     pub d: u16,
-    pub at: u16,
+    pub weight: u16,
     pub size: u16,
-    pub below: u16,
+    pub negatives: u16,
 }
 
-fn form_of(kind: Kind) -> Form
-    ensures { λ r. ⌜ r ≡ formOf kind ⌝ }
+// The form of each kind, by the kind's number.
+const FORMS: [Form; 25] = [
+    Form::Abd(0x0000), // AND
+    Form::Abd(0x0001), // OR
+    Form::Abd(0x0002), // XOR
+    Form::Axd(0x0003), // NOT
+    Form::Abd(0x0004), // ADD
+    Form::Abd(0x0005), // SUB
+    Form::Abd(0x0006), // SHA
+    Form::Abd(0x0007), // SHL
+    Form::Abd(0x1000), // CMPLT
+    Form::Abd(0x1001), // CMPLE
+    Form::Abd(0x1003), // CMPEQ
+    Form::Abd(0x1004), // CMPLTU
+    Form::Abd(0x1005), // CMPLEU
+    Form::AdSigned(0x2000), // ADDI
+    Form::AdSigned(0x3000), // LD
+    Form::AbSigned(0x4000), // ST
+    Form::AdSigned(0x5000), // LDB
+    Form::AbSigned(0x6000), // STB
+    Form::Adx(0x7000), // JALR
+    Form::ASigned(0x8000), // BZ
+    Form::ASigned(0x8100), // BNZ
+    Form::DSigned(0x9000), // MOVI
+    Form::DUnsigned(0x9100), // MOVHI
+    Form::DUnsigned(0xA000), // IN
+    Form::AUnsigned(0xA100), // OUT
+];
+
+fn form_at(number: u8) -> Form
+    requires { ⌜ number < length kinds ⌝ }
+    ensures { λ r. ⌜ r ≡ getD forms number (Abd 0) ⌝ }
 {
-    match kind {
-        Kind::And => Form::Three(0x0000),
-        Kind::Or => Form::Three(0x0001),
-        Kind::Xor => Form::Three(0x0002),
-        Kind::Not => Form::Not(0x0003),
-        Kind::Add => Form::Three(0x0004),
-        Kind::Sub => Form::Three(0x0005),
-        Kind::Sha => Form::Three(0x0006),
-        Kind::Shl => Form::Three(0x0007),
-        Kind::Cmplt => Form::Three(0x1000),
-        Kind::Cmple => Form::Three(0x1001),
-        Kind::Cmpeq => Form::Three(0x1003),
-        Kind::Cmpltu => Form::Three(0x1004),
-        Kind::Cmpleu => Form::Three(0x1005),
-        Kind::Addi => Form::Load(0x2000),
-        Kind::Ld => Form::Load(0x3000),
-        Kind::St => Form::Store(0x4000),
-        Kind::Ldb => Form::Load(0x5000),
-        Kind::Stb => Form::Store(0x6000),
-        Kind::Jalr => Form::Jump(0x7000),
-        Kind::Bz => Form::Branch(0x8000),
-        Kind::Bnz => Form::Branch(0x8100),
-        Kind::Movi => Form::Move(0x9000),
-        Kind::Movhi => Form::Input(0x9100),
-        Kind::In => Form::Input(0xA000),
-        Kind::Out => Form::Output(0xA100),
-    }
+    let at = number as usize;
+    FORMS[at]
 }
 
-fn numbers(base: u16, a: u16, b: u16, d: u16, at: u16, size: u16, below: u16) -> Layout
-    ensures { λ r. ⌜ r ≡ numbersOf base a b d at size below ⌝ }
+fn numbers(base: u16, a: u16, b: u16, d: u16, weight: u16, size: u16, negatives: u16) -> Layout
+    ensures { λ r. ⌜ r ≡ numbersOf base a b d weight size negatives ⌝ }
 {
     Layout {
         base,
         a,
         b,
         d,
-        at,
+        weight,
         size,
-        below,
+        negatives,
     }
 }
 
@@ -87,15 +95,15 @@ fn in_numbers(form: Form) -> Layout
     ensures { λ r. ⌜ r ≡ layoutOf form ⌝ }
 {
     match form {
-        Form::Three(base) => numbers(base, 8, 8, 8, 8, 1, 0),
-        Form::Not(base) => numbers(base, 8, 1, 8, 8, 1, 0),
-        Form::Load(base) => numbers(base, 8, 1, 8, 64, 64, 32),
-        Form::Store(base) => numbers(base, 8, 8, 1, 64, 64, 32),
-        Form::Jump(base) => numbers(base, 8, 1, 8, 64, 1, 0),
-        Form::Branch(base) => numbers(base, 8, 1, 1, 512, 256, 128),
-        Form::Output(base) => numbers(base, 8, 1, 1, 512, 256, 0),
-        Form::Move(base) => numbers(base, 1, 1, 8, 512, 256, 128),
-        Form::Input(base) => numbers(base, 1, 1, 8, 512, 256, 0),
+        Form::Abd(base) => numbers(base, 8, 8, 8, 8, 1, 0),
+        Form::Axd(base) => numbers(base, 8, 1, 8, 8, 1, 0),
+        Form::AdSigned(base) => numbers(base, 8, 1, 8, 64, 64, 32),
+        Form::AbSigned(base) => numbers(base, 8, 8, 1, 64, 64, 32),
+        Form::Adx(base) => numbers(base, 8, 1, 8, 64, 1, 0),
+        Form::ASigned(base) => numbers(base, 8, 1, 1, 512, 256, 128),
+        Form::AUnsigned(base) => numbers(base, 8, 1, 1, 512, 256, 0),
+        Form::DSigned(base) => numbers(base, 1, 1, 8, 512, 256, 128),
+        Form::DUnsigned(base) => numbers(base, 1, 1, 8, 512, 256, 0),
     }
 }
 
@@ -103,5 +111,5 @@ pub fn layout_of(kind: Kind) -> Layout
     ensures is { λ r. ⌜ r ≡ layoutOf (formOf kind) ⌝ }
     ensures sound { λ r. ⌜ Sound r ⌝ }
 {
-    in_numbers(form_of(kind))
+    in_numbers(form_at(crate::kind_number(kind)))
 }

@@ -1,6 +1,9 @@
 // Reading and writing one instruction.
 ghost use mathlib.Core.Path.{_≡_};
-ghost use Rattle.isa.specs.Sheet.{kindNumber};
+ghost use Prim.Native.Nat.{_<_};
+ghost use lib.ListN.{length, getD};
+ghost use Rattle.isa.specs.declared.Kind.the-variants.{And};
+ghost use Rattle.isa.specs.Sheet.{kinds, kindNumber};
 ghost use Rattle.isa.specs.Instructions.{readOf, writeOf, shownReading, shownWriting};
 use refusal::Refusal;
 
@@ -87,6 +90,44 @@ pub fn kind_number(kind: Kind) -> u8
         Kind::In => 23,
         Kind::Out => 24,
     }
+}
+
+// The kinds by number.
+const KINDS: [Kind; 25] = [
+    Kind::And,
+    Kind::Or,
+    Kind::Xor,
+    Kind::Not,
+    Kind::Add,
+    Kind::Sub,
+    Kind::Sha,
+    Kind::Shl,
+    Kind::Cmplt,
+    Kind::Cmple,
+    Kind::Cmpeq,
+    Kind::Cmpltu,
+    Kind::Cmpleu,
+    Kind::Addi,
+    Kind::Ld,
+    Kind::St,
+    Kind::Ldb,
+    Kind::Stb,
+    Kind::Jalr,
+    Kind::Bz,
+    Kind::Bnz,
+    Kind::Movi,
+    Kind::Movhi,
+    Kind::In,
+    Kind::Out,
+];
+
+// The kind of a number.
+pub fn kind_at(number: u8) -> Kind
+    requires { ⌜ number < length kinds ⌝ }
+    ensures { λ r. ⌜ r ≡ getD kinds number And ⌝ }
+{
+    let at = number as usize;
+    KINDS[at]
 }
 
 // The instruction that a word stands for.

@@ -16,12 +16,12 @@ pub enum Low {
     Bits(u16),
 }
 
-// The number that x stands for, one of `size` values of which the last `below` are negative.
-fn number(x: u16, size: u16, below: u16) -> i16
-    requires { ⌜ (x < size) × (size ≤ 256) × (below ≤ size) ⌝ }
-    ensures { λ r. ⌜ r ≡ numberOf size below x ⌝ }
+// The number that x stands for, one of `size` values of which the last `negatives` are negative.
+fn number(x: u16, size: u16, negatives: u16) -> i16
+    requires { ⌜ (x < size) × (size ≤ 256) × (negatives ≤ size) ⌝ }
+    ensures { λ r. ⌜ r ≡ numberOf size negatives x ⌝ }
 {
-    if x < size - below {
+    if x < size - negatives {
         x as i16
     } else {
         let y = size - 1 - x;
@@ -29,20 +29,20 @@ fn number(x: u16, size: u16, below: u16) -> i16
     }
 }
 
-fn low_bits(n: i16, size: u16, below: u16) -> Low
-    requires { ⌜ (size ≤ 256) × (below ≤ size) ⌝ }
-    ensures { λ r. ⌜ r ≡ bitsOf size below n ⌝ }
+fn low_bits(n: i16, size: u16, negatives: u16) -> Low
+    requires { ⌜ (size ≤ 256) × (negatives ≤ size) ⌝ }
+    ensures { λ r. ⌜ r ≡ bitsOf size negatives n ⌝ }
 {
     if n < 0 {
         let y = (!n) as u16;
-        if y < below {
+        if y < negatives {
             Low::Bits(size - 1 - y)
         } else {
             Low::Nothing
         }
     } else {
         let x = n as u16;
-        if x < size - below {
+        if x < size - negatives {
             Low::Bits(x)
         } else {
             Low::Nothing
@@ -57,8 +57,8 @@ pub fn parts_of(kind: Kind, w: u16) -> Instruction
     let x = w % m.size;
     let a = (w / 512 % m.a) as u8;
     let b = (w / 64 % m.b) as u8;
-    let d = (w / m.at % m.d) as u8;
-    let n = number(x, m.size, m.below);
+    let d = (w / m.weight % m.d) as u8;
+    let n = number(x, m.size, m.negatives);
     Instruction { kind, a, b, d, n }
 }
 
@@ -66,7 +66,7 @@ fn sum(m: Layout, a: u16, b: u16, d: u16, x: u16) -> u16
     requires { ⌜ wordSum m a b d x < 65536 ⌝ }
     ensures { λ r. ⌜ r ≡ wordSum m a b d x ⌝ }
 {
-    m.base + a * 512 + b * 64 + d * m.at + x
+    m.base + a * 512 + b * 64 + d * m.weight + x
 }
 
 pub fn word_of(m: Layout, i: Instruction) -> Writing
@@ -86,7 +86,7 @@ pub fn word_of(m: Layout, i: Instruction) -> Writing
     if m.d <= d {
         return Writing::Refused(Refusal::InstructionPart);
     }
-    match low_bits(n, m.size, m.below) {
+    match low_bits(n, m.size, m.negatives) {
         Low::Nothing => Writing::Refused(Refusal::InstructionPart),
         Low::Bits(x) => Writing::Word(sum(m, a, b, d, x)),
     }

@@ -1,11 +1,8 @@
 // Which kind a word is, by opcode and then by f or e.
 ghost use mathlib.Core.Path.{_≡_};
 ghost use Rattle.word.specs.Fields.{opcode, e-of, f-of};
-ghost use lib.Dec.{eqb};
-ghost use lib.ListN.{getD};
-ghost use Rattle.word.specs.Word.{pick};
-ghost use Rattle.isa.specs.declared.rows.Entry.the-variants.{Assigned};
-ghost use Rattle.isa.specs.Sheet.{rows, inRow, unassigned, kindAt};
+ghost use Rattle.isa.specs.Sheet.{kindAt};
+ghost use Rattle.isa.specs.Layouts.{entryNumber};
 use crate::Kind;
 
 pub enum Entry {
@@ -13,66 +10,40 @@ pub enum Entry {
     Assigned(Kind),
 }
 
-// Opcode 0, by f.
-fn operation(f: u16) -> Entry
-    ensures { λ r. ⌜ r ≡ inRow (getD rows 0 unassigned) 0 f ⌝ }
-{
-    match f {
-        0 => Entry::Assigned(Kind::And),
-        1 => Entry::Assigned(Kind::Or),
-        2 => Entry::Assigned(Kind::Xor),
-        3 => Entry::Assigned(Kind::Not),
-        4 => Entry::Assigned(Kind::Add),
-        5 => Entry::Assigned(Kind::Sub),
-        6 => Entry::Assigned(Kind::Sha),
-        7 => Entry::Assigned(Kind::Shl),
-        _ => Entry::Unassigned,
-    }
-}
+// The tables hold the kinds' numbers, and NO where there is no kind.
+const NO: u8 = 25;
 
-// Opcode 1, by f.
-fn comparison(f: u16) -> Entry
-    ensures { λ r. ⌜ r ≡ inRow (getD rows 1 unassigned) 0 f ⌝ }
-{
-    match f {
-        0 => Entry::Assigned(Kind::Cmplt),
-        1 => Entry::Assigned(Kind::Cmple),
-        2 => Entry::Unassigned,
-        3 => Entry::Assigned(Kind::Cmpeq),
-        4 => Entry::Assigned(Kind::Cmpltu),
-        5 => Entry::Assigned(Kind::Cmpleu),
-        6 => Entry::Unassigned,
-        7 => Entry::Unassigned,
-        _ => Entry::Unassigned,
-    }
-}
+// Opcode 0 by f: AND, OR, XOR, NOT, ADD, SUB, SHA, SHL; then opcode 1: CMPLT, CMPLE, -, CMPEQ, CMPLTU, CMPLEU, -, -.
+const BY_F: [u8; 16] = [0, 1, 2, 3, 4, 5, 6, 7, 8, 9, NO, 10, 11, 12, NO, NO];
 
-fn by_e(e: u16, zero: Kind, one: Kind) -> Entry
-    ensures { λ r. ⌜ r ≡ pick (eqb e 0) (Assigned zero) (Assigned one) ⌝ }
+// Opcodes 2 to 15 where e is 0: ADDI, LD, ST, LDB, STB, JALR, BZ, MOVI, IN; none from 11 on.
+const E0: [u8; 14] = [13, 14, 15, 16, 17, 18, 19, 21, 23, NO, NO, NO, NO, NO];
+
+// Opcodes 2 to 15 where e is 1: ADDI, LD, ST, LDB, STB, JALR, BNZ, MOVHI, OUT; none from 11 on.
+const E1: [u8; 14] = [13, 14, 15, 16, 17, 18, 20, 22, 24, NO, NO, NO, NO, NO];
+
+// The number of a word's kind, or NO.
+fn number_of(w: u16) -> u8
+    ensures { λ r. ⌜ r ≡ entryNumber (kindAt (opcode w) (e-of w) (f-of w)) ⌝ }
 {
-    if e == 0 {
-        Entry::Assigned(zero)
+    let op = (w / 4096) as usize;
+    let f = (w % 8) as usize;
+    if op < 2 {
+        return BY_F[op * 8 + f];
+    }
+    if w / 256 % 2 == 0 {
+        E0[op - 2]
     } else {
-        Entry::Assigned(one)
+        E1[op - 2]
     }
 }
 
 pub fn kind_of(w: u16) -> Entry
     ensures { λ r. ⌜ r ≡ kindAt (opcode w) (e-of w) (f-of w) ⌝ }
 {
-    let e = w / 256 % 2;
-    match w / 4096 {
-        0 => operation(w % 8),
-        1 => comparison(w % 8),
-        2 => Entry::Assigned(Kind::Addi),
-        3 => Entry::Assigned(Kind::Ld),
-        4 => Entry::Assigned(Kind::St),
-        5 => Entry::Assigned(Kind::Ldb),
-        6 => Entry::Assigned(Kind::Stb),
-        7 => Entry::Assigned(Kind::Jalr),
-        8 => by_e(e, Kind::Bz, Kind::Bnz),
-        9 => by_e(e, Kind::Movi, Kind::Movhi),
-        10 => by_e(e, Kind::In, Kind::Out),
-        _ => Entry::Unassigned,
+    let number = number_of(w);
+    if number == NO {
+        return Entry::Unassigned;
     }
+    Entry::Assigned(crate::kind_at(number))
 }

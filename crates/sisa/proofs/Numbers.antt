@@ -2,16 +2,15 @@
 -- Assumes nothing.
 use Prim.Native.Nat.{ℕ, _<_, _≤_}
 use mathlib.Core.List.{List}
-use mathlib.Core.Path.{_≡_, sym, _∙_, ap}
+use mathlib.Core.Path.{_≡_, _∙_, ap}
 use borrow.Author.Tests.{le-leb, lt-leb}
 use lib.IntN.{ℤ}
 use lib.ListN.{getD}
 use Rattle.refusal.specs.Refusals.{Verdict}
 use Rattle.isa.specs.declared.Kind.{Kind}
 use Rattle.isa.specs.declared.Kind.the-variants.{And}
-use Rattle.isa.specs.Sheet.{kinds, kindNumber}
+use Rattle.isa.specs.Sheet.{kinds}
 use Rattle.isa.specs.Instructions.{Written, writeOf}
-use Rattle.isa.proofs.Every.{listed}
 use Rattle.machine.specs.declared.State.{State}
 use Rattle.machine.specs.Run.{Stepper}
 use Rattle.machine.specs.Calls.{SetGiven, SetLeft, setLeft}
@@ -49,12 +48,11 @@ write-refused kind a b d n h e = rw (e, lt-leb _ _ h)
 
 -- k and m are the kind and the number as `isa::write` is handed them
 pub write-meets : (kind a b d : ℕ) (n : ℤ) (k : Kind) (m : ℤ) {written : Written} {r : SisaWord} → kind ≤ 24
-    → kindNumber k ≡ kind
+    → k ≡ getD kinds kind And
     → m ≡ n
     → written ≡ writeOf (record { kind = k; a = a; b = b; d = d; n = m })
     → r ≡ sisaWord written
     → r ≡ sisaWrite kind a b d n
 unfolding sisaWrite
 write-meets kind a b d n k m h e f w s =
-    let same : k ≡ getD kinds kind And = sym (listed k .1) ∙ ap (λ (i : ℕ). getD kinds i And) e in
-    rw (le-leb _ _ h) (s ∙ ap sisaWord (w ∙ λ j. writeOf (record { kind = same j; a = a; b = b; d = d; n = f j })))
+    rw (le-leb _ _ h) (s ∙ ap sisaWord (w ∙ λ j. writeOf (record { kind = e j; a = a; b = b; d = d; n = f j })))

@@ -15,7 +15,6 @@ use machine::State;
 use refusal::Refusal;
 
 pub mod host;
-mod kinds;
 mod replies;
 
 #[repr(C)]
@@ -135,7 +134,7 @@ pub extern "C" fn sisa_write(kind: u8, a: u8, b: u8, d: u8, n: i16) -> SisaWord
             word: 0,
         };
     }
-    let kind = kinds::kind_of(kind);
+    let kind = isa::kind_at(kind);
     replies::word(isa::write(Instruction { kind, a, b, d, n }))
 }
 

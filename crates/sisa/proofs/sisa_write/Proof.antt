@@ -20,7 +20,7 @@ same-n c = search needs
 returns-2 : tie.Need-returns-2
 returns-2 c =
     let a = c .before .before .before .before .args in
-    write-meets (a .kind) (a .a) (a .b) (a .d) (a .n) (c .before .before .kind-of .result) _ (omega arith) (c .before .before .kind-of .ensures) (same-n (c .before)) (c .before .write .ensures) (c .word .ensures)
+    write-meets (a .kind) (a .a) (a .b) (a .d) (a .n) (c .before .before .kind-at .result) _ (omega arith) (c .before .before .kind-at .ensures) (same-n (c .before)) (c .before .write .ensures) (c .word .ensures)
 
 pub sisa-write-spec : {M : Type 1} → statement M
 sisa-write-spec =

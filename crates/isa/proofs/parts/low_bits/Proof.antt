@@ -25,28 +25,28 @@ cast-x c =
 returns : tie.Need-returns
 returns c =
     let v = negative (c .before .before .args .n) (c .before .before .fits .n) (c .before .if1 .taken) in
-    let h : v .y < c .before .before .args .below = rw (v .bits) at (c .if2 .taken) in
+    let h : v .y < c .before .before .args .negatives = rw (v .bits) at (c .if2 .taken) in
     let size = c .before .before .args .size in
     ap (λ (z : ℤ). Bits (size - 1 - natAbs z)) (v .bits)
-    ∙ sym (ap (bitsOf size (c .before .before .args .below)) (v .is) ∙ simp (lt-ltb _ _ h) (ap Bits (omega arith)))
+    ∙ sym (ap (bitsOf size (c .before .before .args .negatives)) (v .is) ∙ simp (lt-ltb _ _ h) (ap Bits (omega arith)))
 
 returns-2 : tie.Need-returns-2
 returns-2 c =
     let v = negative (c .before .before .args .n) (c .before .before .fits .n) (c .before .if1 .taken) in
-    let h : c .before .before .args .below ≤ v .y = rw (v .bits) at (c .if2 .left) in
+    let h : c .before .before .args .negatives ≤ v .y = rw (v .bits) at (c .if2 .left) in
     rw (v .is, le-ltb _ _ h)
 
 returns-3 : tie.Need-returns-3
 returns-3 c =
     let v = natural (c .before .before .args .n) (c .before .before .fits .n) (c .before .if1 .left) in
-    let h : v .x < c .before .before .args .size - c .before .before .args .below = rw (v .bits) at (c .if3 .taken) in
+    let h : v .x < c .before .before .args .size - c .before .before .args .negatives = rw (v .bits) at (c .if3 .taken) in
     ap (λ (z : ℤ). Bits (natAbs z)) (v .bits)
-    ∙ sym (ap (bitsOf (c .before .before .args .size) (c .before .before .args .below)) (v .is) ∙ simp (lt-ltb _ _ h))
+    ∙ sym (ap (bitsOf (c .before .before .args .size) (c .before .before .args .negatives)) (v .is) ∙ simp (lt-ltb _ _ h))
 
 returns-4 : tie.Need-returns-4
 returns-4 c =
     let v = natural (c .before .before .args .n) (c .before .before .fits .n) (c .before .if1 .left) in
-    let h : c .before .before .args .size - c .before .before .args .below ≤ v .x = rw (v .bits) at (c .if3 .left) in
+    let h : c .before .before .args .size - c .before .before .args .negatives ≤ v .x = rw (v .bits) at (c .if3 .left) in
     rw (v .is, le-ltb _ _ h)
 
 pub low-bits-spec : {M : Type 1} → statement M

@@ -18,7 +18,7 @@ use Rattle.isa.proofs.parts.parts_of.Tie as tie
 
 -- the instruction that the code makes, with n open
 abbrev with-n : Kind → Layout → ℕ → ℤ → Instruction
-with-n k m w n = record { kind = k; a = w / 512 % (m .a); b = w / 64 % (m .b); d = w / (m .at) % (m .d); n = n }
+with-n k m w n = record { kind = k; a = w / 512 % (m .a); b = w / 64 % (m .b); d = w / (m .weight) % (m .d); n = n }
 
 cast-a : tie.Need-cast-a
 cast-a c = let m = c .before .before .layout-of in omega (arith, mod-lt (c .before .before .before .args .w / 512) (m .ensures .1 .a-some), m .ensures .1 .a-few)
@@ -29,12 +29,12 @@ cast-b c = let m = c .before .before .before .layout-of in omega (arith, mod-lt 
 cast-d : tie.Need-cast-d
 cast-d c =
     let m = c .before .before .before .before .before .layout-of in
-    omega (arith, mod-lt (c .before .before .before .before .before .before .args .w / (m .result .at)) (m .ensures .1 .d-some), m .ensures .1 .d-few)
+    omega (arith, mod-lt (c .before .before .before .before .before .before .args .w / (m .result .weight)) (m .ensures .1 .d-some), m .ensures .1 .d-few)
 
 number-requires : tie.Need-number-requires
 number-requires c κs =
     let m = c .before .before .before .before .before .layout-of in
-    (mod-lt _ (m .ensures .1 .size-some), m .ensures .1 .size-few, omega (arith, m .ensures .1 .below-few))
+    (mod-lt _ (m .ensures .1 .size-some), m .ensures .1 .size-few, omega (arith, m .ensures .1 .negatives-few))
 
 returns : tie.Need-returns
 returns c =

@@ -36,7 +36,7 @@ accepted : (c : tie.After-low-bits) → writeIn (at-start c .args .m) (at-start 
 accepted c =
     simp
     (lt-ltb _ _ (c .before .before .before .before .before .if1 .left), lt-ltb _ _ (c .before .before .before .if2 .left), lt-ltb _ _ (c .before .if3 .left))
-    (ap (writeBits (at-start c .args .m) (at-start c .args .i)) (sym (c .low-bits .ensures ∙ ap (bitsOf (at-start c .args .m .size) (at-start c .args .m .below)) (same-n c))))
+    (ap (writeBits (at-start c .args .m) (at-start c .args .i)) (sym (c .low-bits .ensures ∙ ap (bitsOf (at-start c .args .m .size) (at-start c .args .m .negatives)) (same-n c))))
 
 returns-4 : tie.Need-returns-4
 returns-4 c = sym (accepted (c .before .before) ∙ ap (writeBits _ _) (c .enum-told .given .1))
@@ -46,7 +46,7 @@ low-small c =
     let n = at-start (c .before .before) .args .i .n in
     let l = c .before .before .low-bits in
     let a = at-start (c .before .before) in
-    back (a .args .m .size) (a .args .m .below) (toZ w16 (ofZ w16 n)) _ (a .pre .below-few) (sym (l .ensures) ∙ c .x .given .1) .0
+    back (a .args .m .size) (a .args .m .negatives) (toZ w16 (ofZ w16 n)) _ (a .pre .negatives-few) (sym (l .ensures) ∙ c .x .given .1) .0
 
 sum-requires : tie.Need-sum-requires
 sum-requires c κs =
