@@ -38,7 +38,7 @@ pub enum Check {
 // The step of w by a table's word for it, or by the rules.
 fn step(
     by_table: bool,
-    words: &[u16; 32],
+    table: &[u16; 32],
     w: u16,
     state: State,
     memory: &mut [u8],
@@ -48,10 +48,10 @@ fn step(
     entries: usize,
 ) -> Stepped
     requires { ⌜ Ready (held state (now memory) (now inputs) (now outputs) (now log) entries) ⌝ }
-    ensures { λ r. ⌜ StepMeets (stepOf «by_table» (now (words .entry)) w) (writesOf «by_table» (now (words .entry)) w) (held state (now (memory .entry)) (now (inputs .entry)) (now (outputs .entry)) (now (log .entry)) entries) (r .stop) (held (r .state) (now (memory .exit)) (now (inputs .exit)) (now (outputs .exit)) (now (log .exit)) (r .entries)) ⌝ }
+    ensures { λ r. ⌜ StepMeets (stepOf «by_table» (now (table .entry)) w) (writesOf «by_table» (now (table .entry)) w) (held state (now (memory .entry)) (now (inputs .entry)) (now (outputs .entry)) (now (log .entry)) entries) (r .stop) (held (r .state) (now (memory .exit)) (now (inputs .exit)) (now (outputs .exit)) (now (log .exit)) (r .entries)) ⌝ }
 {
     if by_table {
-        let control = control::control_of(words, w);
+        let control = control::control_of(table, w);
         control::step(control, w, state, memory, inputs, outputs, log, entries)
     } else {
         rules::step(w, state, memory, inputs, outputs, log, entries)
@@ -61,7 +61,7 @@ fn step(
 // The loop of an accepted run, by a table or by the rules. PC stays even.
 fn run_accepted(
     by_table: bool,
-    words: &[u16; 32],
+    table: &[u16; 32],
     start: State,
     program: &[u8],
     memory: &mut [u8],
@@ -71,7 +71,7 @@ fn run_accepted(
     log: &mut [u64],
 ) -> Ran
     requires { ⌜ CanRun (given start (now program) (now memory) (now inputs) (now outputs) budget (now log)) ⌝ }
-    ensures { λ r. ⌜ _≡_ {A = Left} (left (shownAnswer (r .answer)) (r .state) (now (program .exit)) (now (memory .exit)) (now (inputs .exit)) (now (outputs .exit)) (now (log .exit))) (acceptedLeft (chosen «by_table» (now (words .entry))) (given start (now (program .entry)) (now (memory .entry)) (now (inputs .entry)) (now (outputs .entry)) budget (now (log .entry)))) ⌝ }
+    ensures { λ r. ⌜ _≡_ {A = Left} (left (shownAnswer (r .answer)) (r .state) (now (program .exit)) (now (memory .exit)) (now (inputs .exit)) (now (outputs .exit)) (now (log .exit))) (acceptedLeft (chosen «by_table» (now (table .entry))) (given start (now (program .entry)) (now (memory .entry)) (now (inputs .entry)) (now (outputs .entry)) budget (now (log .entry)))) ⌝ }
 {
     let mut state = start;
     let mut steps: u32 = 0;
@@ -80,7 +80,7 @@ fn run_accepted(
         let w = bus::fetch(program, state.pc);
         let done = step(
             by_table,
-            words,
+            table,
             w,
             state,
             memory,
@@ -138,7 +138,7 @@ fn checked(
 
 fn run(
     by_table: bool,
-    words: &[u16; 32],
+    table: &[u16; 32],
     state: State,
     program: &[u8],
     memory: &mut [u8],
@@ -147,12 +147,12 @@ fn run(
     budget: u32,
     log: &mut [u64],
 ) -> Ran
-    ensures { λ r. ⌜ RunMeets (chosen «by_table» (now (words .entry))) (given state (now (program .entry)) (now (memory .entry)) (now (inputs .entry)) (now (outputs .entry)) budget (now (log .entry))) (left (shownAnswer (r .answer)) (r .state) (now (program .exit)) (now (memory .exit)) (now (inputs .exit)) (now (outputs .exit)) (now (log .exit))) ⌝ }
+    ensures { λ r. ⌜ RunMeets (chosen «by_table» (now (table .entry))) (given state (now (program .entry)) (now (memory .entry)) (now (inputs .entry)) (now (outputs .entry)) budget (now (log .entry))) (left (shownAnswer (r .answer)) (r .state) (now (program .exit)) (now (memory .exit)) (now (inputs .exit)) (now (outputs .exit)) (now (log .exit))) ⌝ }
 {
     match checked(state, program, memory, inputs, outputs, budget) {
         Check::Accepted => run_accepted(
             by_table,
-            words,
+            table,
             state,
             program,
             memory,

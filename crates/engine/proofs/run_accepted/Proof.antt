@@ -29,7 +29,7 @@ step-requires : tie.Need-step-requires Inv-loop μ-loop
 step-requires c κs =
     let l = c .before .before .before .before .before in
     let a = l .before .before .before .before .before .before .before .args in
-    ready (a .by-table) (a .words .now) (l .before .loop .inv) (l .loop-test .taken)
+    ready (a .by-table) (a .table .now) (l .before .loop .inv) (l .loop-test .taken)
 
 returns : tie.Need-returns Inv-loop μ-loop
 returns c =
@@ -37,7 +37,7 @@ returns c =
     let f = k .before .before .before .before .before in
     let l = f .before in
     let a = l .before .before .before .before .before .before .before .args in
-    ends-stopped (a .by-table) (a .words .now) (l .before .loop .inv) (l .loop-test .taken) (f .fetch .ensures) (k .step .ensures) (c .if1 .taken)
+    ends-stopped (a .by-table) (a .table .now) (l .before .loop .inv) (l .loop-test .taken) (f .fetch .ensures) (k .step .ensures) (c .if1 .taken)
 
 loop-again : tie.Need-loop-again Inv-loop μ-loop
 loop-again c =
@@ -45,14 +45,14 @@ loop-again c =
     let f = k .before .before .before .before .before in
     let l = f .before in
     let a = l .before .before .before .before .before .before .before .args in
-    turns (a .by-table) (a .words .now) (l .before .loop .inv) (l .loop-test .taken) (f .fetch .ensures) (k .step .ensures) (c .if1 .left)
+    turns (a .by-table) (a .table .now) (l .before .loop .inv) (l .loop-test .taken) (f .fetch .ensures) (k .step .ensures) (c .if1 .left)
     (k .step .kept .1 .1 .1 .1 .0)
     (k .step .kept .1 .1 .1 .1 .1 .0)
     (k .step .kept .1 .1 .1 .1 .1 .1 .0)
     (k .step .kept .1 .1 .1 .1 .1 .1 .1 .0)
 
 returns-2 : tie.Need-returns-2 Inv-loop μ-loop
-returns-2 c = let a = c .before .before .before .before .before .before .before .args in ends-budget (a .by-table) (a .words .now) (c .before .loop .inv) (omega arith)
+returns-2 c = let a = c .before .before .before .before .before .before .before .args in ends-budget (a .by-table) (a .table .now) (c .before .loop .inv) (omega arith)
 
 pub run-accepted-spec : {M : Type 1} → statement M
 run-accepted-spec =
