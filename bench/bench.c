@@ -1,11 +1,12 @@
-/* The engines of libsisa.a beside a plain C interpreter (plain.c) and a faster one (flat.c), in one process.
+/* The engines of libsisa.a beside a plain C interpreter (plain.c) and a faster one (flat.c), and its save beside plain C
+   (save.c), in one process.
 
    Time is the CPU time of this process, so that being scheduled out does not count. All engines are lent the same
    buffers, which are made anew before each timed run (memory and inputs as the workload says, outputs and log zero), so
    no page is touched for the first time while the clock runs. In a round each engine runs once, and the order rotates
    from round to round; a ratio is of the two times of one round, and what is printed is the median over the rounds.
-   After every timed run its reply and all buffers are compared with those of the C interpreter: exit status 1 where
-   they differ, else 0, whatever the times are. */
+   After every timed run its reply and all buffers are compared with those of the C interpreter, after timed saves the
+   reply and the destination with those of C: exit status 1 where they differ, else 0, whatever the times are. */
 #include "plain.h"
 #include "sisa.h"
 #include "workloads.h"
@@ -21,18 +22,29 @@ enum {
     GROWTH_ROUNDS = 5,
     GROWTH_STEPS = 100000000,
     CALLS = 1000000,        /* with budget 1, in one timed repeat */
+    SAVES = 1000,           /* in one timed repeat */
+    FILE_BYTES = 16 + 2 * MEMORY_BYTES,
     LATE_STEPS = 100000,    /* the end of the random program's run, where the addresses are counted */
     RANDOM_SEED = 251,
     ENGINES = 4,
-    C = 0,                  /* the engine that the others are compared with */
+    CALLED,                 /* the engines and, last, the host step */
+    C = 0,                  /* the engine, and the save, that the others are compared with */
 };
 
 static const struct {
     const char *name;
     Run *run;
-} engines[ENGINES] = {
+} engines[CALLED] = {
     { "C", plain_run }, { "C flat", flat_run }, { "rules", sisa_run_by_rules }, { "table", sisa_run_by_table },
+    { "host step", NULL },
 };
+
+enum { LIBRARY = C + 1, COPY, SAVERS };
+
+static const struct {
+    const char *name;
+    Save *save;
+} savers[SAVERS] = { { "C", plain_save }, { "library", sisa_save }, { "memcpy", copied_save } };
 
 /* The buffers that a run is lent, and what it replied. */
 typedef struct {
@@ -44,8 +56,21 @@ typedef struct {
     SisaRun reply;
 } Lent;
 
+/* The destination that a save is lent, and what it replied. */
+typedef struct {
+    uint8_t destination[FILE_BYTES];
+    SisaSaved reply;
+} Saved;
+
 static Workload load;
 static Lent lent, expected;
+static Saved saved, expected_save;
+
+/* The runs of a timed repeat. */
+static struct {
+    uint32_t budget;
+    int calls;
+} repeat;
 
 static double now(void)
 {
@@ -75,6 +100,17 @@ static double median_ratio(const double *times, const double *of_c, int count)
     for (int i = 0; i < count; i++)
         ratios[i] = times[i] / of_c[i];
     return median(ratios, count);
+}
+
+/* The seconds that a call took, for each kind of call and round; what it left is checked. */
+static void in_rounds(double times[][ROUNDS], int kinds, int rounds, double (*timed)(int), void (*check)(int))
+{
+    for (int round = 0; round < rounds; round++)
+        for (int k = 0; k < kinds; k++) {
+            int kind = (round + k) % kinds;
+            times[kind][round] = timed(kind);
+            check(kind);
+        }
 }
 
 static uint64_t *new_log(size_t places)
@@ -119,7 +155,7 @@ static int same_reply(const SisaRun *x, const SisaRun *y)
 }
 
 /* Ends the program where what the engine left and replied differs from what is expected. */
-static void check(const char *engine)
+static void check_run(int engine)
 {
     const char *what = NULL;
     if (!same_reply(&lent.reply, &expected.reply))
@@ -134,37 +170,34 @@ static void check(const char *engine)
         what = "log";
     if (what == NULL)
         return;
-    fprintf(stderr, "%s: %s and C differ in the %s\n", load.name, engine, what);
+    fprintf(stderr, "%s: %s and C differ in the %s\n", load.name, engines[engine].name, what);
     exit(1);
 }
 
-/* `calls` runs, each from a reset state, over buffers cleared before the first; the seconds that one took. */
-static double timed(int engine, uint32_t budget, int calls)
+/* Runs, each from a reset state, over buffers cleared before the first; the seconds that one took. */
+static double timed_runs(int engine)
 {
     static const SisaState reset;
-    clear(budget / STEPS_PER_OUT + 1);
+    clear(repeat.budget / STEPS_PER_OUT + 1);
     double start = now();
-    for (int i = 0; i < calls; i++)
-        lent.reply = run(engine, reset, budget);
+    for (int i = 0; i < repeat.calls; i++)
+        lent.reply = run(engine, reset, repeat.budget);
     double end = now();
-    if (lent.reply.stop != 0 || lent.reply.steps != budget) {
+    if (lent.reply.stop != 0 || lent.reply.steps != repeat.budget) {
         fprintf(stderr, "%s: %s stopped early\n", load.name, engines[engine].name);
         exit(1);
     }
-    return (end - start) / calls;
+    return (end - start) / repeat.calls;
 }
 
 /* The seconds of a run, for each engine and round. */
 static void measure(double times[ENGINES][ROUNDS], int rounds, uint32_t budget, int calls)
 {
-    timed(C, budget, calls);
+    repeat.budget = budget;
+    repeat.calls = calls;
+    timed_runs(C);
     keep_as_expected();
-    for (int round = 0; round < rounds; round++)
-        for (int k = 0; k < ENGINES; k++) {
-            int engine = (round + k) % ENGINES;
-            times[engine][round] = timed(engine, budget, calls);
-            check(engines[engine].name);
-        }
+    in_rounds(times, ENGINES, rounds, timed_runs, check_run);
 }
 
 static void print_ratios(void)
@@ -195,8 +228,8 @@ static int late_addresses(void)
     return count;
 }
 
-/* Calls with budget 1, each from the state that the one before returned. `engine` ENGINES is the host step, which changes
-   the state that the host holds. The log is filled from place 0 by each call. */
+/* Calls with budget 1, each from the state that the one before returned; the host step changes the state that the host
+   holds. The log is filled from place 0 by each call. */
 static double timed_calls(int engine)
 {
     SisaState state = { .n = 0 };
@@ -216,23 +249,66 @@ static double timed_calls(int engine)
 
 static void print_call_costs(void)
 {
-    enum { KINDS = ENGINES + 1 };
-    static const char *const names[KINDS] = { "C", "C flat", "rules", "table", "host step" };
-    double times[KINDS][ROUNDS];
+    double times[CALLED][ROUNDS];
     timed_calls(C);
     keep_as_expected();
-    for (int round = 0; round < ROUNDS; round++)
-        for (int k = 0; k < KINDS; k++) {
-            int kind = (round + k) % KINDS;
-            times[kind][round] = timed_calls(kind);
-            check(names[kind]);
-        }
+    in_rounds(times, CALLED, ROUNDS, timed_calls, check_run);
     printf("\nA call with budget 1 (%s, %d rounds of %d calls)\n", load.name, ROUNDS, CALLS);
     printf("%-18s %9s %11s\n", "", "ns/call", "ratio to C");
-    for (int kind = 0; kind < KINDS; kind++)
-        printf("%-18s %9.2f %11.2f\n", names[kind], 1e9 * median(times[kind], ROUNDS),
+    for (int kind = 0; kind < CALLED; kind++)
+        printf("%-18s %9.2f %11.2f\n", engines[kind].name, 1e9 * median(times[kind], ROUNDS),
                median_ratio(times[kind], times[C], ROUNDS));
     fflush(stdout);
+}
+
+/* Saves into a destination that was all 0xFF; the seconds that one took. */
+static double timed_saves(int saver)
+{
+    memset(saved.destination, 0xFF, FILE_BYTES);
+    double start = now();
+    for (int i = 0; i < SAVES; i++)
+        saved.reply = savers[saver].save(load.program, MEMORY_BYTES, load.memory, MEMORY_BYTES, saved.destination,
+                                         FILE_BYTES);
+    double end = now();
+    return (end - start) / SAVES;
+}
+
+/* Ends the program where what the save left and replied differs from what is expected. */
+static void check_save(int saver)
+{
+    if (saved.reply.refusal == expected_save.reply.refusal && saved.reply.length == expected_save.reply.length
+        && memcmp(saved.destination, expected_save.destination, FILE_BYTES) == 0)
+        return;
+    fprintf(stderr, "save: %s and C differ\n", savers[saver].name);
+    exit(1);
+}
+
+/* Saves of memories that hold this byte everywhere, by the first `count` savers. */
+static void print_save(const char *name, uint8_t byte, int count)
+{
+    double times[SAVERS][ROUNDS];
+    memset(load.program, byte, MEMORY_BYTES);
+    memset(load.memory, byte, MEMORY_BYTES);
+    timed_saves(C);
+    expected_save = saved;
+    in_rounds(times, count, ROUNDS, timed_saves, check_save);
+    printf("%-18s %9zu %9.3f %9.3f %9.2f", name, saved.reply.length, 1e6 * median(times[C], ROUNDS),
+           1e6 * median(times[LIBRARY], ROUNDS), median_ratio(times[LIBRARY], times[C], ROUNDS));
+    if (count > COPY)
+        printf(" %9.3f %14.2f", 1e6 * median(times[COPY], ROUNDS),
+               median_ratio(times[LIBRARY], times[COPY], ROUNDS));
+    printf("\n");
+    fflush(stdout);
+}
+
+/* Of full memories C tests the last bytes and copies the rest, of empty ones it tests every byte. memcpy alone makes the
+   file only where nothing is dropped. */
+static void print_save_costs(void)
+{
+    printf("\nA save (%d rounds of %d calls): median microseconds, and median of the ratios in a round\n", ROUNDS, SAVES);
+    printf("%-18s %9s %9s %9s %9s %9s %14s\n", "", "bytes", "C", "library", "library/C", "memcpy", "library/memcpy");
+    print_save("full memories", 1, SAVERS);
+    print_save("empty memories", 0, COPY);
 }
 
 /* Short runs are repeated, so that a timed stretch has a million steps or more. */
@@ -270,7 +346,7 @@ static void print_cpu(void)
     fclose(info);
 }
 
-/* With an argument, the costs of calls and the growth too. */
+/* With an argument, the costs of calls, the growth and the costs of saves too. */
 int main(int argc, char **argv)
 {
     (void)argv;
@@ -291,6 +367,7 @@ int main(int argc, char **argv)
         mix(&load);
         print_call_costs();
         print_growth();
+        print_save_costs();
     }
     return 0;
 }

@@ -1,6 +1,5 @@
 /* The plain interpreter (plain.c) with one switch on opcode and f together. */
 #include "interpreter.h"
-#include "plain.h"
 
 #include <string.h>
 

@@ -2,9 +2,7 @@
 #ifndef INTERPRETER_H
 #define INTERPRETER_H
 
-#include "sisa.h"
-
-enum { MEMORY_BYTES = 65536, PORTS = 256 };
+#include "plain.h"
 
 static inline uint16_t extend6(uint16_t w) { return (uint16_t)(((w & 63) ^ 32) - 32); }
 static inline uint16_t extend8(uint16_t w) { return (uint16_t)(int8_t)w; }

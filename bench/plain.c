@@ -1,7 +1,6 @@
 /* The interpreter that the engines are measured against: a switch on the opcode, for opcodes 0 and 1 one on f, the registers
    in a local array, each word fetched from the program's bytes. */
 #include "interpreter.h"
-#include "plain.h"
 
 #include <string.h>
 

@@ -3,6 +3,8 @@
 
 #include "sisa.h"
 
+enum { MEMORY_BYTES = 65536, PORTS = 256 };
+
 /* The run of sisa_run_by_rules (sisa.h), by two C interpreters. */
 typedef SisaRun Run(SisaState state,
                     const uint8_t *program, size_t program_len,
@@ -13,5 +15,13 @@ typedef SisaRun Run(SisaState state,
                     uint64_t *log, size_t log_len);
 
 Run plain_run, flat_run;
+
+/* The save of sisa_save, by plain C: one scans both memories from the end byte by byte; the other, for memories without
+   trailing zeros, copies both whole. */
+typedef SisaSaved Save(const uint8_t *program, size_t program_len,
+                       const uint8_t *memory, size_t memory_len,
+                       uint8_t *destination, size_t destination_len);
+
+Save plain_save, copied_save;
 
 #endif

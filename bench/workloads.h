@@ -1,10 +1,9 @@
 #ifndef WORKLOADS_H
 #define WORKLOADS_H
 
-#include <stddef.h>
-#include <stdint.h>
+#include "plain.h"
 
-enum { MEMORY_BYTES = 65536, PORTS = 256, STEPS_PER_OUT = 16 };
+enum { STEPS_PER_OUT = 16 };
 
 /* What a measured run starts from, beside a reset state and outputs of 0. None of the programs ends by itself, and none
    does an OUT more often than once in STEPS_PER_OUT steps. */

@@ -1,10 +1,12 @@
-/* A host in C: loads a trim, sets three inputs, runs it and shows the corrections; then takes the first steps one by one.
+/* A host in C: loads a trim, sets three inputs, runs it, shows the corrections, saves both memories and loads them again;
+   then takes the first steps one by one.
 
        gcc -O2 -Iinclude examples/host.c target/staticlib/libsisa.a -o target/host_c
        target/host_c examples/gain.trim */
 #include "sisa.h"
 
 #include <stdio.h>
+#include <string.h>
 
 enum { MEMORY_BYTES = 65536, PORTS = 256, LOG_PLACES = 64, BUDGET = 1000, HOST_STEPS = 5 };
 
@@ -32,6 +34,14 @@ static long read_file(const char *path)
     return whole ? length : -1;
 }
 
+/* Shows a refusal, where there is one. */
+static int refused(uint8_t refusal)
+{
+    if (refusal != 0)
+        printf("refused: %u\n", refusal);
+    return refusal != 0;
+}
+
 static void set_knobs(void)
 {
     sisa_set_input(inputs, PORTS, 0, 500);
@@ -48,6 +58,23 @@ static void print_corrections(uint64_t entries)
         unsigned n = (unsigned)(port_log[i] >> 24), port = port_log[i] >> 16 & 255, value = port_log[i] & 65535;
         printf("log: n %u, port %u, value %u; the output now holds %u\n", n, port, value, outputs[port]);
     }
+}
+
+/* Saves what the trim left and loads it into memories of its own. Returns 0 where one of the two is refused. */
+static int save_and_load(void)
+{
+    static uint8_t saved_file[sizeof file], program_again[MEMORY_BYTES], memory_again[MEMORY_BYTES];
+    static uint16_t inputs_again[PORTS], outputs_again[PORTS];
+    SisaSaved saved = sisa_save(program, sizeof program, memory, sizeof memory, saved_file, sizeof saved_file);
+    if (refused(saved.refusal))
+        return 0;
+    SisaLoad loaded = sisa_load(saved_file, saved.length, program_again, sizeof program_again, memory_again,
+                                sizeof memory_again, inputs_again, PORTS, outputs_again, PORTS);
+    if (refused(loaded.refusal))
+        return 0;
+    int same = memcmp(program_again, program, sizeof program) == 0 && memcmp(memory_again, memory, sizeof memory) == 0;
+    printf("saved %zu bytes, loaded again: %s memories\n", saved.length, same ? "equal" : "other");
+    return 1;
 }
 
 /* Each step is a run by the table with budget 1, over the state held here. Memory and ports are as the run left them. */
@@ -73,20 +100,18 @@ int main(int argc, char **argv)
     }
     SisaLoad loaded = sisa_load(file, (size_t)length, program, sizeof program, memory, sizeof memory, inputs, PORTS,
                                 outputs, PORTS);
-    if (loaded.refusal != 0) {
-        printf("refused: %u\n", loaded.refusal);
+    if (refused(loaded.refusal))
         return 1;
-    }
     set_knobs();
     SisaRun run = sisa_run_by_rules(loaded.state, program, sizeof program, memory, sizeof memory, inputs, PORTS,
                                     outputs, PORTS, BUDGET, port_log, LOG_PLACES);
-    if (run.refusal != 0) {
-        printf("refused: %u\n", run.refusal);
+    if (refused(run.refusal))
         return 1;
-    }
     printf("run by the rules: stop %u, steps %u, entries %u\n", run.stop, run.steps, (unsigned)run.entries);
     print_corrections(run.entries);
     print_state("state", &run.state);
+    if (!save_and_load())
+        return 1;
     step_by_step(loaded.state);
     return 0;
 }

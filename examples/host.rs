@@ -1,5 +1,5 @@
-//! A host in Rust: loads a trim, sets three inputs, runs it and shows the corrections; then takes the first steps one by
-//! one. It prints what host.c prints.
+//! A host in Rust: loads a trim, sets three inputs, runs it, shows the corrections, saves both memories and loads them
+//! again; then takes the first steps one by one. It prints what host.c prints.
 //!
 //!     rustc --edition 2021 -O examples/host.rs -L target/staticlib -l static=sisa -o target/host_rs
 //!     target/host_rs examples/gain.trim
@@ -20,6 +20,12 @@ mod ffi {
     pub struct Load {
         pub state: State,
         pub refusal: u8,
+    }
+
+    #[repr(C)]
+    pub struct Saved {
+        pub refusal: u8,
+        pub length: usize,
     }
 
     #[repr(C)]
@@ -45,6 +51,10 @@ mod ffi {
             file: *const u8, file_len: usize, program: *mut u8, program_len: usize, memory: *mut u8, memory_len: usize,
             inputs: *mut u16, inputs_len: usize, outputs: *mut u16, outputs_len: usize,
         ) -> Load;
+        pub fn sisa_save(
+            program: *const u8, program_len: usize, memory: *const u8, memory_len: usize,
+            destination: *mut u8, destination_len: usize,
+        ) -> Saved;
         pub fn sisa_set_input(inputs: *mut u16, inputs_len: usize, port: u8, value: u16) -> u8;
         pub fn sisa_run_by_rules(
             state: State, program: *const u8, program_len: usize, memory: *mut u8, memory_len: usize,
@@ -63,6 +73,8 @@ use ffi::State;
 
 const MEMORY_BYTES: usize = 65_536;
 const PORTS: usize = 256;
+/// No file that a save writes is longer.
+const FILE_BYTES: usize = 16 + 2 * MEMORY_BYTES;
 
 /// A number of document 01's refusal table.
 #[derive(Debug)]
@@ -121,6 +133,24 @@ impl Machine {
                 outputs,
             },
         )
+    }
+
+    /// The trim file of both memories.
+    fn save(&self) -> Result<Vec<u8>, Refusal> {
+        let mut file = vec![0; FILE_BYTES];
+        // SAFETY: each pointer and length is of one slice, and no two slices overlap.
+        let reply = unsafe {
+            ffi::sisa_save(
+                self.program.as_ptr(),
+                self.program.len(),
+                self.memory.as_ptr(),
+                self.memory.len(),
+                file.as_mut_ptr(),
+                file.len(),
+            )
+        };
+        file.truncate(reply.length);
+        accepted(reply.refusal, file)
     }
 
     fn set_input(&mut self, port: u8, value: u16) -> Result<(), Refusal> {
@@ -223,6 +253,15 @@ fn host(file: &[u8]) -> Result<(), Refusal> {
     );
     machine.print_corrections(&log[..run.entries]);
     machine.print("state");
+
+    let saved = machine.save()?;
+    let again = Machine::load(&saved)?;
+    let same = again.program == machine.program && again.memory == machine.memory;
+    println!(
+        "saved {} bytes, loaded again: {} memories",
+        saved.len(),
+        if same { "equal" } else { "other" }
+    );
 
     // From a reset state again; memory and ports are as the run left them.
     machine.state = reset;

@@ -1,5 +1,5 @@
-/* The SISA trim processor: loading a trim, running it by the rules or by the control table, and reading and writing
-   one instruction. Link libsisa.a (rt staticlib sisa).
+/* The SISA trim processor: loading a trim, running it by the rules or by the control table, saving it, and reading and
+   writing one instruction. Link libsisa.a (rt staticlib sisa).
 
    A slice is passed as a pointer and the number of its elements. A pointer is never null, also where the number is 0, and
    no two slices of a call overlap. Beyond that every value of every argument is allowed. A memory is 65,536 bytes, an array
@@ -27,6 +27,12 @@ typedef struct {
     SisaState state;
     uint8_t refusal;
 } SisaLoad;
+
+/* What a save replies. The length is the file's. */
+typedef struct {
+    uint8_t refusal;
+    size_t length;
+} SisaSaved;
 
 /* What a run replies: the state (as handed, where the run is refused), the refusal, the stop reason (0 budget used,
    1 unassigned word, 2 OUT with the log full), the steps taken and the entries written to the log. */
@@ -73,6 +79,14 @@ SisaLoad sisa_load(const uint8_t *file, size_t file_len,
                    uint8_t *memory, size_t memory_len,
                    uint16_t *inputs, size_t inputs_len,
                    uint16_t *outputs, size_t outputs_len);
+
+/* Writes the trim file of both memories to the front of the destination, whose unused end keeps its bytes: the program
+   from offset 16 on, without its trailing zero words, and straight after it the data, without its trailing zero bytes.
+   Loading the file gives back both memories. A destination shorter than the file is refused with 9. A file can have
+   131,088 bytes; panelrun takes files of at most 65,536. */
+SisaSaved sisa_save(const uint8_t *program, size_t program_len,
+                    const uint8_t *memory, size_t memory_len,
+                    uint8_t *destination, size_t destination_len);
 
 /* The input at a port becomes the value. Replies 0 or the refusal. */
 uint8_t sisa_set_input(uint16_t *inputs, size_t inputs_len, uint8_t port, uint16_t value);

@@ -5,7 +5,7 @@ use mathlib.Core.List.{List, [], _∷_}
 use Prim.Native.Nat.{ℕ}
 use lib.ListN.{getD}
 use Rattle.refusal.specs.declared.Refusal.{Refusal}
-use Rattle.refusal.specs.declared.Refusal.the-variants.{LentLength, ShortFile, LargePart, PartOutside, OddPc, StepCount, InstructionPart, LongFile}
+use Rattle.refusal.specs.declared.Refusal.the-variants.{LentLength, ShortFile, LargePart, PartOutside, OddPc, StepCount, InstructionPart, LongFile, ShortDestination}
 use Rattle.refusal.specs.Refusals.{refusalNumber, Verdict, accepted, refused as turned-away}
 use Rattle.isa.specs.declared.Kind.the-variants.{And}
 use Rattle.isa.specs.declared.Reading.{Reading}
@@ -18,6 +18,9 @@ use Rattle.machine.specs.Calls.{shownSetting}
 use Rattle.image.specs.declared.Loading.{Loading}
 use Rattle.image.specs.declared.Loading.the-variants.{Accepted, Refused as LoadRefused}
 use Rattle.image.specs.Image.{shownLoading}
+use Rattle.image.specs.declared.save.Saving.{Saving}
+use Rattle.image.specs.declared.save.Saving.the-variants.{Saved, Refused as SaveRefused}
+use Rattle.image.specs.Saved.{SaveReply, saved, refused as save-refused, shownSaving}
 use Rattle.engine.specs.declared.Answer.{Answer}
 use Rattle.engine.specs.declared.Answer.the-variants.{Stopped, Refused as RunRefused}
 use Rattle.engine.specs.Runs.{RunReply, stopped, refused as run-refused, shownAnswer}
@@ -31,7 +34,7 @@ undone f g h x y e = sym (h x) ∙ ap g e ∙ h y
 
 -- the refusal of a number
 abbrev refusal-at : ℕ → Refusal
-refusal-at n = getD (LentLength ∷ LentLength ∷ ShortFile ∷ LargePart ∷ PartOutside ∷ OddPc ∷ StepCount ∷ InstructionPart ∷ LongFile ∷ []) n LentLength
+refusal-at n = getD (LentLength ∷ LentLength ∷ ShortFile ∷ LargePart ∷ PartOutside ∷ OddPc ∷ StepCount ∷ InstructionPart ∷ LongFile ∷ ShortDestination ∷ []) n LentLength
 
 refusal-back : (x : Refusal) → refusal-at (refusalNumber x) ≡ x
 refusal-back LentLength = refl
@@ -42,6 +45,7 @@ refusal-back OddPc = refl
 refusal-back StepCount = refl
 refusal-back InstructionPart = refl
 refusal-back LongFile = refl
+refusal-back ShortDestination = refl
 
 reading-of : Read → Reading
 reading-of (instruction i) = ReadInstruction i
@@ -76,6 +80,15 @@ unfolding verdict-of
 setting-back Done = refl
 setting-back (SetRefused r) = ap SetRefused (refusal-back r)
 
+saving-of : SaveReply → Saving
+saving-of (saved n) = Saved n
+saving-of (save-refused n) = SaveRefused (refusal-at n)
+
+saving-back : (x : Saving) → saving-of (shownSaving x) ≡ x
+unfolding saving-of
+saving-back (Saved n) = refl
+saving-back (SaveRefused r) = ap SaveRefused (refusal-back r)
+
 answer-of : RunReply → Answer
 answer-of (stopped q s k) = Stopped (record { stop = q; steps = s; entries = k })
 answer-of (run-refused n) = RunRefused (refusal-at n)
@@ -93,6 +106,7 @@ answers =
       reading = undone shownReading reading-of reading-back;
       writing = undone shownWriting writing-of writing-back;
       loading = undone shownLoading (verdict-of Accepted LoadRefused) loading-back;
+      saving = undone shownSaving saving-of saving-back;
       setting = undone shownSetting (verdict-of Done SetRefused) setting-back;
       answer = undone shownAnswer answer-of answer-back;
     }

@@ -7,6 +7,8 @@ exports =
     record {
       load-asks = λ κs a. tt;
       load = λ κs a r s. (λ h. h, λ h. h);
+      save-asks = λ κs a. tt;
+      save = λ κs a r s. (λ h. h, λ h. h);
       set-input-asks = λ κs a. tt;
       set-input = λ κs a r s. (λ h. h, λ h. h);
       run-by-rules-asks = λ κs a. tt;

@@ -14,6 +14,7 @@ pub mod Ranges
 pub mod Refusals
 pub mod Rules
 pub mod Runs
+pub mod Saved
 pub mod Session
 pub mod Shift
 pub mod Steps

@@ -11,6 +11,7 @@ use Rattle.machine.specs.declared.Setting.{Setting}
 use Rattle.machine.specs.Calls.{shownSetting}
 use Rattle.image.specs.declared.Loading.{Loading}
 use Rattle.image.specs.Image.{shownLoading}
+use Rattle.image.specs.Saved.{shownSaving}
 use Rattle.engine.specs.declared.Answer.{Answer}
 use Rattle.engine.specs.Runs.{shownAnswer}
 use Rattle.isa.specs.Sheet.{kindNumber}
@@ -25,5 +26,6 @@ pub record Answers : Type 0 where
   pub reading : Injective shownReading
   pub writing : Injective shownWriting
   pub loading : Injective shownLoading
+  pub saving : Injective shownSaving
   pub setting : Injective shownSetting
   pub answer : Injective shownAnswer

@@ -11,6 +11,7 @@ use Rattle.machine.specs.Run.{Stepper, byRules}
 use Rattle.machine.specs.Calls.{SetLeft, shownSetting, setLeft, windowOf}
 use Rattle.isa.specs.Instructions.{shownReading, readOf, shownWriting, writeOf}
 use Rattle.image.specs.Image.{LoadLeft, shownLoading, loadLeft}
+use Rattle.image.specs.Saved.{SaveLeft, shownSaving, saveLeft}
 use Rattle.control.specs.Control.{byControl, byTable}
 use Rattle.engine.specs.declared.Ran.{Ran}
 use Rattle.engine.specs.Runs.{given, left, shownAnswer, RunMeets}
@@ -20,6 +21,7 @@ use Rattle.isa.proofs.write.Reads as write
 use Rattle.machine.proofs.set_input.Reads as set-input
 use Rattle.machine.proofs.window.Reads as window
 use Rattle.image.proofs.load.Reads as load
+use Rattle.image.proofs.save.save.Reads as save
 use Rattle.engine.proofs.run_by_rules.Reads as run-by-rules
 use Rattle.engine.proofs.run_by_table.Reads as run-by-table
 use Rattle.engine.proofs.run_by_control.Reads as run-by-control
@@ -69,6 +71,14 @@ pub record Contracts : Type 1 where
         I = now (a .1 .1 .1 .0);
         O = now (a .1 .1 .1 .1 .0);
       })))
+  -- save(program, memory, destination)
+  pub save-asks : (κs : Lfts 3) (a : _) → save.Asked κs a
+  pub save :
+      (κs : Lfts 3) (a : _) (r : _) (s : _)
+      → save.Learnt κs a r s
+      ↔ (_≡_ {A = SaveLeft}
+      (record { reply = shownSaving r; P = now (s .0); D = now (s .1 .0); destination = now (s .1 .1 .0) })
+      (saveLeft (record { P = now (a .0); D = now (a .1 .0); destination = now (a .1 .1 .0) })))
   -- set_input(inputs, port, value)
   pub set-input-asks : (κs : Lfts 1) (a : _) → set-input.Asked κs a
   pub set-input :

@@ -12,8 +12,9 @@ use Rattle.isa.specs.Instructions.{readOf}
 use Rattle.control.specs.Control.{byTable}
 use Rattle.engine.specs.Runs.{given}
 use Rattle.sisa.specs.declared.SisaRun.{SisaRun}
-use Rattle.sisa.specs.Sisa.{SisaLoadLeft, sisaLoadLeft, SisaSetLeft, sisaSetLeft, sisaLeft, SisaRunMeets, sisaInstruction, sisaWrite, sisaWindow, chosen, bytesOf}
+use Rattle.sisa.specs.Sisa.{SisaLoadLeft, sisaLoadLeft, SisaSaveLeft, sisaSaveLeft, SisaSetLeft, sisaSetLeft, sisaLeft, SisaRunMeets, sisaInstruction, sisaWrite, sisaWindow, chosen, bytesOf}
 use Rattle.sisa.proofs.sisa_load.Reads as load
+use Rattle.sisa.proofs.sisa_save.Reads as save
 use Rattle.sisa.proofs.sisa_set_input.Reads as set-input
 use Rattle.sisa.proofs.sisa_run_by_rules.Reads as run-by-rules
 use Rattle.sisa.proofs.sisa_run_by_table.Reads as run-by-table
@@ -51,6 +52,14 @@ pub record Exports : Type 1 where
         I = now (a .1 .1 .1 .0);
         O = now (a .1 .1 .1 .1 .0);
       })))
+  -- sisa_save(program, memory, destination)
+  pub save-asks : (κs : Lfts 3) (a : _) → save.Asked κs a
+  pub save :
+      (κs : Lfts 3) (a : _) (r : _) (s : _)
+      → save.Learnt κs a r s
+      ↔ (_≡_ {A = SisaSaveLeft}
+      (record { reply = r; P = now (s .0); D = now (s .1 .0); destination = now (s .1 .1 .0) })
+      (sisaSaveLeft (record { P = now (a .0); D = now (a .1 .0); destination = now (a .1 .1 .0) })))
   -- sisa_set_input(inputs, port, value)
   pub set-input-asks : (κs : Lfts 1) (a : _) → set-input.Asked κs a
   pub set-input :

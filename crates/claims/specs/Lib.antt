@@ -8,5 +8,6 @@ pub mod Marked
 pub mod Refusals
 pub mod Rules
 pub mod Runs
+pub mod Saved
 pub mod Session
 pub mod Steps

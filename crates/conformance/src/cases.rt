@@ -1,5 +1,7 @@
-// A case: its load and its calls.
+// A case: its load, its calls and its saves.
 use crate::calls;
+use crate::saves;
+use machine::State;
 use player::file;
 use player::lent::Log;
 use player::lent::Memory;
@@ -35,7 +37,9 @@ fn load_file(
     load(c, &file[0..length], program, memory, inputs, outputs)
 }
 
-fn print_load(
+// The line of a load.
+pub fn print_load(
+    what: &[u8],
     c: u16,
     load: SisaLoad,
     program: &Memory,
@@ -44,28 +48,23 @@ fn print_load(
     outputs: &Ports,
     log: &Log,
 ) {
-    print::text(b"load");
+    print::text(what);
     print::field(c as u64);
     print::field(load.refusal as u64);
     print::left(load.state, program, memory, inputs, outputs, log);
 }
 
-// How many calls follow a load.
-fn call_count(refusal: u8) -> u16 {
-    if refusal == 0 { 16 } else { 0 }
-}
-
 fn play_calls(
     c: u16,
-    load: SisaLoad,
+    loaded: State,
     program: &Memory,
     memory: &mut Memory,
     inputs: &mut Ports,
     outputs: &mut Ports,
     log: &mut Log,
 ) {
-    let mut kept = load.state;
-    for i in 0..call_count(load.refusal) {
+    let mut kept = loaded;
+    for i in 0..16 {
         kept = calls::call(c, i, kept, program, memory, inputs, outputs, log);
     }
 }
@@ -79,6 +78,9 @@ pub fn play(
     log: &mut Log,
 ) {
     let load = load_file(c, program, memory, inputs, outputs);
-    print_load(c, load, program, memory, inputs, outputs, log);
-    play_calls(c, load, program, memory, inputs, outputs, log);
+    print_load(b"load", c, load, program, memory, inputs, outputs, log);
+    if load.refusal == 0 {
+        play_calls(c, load.state, program, memory, inputs, outputs, log);
+        saves::play(c, program, memory, inputs, outputs, log);
+    }
 }

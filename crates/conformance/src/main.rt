@@ -7,6 +7,7 @@ mod host;
 mod instructions;
 mod printed;
 mod runs;
+mod saves;
 
 fn main() {
     let mut program = [0u8; State::MEMORY_BYTES];

@@ -7,13 +7,13 @@ use mathlib.Core.List.{List}
 use native.Mathlib.Nat.{mul-le-mul-left}
 use lib.Dec.{leb, eqb}
 use lib.ListN.{length}
-use borrow.Author.Tests.{not-true, not-false, eqb-true, leb-true}
+use borrow.Author.Tests.{not-true, not-false, eqb-true, leb-true, le-leb}
 use Rattle.refusal.specs.Refusals.{accepted}
 use Rattle.word.proofs.Tests.{clash, passed}
 use Rattle.machine.specs.Calls.{lengthsFit}
 use Rattle.image.specs.declared.Part.{Part}
 use Rattle.image.specs.Parts.{programPart, dataPart}
-use Rattle.image.specs.Image.{W, programOffset, partsFit, inside, partsInside, LoadGiven, loadReply}
+use Rattle.image.specs.Image.{W, programOffset, C, dataOffset, partsFit, inside, partsInside, LoadGiven, loadReply}
 
 pub passes : {answer test : Bool} → answer ≡ test → not answer ≡ false → test ≡ true
 passes e h = sym e ∙ not-false _ h
@@ -63,3 +63,10 @@ fits g e =
       inputs = eqb-true _ _ (to-inputs .1);
       outputs = eqb-true _ _ (to-outputs .1);
     }
+
+-- where each test passes, the load is accepted
+pub no-refusal : (g : LoadGiven) → lengthsFit (g .P) (g .D) (g .I) (g .O) ≡ true → 16 ≤ length (g .file) → W (g .file) ≤ 32768 → C (g .file) ≤ 65536
+    → 16 ≤ programOffset (g .file) → programOffset (g .file) + 2 * W (g .file) ≤ length (g .file)
+    → 16 ≤ dataOffset (g .file) → dataOffset (g .file) + C (g .file) ≤ length (g .file) → accepted ≡ loadReply g
+unfolding loadReply
+no-refusal g l h w c p q d e = rw (l, le-leb _ _ h, le-leb _ _ w, le-leb _ _ c, le-leb _ _ p, le-leb _ _ q, le-leb _ _ d, le-leb _ _ e)

@@ -1,11 +1,12 @@
--- A part of a file stored at the front of a memory of zeros.
+-- A part of a file stored at the front of a memory of zeros, and bytes stored at a place of a memory.
 -- Assumes nothing.
 use Prim.Native.Nat.{ℕ, zero, suc, _+_, _-_, _≤_}
 use mathlib.Core.Path.{_≡_, _∙_}
-use mathlib.Core.List.{List, _++_}
+use mathlib.Core.List.{List, _++_, append-assoc}
 use native.Mathlib.Nat.{sub-zero, zero-sub, suc-sub-suc}
 use native.Mathlib.Omega.{arith}
 use lib.ListN.{length, take, drop, replicate, length-take, length-drop}
+use lib.Seq.{drop-drop}
 
 drop-replicate : (a k n : ℕ) → drop k (replicate n a) ≡ replicate (n - k) a
 drop-replicate a zero n = rw (sub-zero n)
@@ -26,3 +27,8 @@ module _ (file : List ℕ) (offset count : ℕ) where
   placed size p z =
       let e : offset + count - offset ≡ count = omega arith in
       rw (p, z, e, drop-replicate)
+
+-- bytes stored at a place of a memory
+pub stored-at : (memory source : List ℕ) (at count : ℕ) {new : List ℕ} → new ≡ take count source
+    → take at memory ++ (new ++ drop (at + count - at) (drop at memory)) ≡ take at memory ++ take count source ++ drop (at + count) memory
+stored-at memory source at count e = let n : at + (at + count - at) ≡ at + count = omega arith in rw (e, drop-drop, n, append-assoc)

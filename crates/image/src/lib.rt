@@ -1,4 +1,4 @@
-// Loading a trim file, called an image here.
+// Loading a trim file, called an image here; `save` writes one.
 ghost use mathlib.Core.Path.{_≡_};
 ghost use mathlib.Core.List.{_++_};
 ghost use Prim.Native.Nat.{_+_, _-_, _<_, _≤_};
@@ -9,6 +9,8 @@ ghost use Rattle.image.specs.Image.{number32, partsFit, inside, partsIns
 use bus::lengths_fit;
 use machine::State;
 use refusal::Refusal;
+
+pub mod save;
 
 pub enum Loading {
     Accepted,

@@ -1,7 +1,8 @@
--- The refusal table of 01: the number of each refusal, and the reply of a call that is accepted or refused with a number.
+-- The refusal table of 01 and the numbers that join it in 02: the number of each refusal, and the reply of a call that is
+-- accepted or refused with a number.
 use Prim.Native.Nat.{ℕ}
 use Rattle.refusal.specs.declared.Refusal.{Refusal}
-use Rattle.refusal.specs.declared.Refusal.the-variants.{LentLength, ShortFile, LargePart, PartOutside, OddPc, StepCount, InstructionPart, LongFile}
+use Rattle.refusal.specs.declared.Refusal.the-variants.{LentLength, ShortFile, LargePart, PartOutside, OddPc, StepCount, InstructionPart, LongFile, ShortDestination}
 
 abbrev pub refusalNumber : Refusal → ℕ
 -- P or D not 65,536 bytes, or I or O not 256 words (set looks at I only)
@@ -20,6 +21,8 @@ refusalNumber StepCount = 6
 refusalNumber InstructionPart = 7
 -- the program's file exceeds 65,536 bytes
 refusalNumber LongFile = 8
+-- destination shorter than the file (02, L1)
+refusalNumber ShortDestination = 9
 
 -- whether a call is accepted: it is, or it is refused with this number
 pub data Verdict : Type 0 where

@@ -1,4 +1,4 @@
-// The numbered refusals of paper 01's table; specs/Refusals.antt has the number and the condition of each.
+// The numbered refusals of 01's table and of 02; specs/Refusals.antt has the number and the condition of each.
 ghost use mathlib.Core.Path.{_≡_};
 ghost use Rattle.refusal.specs.Refusals.{refusalNumber};
 
@@ -11,6 +11,7 @@ pub enum Refusal {
     StepCount,
     InstructionPart,
     LongFile,
+    ShortDestination,
 }
 
 // The refusal's number in the table.
@@ -26,5 +27,6 @@ pub fn number(refusal: Refusal) -> u8
         Refusal::StepCount => 6,
         Refusal::InstructionPart => 7,
         Refusal::LongFile => 8,
+        Refusal::ShortDestination => 9,
     }
 }

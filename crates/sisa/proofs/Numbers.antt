@@ -15,11 +15,13 @@ use Rattle.machine.specs.declared.State.{State}
 use Rattle.machine.specs.Run.{Stepper}
 use Rattle.machine.specs.Calls.{SetGiven, SetLeft, setLeft}
 use Rattle.image.specs.Image.{LoadGiven, LoadLeft, loadLeft}
+use Rattle.image.specs.Saved.{SaveReply, SaveGiven, SaveLeft, saveLeft}
 use Rattle.engine.specs.Runs.{Given, left, RunReply, RunMeets}
 use Rattle.sisa.specs.declared.SisaLoad.{SisaLoad}
+use Rattle.sisa.specs.declared.SisaSaved.{SisaSaved}
 use Rattle.sisa.specs.declared.SisaRun.{SisaRun}
 use Rattle.sisa.specs.declared.SisaWord.{SisaWord}
-use Rattle.sisa.specs.Sisa.{sisaLoad, SisaLoadLeft, loadInNumbers, sisaLoadLeft, verdictNumber, SisaSetLeft, setInNumbers, sisaSetLeft, sisaRun, sisaLeft, runInNumbers, sisaRunLeft, SisaRunMeets, sisaWord, sisaWrite}
+use Rattle.sisa.specs.Sisa.{sisaLoad, SisaLoadLeft, loadInNumbers, sisaLoadLeft, sisaSaved, SisaSaveLeft, saveInNumbers, sisaSaveLeft, verdictNumber, SisaSetLeft, setInNumbers, sisaSetLeft, sisaRun, sisaLeft, runInNumbers, sisaRunLeft, SisaRunMeets, sisaWord, sisaWrite}
 
 pub load-meets : (g : LoadGiven) {reply : Verdict} {state : State} {P D I O : List ℕ} {r : SisaLoad}
     → _≡_ {A = LoadLeft} (record { reply = reply; state = state; P = P; D = D; I = I; O = O }) (loadLeft g)
@@ -27,6 +29,13 @@ pub load-meets : (g : LoadGiven) {reply : Verdict} {state : State} {P D I O : Li
     → _≡_ {A = SisaLoadLeft} (record { reply = r; P = P; D = D; I = I; O = O }) (sisaLoadLeft g)
 unfolding sisaLoadLeft
 load-meets g e h = rw h (ap loadInNumbers e)
+
+pub save-meets : (g : SaveGiven) {reply : SaveReply} {P D destination : List ℕ} {r : SisaSaved}
+    → _≡_ {A = SaveLeft} (record { reply = reply; P = P; D = D; destination = destination }) (saveLeft g)
+    → r ≡ sisaSaved reply
+    → _≡_ {A = SisaSaveLeft} (record { reply = r; P = P; D = D; destination = destination }) (sisaSaveLeft g)
+unfolding sisaSaveLeft
+save-meets g e h = rw h (ap saveInNumbers e)
 
 pub set-meets : (g : SetGiven) {reply : Verdict} {I : List ℕ} {r : ℕ}
     → _≡_ {A = SetLeft} (record { reply = reply; I = I }) (setLeft g)

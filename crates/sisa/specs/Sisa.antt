@@ -1,5 +1,5 @@
 -- What each function of include/sisa.h replies and leaves, of what it is given. The crates that do the work decide it
--- (`loadLeft`, `setLeft`, `runLeft`, `readOf`, `writeOf`, `windowOf`); here their replies become the numbers of the header's
+-- (`loadLeft`, `saveLeft`, `setLeft`, `runLeft`, `readOf`, `writeOf`, `windowOf`); here their replies become the numbers of the header's
 -- structs. A refusal of 0 is an accepted call; a field that a case does not speak of is 0.
 use Prim.Native.Nat.{ℕ, _+_}
 use mathlib.Core.Bool.{_&&_, not}
@@ -17,9 +17,11 @@ use Rattle.machine.specs.declared.State.{State}
 use Rattle.machine.specs.Run.{Stepper}
 use Rattle.machine.specs.Calls.{SetGiven, SetLeft, setLeft}
 use Rattle.image.specs.Image.{LoadGiven, LoadLeft, loadLeft}
+use Rattle.image.specs.Saved.{SaveReply, saved, refused as save-refused, SaveGiven, SaveLeft, saveLeft}
 use Rattle.control.specs.Control.{byTable}
 use Rattle.engine.specs.Runs.{Given, given, RunReply, stopped, refused as run-refused, Left, runLeft}
 use Rattle.sisa.specs.declared.SisaLoad.{SisaLoad}
+use Rattle.sisa.specs.declared.SisaSaved.{SisaSaved}
 use Rattle.sisa.specs.declared.SisaRun.{SisaRun}
 use Rattle.sisa.specs.declared.SisaAnswer.{SisaAnswer}
 use Rattle.sisa.specs.declared.SisaInstruction.{SisaInstruction}
@@ -48,6 +50,24 @@ loadInNumbers l = record { reply = sisaLoad (l .reply) (l .state); P = l .P; D =
 
 unfoldable pub sisaLoadLeft : LoadGiven → SisaLoadLeft
 sisaLoadLeft g = loadInNumbers (loadLeft g)
+
+-- ---- sisa_save
+
+abbrev pub sisaSaved : SaveReply → SisaSaved
+sisaSaved (saved n) = record { refusal = 0; length = n }
+sisaSaved (save-refused k) = record { refusal = k; length = 0 }
+
+pub record SisaSaveLeft : Type 0 where
+  pub reply : SisaSaved
+  pub P : List ℕ
+  pub D : List ℕ
+  pub destination : List ℕ
+
+abbrev pub saveInNumbers : SaveLeft → SisaSaveLeft
+saveInNumbers l = record { reply = sisaSaved (l .reply); P = l .P; D = l .D; destination = l .destination }
+
+unfoldable pub sisaSaveLeft : SaveGiven → SisaSaveLeft
+sisaSaveLeft g = saveInNumbers (saveLeft g)
 
 -- ---- sisa_set_input
 

@@ -8,7 +8,7 @@ ghost use Rattle.machine.specs.Calls.{windowOf};
 ghost use Rattle.control.specs.Control.{byTable};
 ghost use Rattle.engine.specs.Runs.{given};
 ghost use Rattle.isa.specs.Instructions.{readOf};
-ghost use Rattle.sisa.specs.Sisa.{SisaLoadLeft, sisaLoadLeft, SisaSetLeft, sisaSetLeft, sisaLeft, SisaRunMeets, sisaInstruction, sisaWrite, chosen, sisaWindow, bytesOf};
+ghost use Rattle.sisa.specs.Sisa.{SisaLoadLeft, sisaLoadLeft, SisaSaveLeft, sisaSaveLeft, SisaSetLeft, sisaSetLeft, sisaLeft, SisaRunMeets, sisaInstruction, sisaWrite, chosen, sisaWindow, bytesOf};
 use isa::Instruction;
 use machine::Port;
 use machine::State;
@@ -62,6 +62,12 @@ pub struct SisaWindow {
     pub count: usize,
 }
 
+#[repr(C)]
+pub struct SisaSaved {
+    pub refusal: u8,
+    pub length: usize,
+}
+
 #[no_mangle]
 pub extern "C" fn sisa_load(
     file: &[u8],
@@ -74,6 +80,14 @@ pub extern "C" fn sisa_load(
 {
     let loaded = image::load(file, program, memory, inputs, outputs);
     replies::load(loaded)
+}
+
+#[no_mangle]
+pub extern "C" fn sisa_save(program: &[u8], memory: &[u8], destination: &mut [u8]) -> SisaSaved
+    ensures { λ r. ⌜ _≡_ {A = SisaSaveLeft} (record { reply = r; P = now (program .exit); D = now (memory .exit); destination = now (destination .exit) }) (sisaSaveLeft (record { P = now (program .entry); D = now (memory .entry); destination = now (destination .entry) })) ⌝ }
+{
+    let saving = image::save::save(program, memory, destination);
+    replies::save(saving)
 }
 
 #[no_mangle]

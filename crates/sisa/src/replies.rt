@@ -1,18 +1,21 @@
 // The replies of the crates that do the work, in the numbers of include/sisa.h.
 ghost use mathlib.Core.Path.{_≡_};
 ghost use Rattle.image.specs.Image.{shownLoading};
+ghost use Rattle.image.specs.Saved.{shownSaving};
 ghost use Rattle.machine.specs.Calls.{shownSetting};
 ghost use Rattle.engine.specs.Runs.{shownAnswer};
 ghost use Rattle.isa.specs.Instructions.{shownReading, shownWriting};
-ghost use Rattle.sisa.specs.Sisa.{sisaLoad, verdictNumber, sisaRun, sisaInstruction, sisaWord};
+ghost use Rattle.sisa.specs.Sisa.{sisaLoad, sisaSaved, verdictNumber, sisaRun, sisaInstruction, sisaWord};
 use crate::SisaInstruction;
 use crate::SisaLoad;
 use crate::SisaRun;
+use crate::SisaSaved;
 use crate::SisaWord;
 use engine::Answer;
 use engine::Ran;
 use image::Loaded;
 use image::Loading;
+use image::save::Saving;
 use isa::Reading;
 use isa::Writing;
 use machine::Setting;
@@ -27,6 +30,18 @@ pub fn load(loaded: Loaded) -> SisaLoad
         Loading::Refused(refusal) => SisaLoad {
             state,
             refusal: refusal::number(refusal),
+        },
+    }
+}
+
+pub fn save(saving: Saving) -> SisaSaved
+    ensures { λ r. ⌜ r ≡ sisaSaved (shownSaving saving) ⌝ }
+{
+    match saving {
+        Saving::Saved(length) => SisaSaved { refusal: 0, length },
+        Saving::Refused(refusal) => SisaSaved {
+            refusal: refusal::number(refusal),
+            length: 0,
         },
     }
 }

@@ -5,6 +5,7 @@
 mod calls;
 mod files;
 mod host;
+mod saves;
 mod tables;
 
 pub use calls::lines;

@@ -1,5 +1,6 @@
-//! The SISA trim processor of paper 01 and the SISA reference sheet (004),
-//! written from those papers alone, to be compared with another build.
+//! The SISA trim processor of paper 01, the SISA reference sheet (004) and
+//! request L1 of paper 02, written from those papers alone, to be compared with
+//! another build.
 //!
 //! Sentences in quotation marks are paper 01's unless "sheet" is said.
 #![forbid(unsafe_code)]
@@ -12,5 +13,6 @@ pub mod machine;
 mod number;
 pub mod report;
 pub mod run;
+pub mod save;
 pub mod set;
 pub mod window;

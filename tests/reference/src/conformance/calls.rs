@@ -28,7 +28,7 @@ pub fn lines() -> Vec<String> {
 }
 
 impl Host {
-    /// Case c: its load and, where that is accepted, its calls.
+    /// Case c: its load and, where that is accepted, its calls and saves.
     fn case(&mut self, c: u64) -> Vec<String> {
         let memory = match number(c, 4) % 8 {
             0 => 65_535,
@@ -38,6 +38,7 @@ impl Host {
         let mut lines = vec![format!("load {c} {refusal} {}", self.digest(self.kept))];
         if refusal == 0 {
             lines.extend((0..CALLS).map(|i| self.call(Call { c, i })));
+            lines.extend(self.saves(c));
         }
         lines
     }

@@ -1,6 +1,7 @@
 //! "The file of case c"
 
 use super::number;
+use crate::save::file_of;
 
 /// "W = 1 + number(c, 0) mod 200, C = number(c, 1) mod 300."
 fn sizes(c: u64) -> (u64, u64) {
@@ -19,15 +20,14 @@ fn program_word(c: u64, j: u64) -> u16 {
 /// The file of case c before the damage, without the buffer's rest.
 pub fn undamaged(c: u64) -> Vec<u8> {
     let (w, data) = sizes(c);
-    // "Its header is W, 16, C, 16 + 2·W"
-    let header = [w, 16, data, 16 + 2 * w];
-    let mut file: Vec<u8> = header
-        .iter()
-        .flat_map(|&x| (x as u32).to_le_bytes())
+    let program: Vec<u8> = (0..w)
+        .flat_map(|j| program_word(c, j).to_le_bytes())
         .collect();
-    file.extend((0..w).flat_map(|j| program_word(c, j).to_le_bytes()));
-    file.extend((0..data).map(|j| (number(c, 3_000 + j) % 256) as u8));
-    file
+    let data: Vec<u8> = (0..data)
+        .map(|j| (number(c, 3_000 + j) % 256) as u8)
+        .collect();
+    // "Its header is W, 16, C, 16 + 2·W"
+    file_of(&program, &data)
 }
 
 /// The file of case c, "as many as the length" of the buffer's bytes.

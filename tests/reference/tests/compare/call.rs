@@ -1,19 +1,20 @@
 //! One call, made of the reference and of the library.
 
 use crate::ffi::{self, Lent};
-use crate::world::{Lengths, World};
+use crate::world::{first, Lengths, World, GUARD};
 use reference::load::load;
 use reference::machine::State;
 use reference::run::{host_step, run, Engine, Reply};
+use reference::save::save;
 use reference::set::set;
 use reference::window::{window, Memory};
 use std::fmt;
 
-/// A trim file, printed in hexadecimal.
-#[derive(Clone)]
-pub struct File(pub Vec<u8>);
+/// A trim file or a destination, printed in hexadecimal.
+#[derive(Clone, PartialEq, Eq)]
+pub struct Bytes(pub Vec<u8>);
 
-impl fmt::Debug for File {
+impl fmt::Debug for Bytes {
     fn fmt(&self, f: &mut fmt::Formatter) -> fmt::Result {
         write!(f, "{} bytes ", self.0.len())?;
         self.0
@@ -26,22 +27,26 @@ impl fmt::Debug for File {
 
 #[derive(Clone, Debug)]
 pub enum Call {
-    Load(File),
+    Load(Bytes),
     Set(u8, u16),
     /// The library knows the paper's table only.
     Run(Engine<'static>, State, u32),
     HostStep(State),
     Window(u8, usize, usize),
+    /// Into these bytes, but for the guards before and after.
+    Save(Bytes),
 }
 
 /// A reply in the header's types.
-#[derive(Clone, Copy, Debug, PartialEq, Eq)]
+#[derive(Debug, PartialEq, Eq)]
 pub enum Answer {
     Load(ffi::Load),
     Set(u8),
     Run(ffi::Run),
     HostStep(ffi::State, ffi::Answer),
     Window(ffi::Window),
+    /// And all bytes as the call left them.
+    Save(ffi::Saved, Bytes),
 }
 
 impl Answer {
@@ -52,6 +57,7 @@ impl Answer {
             Answer::Run(run) => run.refusal,
             Answer::HostStep(_, answer) => answer.refusal,
             Answer::Window(_) => 0,
+            Answer::Save(saved, _) => saved.refusal,
         }
     }
 }
@@ -111,6 +117,20 @@ pub fn header_window(
     }
 }
 
+/// The answer of a save into these bytes.
+fn saved_into(bytes: &Bytes, save: impl FnOnce(&mut [u8]) -> ffi::Saved) -> Answer {
+    let mut left = bytes.clone();
+    let end = left.0.len() - GUARD;
+    Answer::Save(save(&mut left.0[GUARD..end]), left)
+}
+
+fn header_saved(saved: Result<usize, u8>) -> ffi::Saved {
+    ffi::Saved {
+        refusal: saved.err().unwrap_or(0),
+        length: saved.unwrap_or(0),
+    }
+}
+
 pub fn of_reference(call: &Call, lent: &mut Lent) -> Answer {
     let (p, d, i, o) = (
         &mut *lent.program,
@@ -145,6 +165,7 @@ pub fn of_reference(call: &Call, lent: &mut Lent) -> Answer {
         Call::Window(of_data, start, count) => {
             Answer::Window(header_window(p, d, of_data, start, count))
         }
+        Call::Save(ref bytes) => saved_into(bytes, |to| header_saved(save(p, d, to))),
     }
 }
 
@@ -167,7 +188,19 @@ pub fn of_library(call: &Call, lent: &mut Lent) -> Answer {
             let (program, memory) = (&*lent.program, &*lent.memory);
             Answer::Window(ffi::window(program, memory, of_data, start, count))
         }
+        Call::Save(ref bytes) => saved_into(bytes, |to| ffi::save(lent.program, lent.memory, to)),
     }
+}
+
+/// The first byte of a destination that differs, else both answers.
+fn difference(expected: &Answer, found: &Answer) -> String {
+    let byte = match (expected, found) {
+        (Answer::Save(ours, Bytes(left)), Answer::Save(theirs, Bytes(other))) if ours == theirs => {
+            first("destination byte", left, other)
+        }
+        _ => None,
+    };
+    byte.unwrap_or_else(|| format!("reply:\n  {expected:?}\n  {found:?}"))
 }
 
 /// The reference's side, the library's, and what was before the call.
@@ -187,11 +220,10 @@ impl Sides {
         }
     }
 
-    /// Puts a word into the program of both sides.
-    pub fn put_word(&mut self, at: u16, w: u16) {
+    /// Changes what both sides lend.
+    pub fn change(&mut self, change: impl Fn(Lent)) {
         for world in [&mut self.reference, &mut self.library] {
-            let program = world.lend(&Lengths::right(0)).program;
-            program[usize::from(at)..][..2].copy_from_slice(&w.to_le_bytes());
+            change(world.lend(&Lengths::right(0)));
         }
     }
 
@@ -202,19 +234,28 @@ impl Sides {
         let expected = of_reference(call, &mut self.reference.lend(lengths));
         let found = of_library(&lent_to_library, &mut self.library.lend(lengths));
         if expected != found {
-            return Err(format!("reply:\n  {expected:?}\n  {found:?}"));
+            return Err(difference(&expected, &found));
         }
         if let Some(difference) = self.reference.difference(&self.library) {
             return Err(difference);
         }
-        if expected.refusal() != 0 && self.before != self.reference {
+        if expected.refusal() != 0 && self.changed(call, &expected) {
             return Err("a refused call changed what was lent".to_string());
         }
-        if let (Call::Load(File(ours)), Call::Load(File(theirs))) = (call, &lent_to_library) {
+        if let (Call::Load(Bytes(ours)), Call::Load(Bytes(theirs))) = (call, &lent_to_library) {
             if ours != theirs {
                 return Err("the library changed the file".to_string());
             }
         }
         Ok(expected)
+    }
+
+    /// Whether the call changed anything lent.
+    fn changed(&self, call: &Call, answer: &Answer) -> bool {
+        let destination = match (call, answer) {
+            (Call::Save(before), Answer::Save(_, left)) => before != left,
+            _ => false,
+        };
+        destination || self.before != self.reference
     }
 }

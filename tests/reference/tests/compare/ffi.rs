@@ -73,6 +73,14 @@ pub struct Window {
     pub count: usize,
 }
 
+/// `SisaSaved`
+#[repr(C)]
+#[derive(Clone, Copy, Debug, PartialEq, Eq)]
+pub struct Saved {
+    pub refusal: u8,
+    pub length: usize,
+}
+
 /// What a call is lent.
 pub struct Lent<'a> {
     pub program: &'a mut [u8],
@@ -165,6 +173,14 @@ extern "C" {
         start: usize,
         count: usize,
     ) -> Window;
+    fn sisa_save(
+        program: *const u8,
+        program_len: usize,
+        memory: *const u8,
+        memory_len: usize,
+        destination: *mut u8,
+        destination_len: usize,
+    ) -> Saved;
 }
 
 pub fn load(file: &[u8], lent: &mut Lent) -> Load {
@@ -260,6 +276,20 @@ pub fn window(program: &[u8], memory: &[u8], of_data: u8, start: usize, count: u
             of_data,
             start,
             count,
+        )
+    }
+}
+
+pub fn save(program: &[u8], memory: &[u8], destination: &mut [u8]) -> Saved {
+    // SAFETY: pointers and lengths are those of slices that don't overlap.
+    unsafe {
+        sisa_save(
+            program.as_ptr(),
+            program.len(),
+            memory.as_ptr(),
+            memory.len(),
+            destination.as_mut_ptr(),
+            destination.len(),
         )
     }
 }

@@ -1,6 +1,6 @@
 //! Long lists of calls, every one compared.
 
-use crate::call::{of_reference, Answer, Call, File, Sides};
+use crate::call::{of_reference, Answer, Bytes, Call, Sides};
 use crate::ffi;
 use crate::make;
 use crate::random::Random;
@@ -50,7 +50,7 @@ struct List {
     /// The last run took no step before an unassigned word.
     stuck: bool,
     /// The file last loaded.
-    loaded: Option<File>,
+    loaded: Option<Bytes>,
 }
 
 impl List {
@@ -88,7 +88,7 @@ impl List {
         let lengths = make::lengths(random);
         // Without a load the memories are the case's random ones.
         if self.sort == Sort::Kept && at == 0 {
-            return (Call::Load(File(make::file(random))), Lengths::right(0));
+            return (Call::Load(Bytes(make::file(random))), Lengths::right(0));
         }
         let load = self.sort == Sort::Loads || (self.stuck && random.below(3) == 0);
         let call = match random.below(40) {
@@ -97,6 +97,7 @@ impl List {
             1..=4 => Call::Set(make::port(random), random.value()),
             5 | 6 => self.window(&lengths),
             7..=12 => Call::HostStep(self.handed(1)),
+            13 => self.save(&lengths),
             k => {
                 let engine = if k % 2 == 0 {
                     Engine::Rules
@@ -111,7 +112,7 @@ impl List {
 
     fn load(&mut self) -> Call {
         let random = &mut self.random;
-        Call::Load(File(match random.below(2) {
+        Call::Load(Bytes(match random.below(2) {
             0 => make::file(random),
             _ => make::damaged_file(random),
         }))
@@ -125,6 +126,14 @@ impl List {
             start,
             count,
         )
+    }
+
+    fn save(&mut self, lengths: &Lengths) -> Call {
+        let lent = self.sides.reference.lend(lengths);
+        let length = make::saved_length(lent.program, lent.memory);
+        let edges = [0, length - 1, length, length, length + 1, length + 300];
+        let length = make::one_of(&mut self.random, &edges);
+        Call::Save(make::destination(&mut self.random, length))
     }
 
     fn run(&mut self, engine: Engine<'static>, lengths: &Lengths) -> Call {

@@ -9,6 +9,7 @@ mod lists;
 mod make;
 #[path = "../shared/random.rs"]
 mod random;
+mod saves;
 mod steps;
 mod tally;
 mod windows;

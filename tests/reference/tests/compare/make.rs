@@ -1,8 +1,10 @@
 //! Random files, states, budgets and lengths, edges more often than by chance.
 
+use crate::call::Bytes;
 use crate::random::Random;
-use crate::world::{Lengths, LOG};
+use crate::world::{Lengths, GUARD, LOG};
 use reference::machine::State;
+use reference::save::save;
 
 pub fn one_of<T: Copy>(random: &mut Random, choice: &[T]) -> T {
     choice[random.below(choice.len() as u64) as usize]
@@ -206,4 +208,16 @@ pub fn window_number(random: &mut Random, program: usize, memory: usize) -> usiz
         2 => random.below(40) as usize,
         _ => usize::MAX - one_of(random, &[0, 1, length, length / 2, usize::MAX / 2]),
     }
+}
+
+/// The length of the file that these memories are saved as; 16 where they
+/// aren't memories.
+pub fn saved_length(program: &[u8], memory: &[u8]) -> usize {
+    save(program, memory, &mut [0; 131_088]).unwrap_or(16)
+}
+
+/// A destination of this length, with its guards.
+pub fn destination(random: &mut Random, length: usize) -> Bytes {
+    let count = length + 2 * GUARD;
+    Bytes(random_bytes(random, count as u64))
 }

@@ -39,7 +39,10 @@ fn one_step_of_every_word() {
                 1 => Call::Run(Engine::PAPER_TABLE, state, 1),
                 _ => Call::HostStep(state),
             };
-            sides.put_word(state.pc, w);
+            sides.change(|lent| {
+                let at = usize::from(state.pc);
+                lent.program[at..at + 2].copy_from_slice(&w.to_le_bytes());
+            });
             calls += 1;
             steps += match sides.call(&call, &Lengths::right(1)) {
                 Ok(Answer::Run(run)) => run.steps,

@@ -23,6 +23,7 @@ impl Tally {
             Call::Run(Engine::Table(_), ..) => "table",
             Call::HostStep(_) => "host",
             Call::Window(..) => "window",
+            Call::Save(_) => "save",
         };
         let mut outcome = match answer.refusal() {
             0 => "accepted".to_string(),
@@ -71,6 +72,7 @@ impl Tally {
             ("table", &of_runs),
             ("host", &of_runs),
             ("window", &["part", "empty"]),
+            ("save", &["accepted", "refused 1", "refused 9"]),
         ] {
             for outcome in outcomes {
                 let key = (export, outcome.to_string());

@@ -8,7 +8,7 @@ use crate::random::Random;
 pub const LOG: usize = 600;
 
 /// Elements before and after what is lent, which no call may touch.
-const GUARD: usize = 16;
+pub const GUARD: usize = 16;
 
 /// How much of each is lent; 65,536 and 256 are right.
 #[derive(Clone, Copy, Debug)]
@@ -82,7 +82,8 @@ impl World {
     }
 }
 
-fn first<T: PartialEq + Copy + std::fmt::LowerHex>(
+/// The first place, counted from after the guard, where they differ.
+pub fn first<T: PartialEq + Copy + std::fmt::LowerHex>(
     what: &str,
     ours: &[T],
     theirs: &[T],

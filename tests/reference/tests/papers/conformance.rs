@@ -98,6 +98,38 @@ fn first_line_by_a_table() {
     assert_eq!(table_lines()[0], expected);
 }
 
+/// The digest of the buffer of save s whose first bytes became the file's.
+fn destination(s: usize, file: &[u8]) -> u64 {
+    let mut digest = Digest::default();
+    for j in 0..131_088 {
+        let byte = file.get(j).copied().unwrap_or(((j + s) % 253) as u8);
+        digest.take(byte.into());
+    }
+    digest.value()
+}
+
+#[test]
+fn saves_of_case_1() {
+    let lines = lines();
+    let load = lines.iter().position(|line| line.starts_with("load 1 "));
+    let of_case: Vec<&str> = lines[load.unwrap()..][..22]
+        .iter()
+        .map(String::as_str)
+        .collect();
+    // Its calls change neither memory nor log, and neither part of its file
+    // ends in zeros.
+    let file = file(1);
+    let length = file.len();
+    let expected = [
+        format!("save 1 0 0 {length} {}", destination(0, &file)),
+        format!("save 1 1 0 {length} {}", destination(1, &file)),
+        of_case[0].replace("load", "again"),
+        format!("save 1 2 9 0 {}", destination(2, &[])),
+        format!("save 1 3 1 0 {}", destination(3, &[])),
+    ];
+    assert_eq!(of_case[17..], expected);
+}
+
 /// How many lines begin with these words; `*` is any word.
 fn count(lines: &[String], words: &str) -> usize {
     let alike = |line: &&String| {
@@ -135,6 +167,14 @@ fn every_refusal_and_stop_reason_occurs() {
         let start = format!("instruction * * {assigned} * * * * *");
         occur(&lines, &start, &["0", "7"]);
     }
+    // By s, in every case whose load was accepted.
+    let accepted = count(&lines, "load * 0");
+    assert_eq!(count(&lines, "save"), 4 * accepted);
+    for ending in ["0 0", "1 0", "2 9 0", "3 1 0"] {
+        assert_eq!(count(&lines, &format!("save * {ending}")), accepted);
+    }
+    assert_eq!(count(&lines, "again"), accepted);
+    assert_eq!(count(&lines, "again * 0"), accepted);
     occur(&lines, "refused", &["2", "3", "4", "8"]);
     occur(&lines, "run", &["0", "1", "2"]);
 }

@@ -11,6 +11,7 @@ mod random;
 mod refusals;
 mod rules;
 mod runs;
+mod saves;
 mod slips;
 mod tables;
 mod words;

@@ -9,12 +9,12 @@ use reference::set::set;
 use reference::window::{window, Memory};
 
 /// A board full of noise, so that a change would show.
-fn noisy() -> Board {
+pub fn noisy() -> Board {
     Board::random(&mut Random::new(0x5EED_0001))
 }
 
 /// The load's answer on a noisy board, which a refusal must leave as it was.
-fn answer(bytes: &[u8]) -> Result<Board, u8> {
+pub fn answer(bytes: &[u8]) -> Result<Board, u8> {
     let mut board = noisy();
     let before = board.clone();
     match load(
@@ -112,7 +112,7 @@ fn load_4_for_empty_parts() {
 }
 
 /// Lengths around the right one.
-fn lengths(right: usize) -> [usize; 6] {
+pub fn lengths(right: usize) -> [usize; 6] {
     [0, 1, right - 1, right, right + 1, 2 * right]
 }
 

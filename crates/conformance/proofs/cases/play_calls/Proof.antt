@@ -9,9 +9,8 @@ pub play-calls-spec : {M : Type 1} → statement M
 play-calls-spec =
     tie.close
     (tie.spec
-    (λ _ _ _ _ _ _ _ _ _ _ _ _ _ _ _. Unit {0})
-    (λ _ _ _ _ _ _ _ _ i-end _ _ _ _ _ i. i-end - i)
-    (λ c κs. tt)
+    (λ _ _ _ _ _ _ _ _ _ _ _ _ _ _. Unit {0})
+    (λ _ _ _ _ _ _ _ _ _ _ _ _ _ i. 16 - i)
     (λ c. tt)
     (λ c κs. tt)
     (λ c. omega arith)

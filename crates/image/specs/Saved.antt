@@ -1,0 +1,84 @@
+-- Saving a trim file from the panel (02, L1).
+use Prim.Native.Nat.{ℕ, zero, suc, _+_, _*_, _/_, _%_}
+use mathlib.Core.Bool.{Bool, _&&_}
+use mathlib.Core.List.{List, [], _∷_, _++_}
+use lib.Dec.{eqb, leb}
+use lib.ListN.{length, getD, take, drop}
+use Rattle.refusal.specs.Refusals.{refusalNumber}
+use Rattle.word.specs.Word.{pick}
+use Rattle.machine.specs.Machine.{wordAt}
+use Rattle.image.specs.declared.save.Saving.{Saving}
+use Rattle.image.specs.declared.save.Saving.the-variants.{Saved, Refused}
+
+-- ---- The file
+
+-- how many of the first n elements are kept when trailing zeros are dropped
+unfoldable pub kept : (ℕ → ℕ) → ℕ → ℕ
+kept element zero = 0
+kept element (suc n) = pick (eqb (element n) 0) (kept element n) (suc n)
+
+-- W and C of the file: trailing zero words of the program and trailing zero bytes of the data are dropped.
+abbrev pub wordsKept : List ℕ → ℕ
+wordsKept P = kept (λ k. wordAt P (2 * k)) (length P / 2)
+
+abbrev pub bytesKept : List ℕ → ℕ
+bytesKept D = kept (λ k. getD D k 0) (length D)
+
+-- a 32-bit little-endian number
+abbrev pub bytes32 : ℕ → List ℕ
+bytes32 v = v % 256 ∷ v / 256 % 256 ∷ v / 65536 % 256 ∷ v / 16777216 % 256 ∷ []
+
+-- Header (01): W program words, their offset, C data bytes, their offset. The program is at offset 16, the data straight
+-- after it.
+abbrev pub header : ℕ → ℕ → List ℕ
+header w c = bytes32 w ++ bytes32 16 ++ bytes32 c ++ bytes32 (16 + 2 * w)
+
+-- the file of the first w words of P and the first c bytes of D
+abbrev pub fileOf : ℕ → ℕ → List ℕ → List ℕ → List ℕ
+fileOf w c P D = header w c ++ take (2 * w) P ++ take c D
+
+-- Write a trim file from program and data memory.
+unfoldable pub savedFile : List ℕ → List ℕ → List ℕ
+savedFile P D = fileOf (wordsKept P) (bytesKept D) P D
+
+-- ---- The call
+
+-- the file's length, or the number of the refusal
+pub data SaveReply : Type 0 where
+  saved : ℕ → SaveReply
+  refused : ℕ → SaveReply
+
+abbrev pub shownSaving : Saving → SaveReply
+shownSaving (Saved n) = saved n
+shownSaving (Refused r) = refused (refusalNumber r)
+
+pub record SaveGiven : Type 0 where
+  pub P : List ℕ
+  pub D : List ℕ
+  pub destination : List ℕ
+
+pub record SaveLeft : Type 0 where
+  pub reply : SaveReply
+  pub P : List ℕ
+  pub D : List ℕ
+  pub destination : List ℕ
+
+-- refusal 1, P or D not 65,536 bytes, is where this fails
+abbrev pub memoriesFit : List ℕ → List ℕ → Bool
+memoriesFit P D = eqb (length P) 65536 && eqb (length D) 65536
+
+-- Turned away: 9, destination shorter than the file, after 1. Otherwise the file's length is returned.
+unfoldable pub saveReply : SaveGiven → SaveReply
+saveReply g =
+    let size = length (savedFile (g .P) (g .D)) in
+    pick (memoriesFit (g .P) (g .D)) (pick (leb size (length (g .destination))) (saved size) (refused 9)) (refused 1)
+
+-- The destination begins with the file, and its unused end keeps its bytes. Nothing else lent changes, and in a refused
+-- call nothing does.
+abbrev pub leftBy : SaveReply → SaveGiven → SaveLeft
+leftBy (saved n) g =
+    record { reply = saved n; P = g .P; D = g .D; destination = savedFile (g .P) (g .D) ++ drop n (g .destination) }
+leftBy (refused k) g = record { reply = refused k; P = g .P; D = g .D; destination = g .destination }
+
+unfoldable pub saveLeft : SaveGiven → SaveLeft
+saveLeft g = leftBy (saveReply g) g

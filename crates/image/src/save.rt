@@ -1,0 +1,133 @@
+// Saving a trim file from program and data memory.
+ghost use mathlib.Core.Path.{_≡_};
+ghost use mathlib.Core.List.{_++_};
+ghost use Prim.Native.Nat.{_+_, _*_, _<_, _≤_};
+ghost use lib.Dec.{eqb};
+ghost use lib.ListN.{length, getD, take, drop};
+ghost use Rattle.image.specs.Saved.{kept, wordsKept, bytesKept, header, fileOf, SaveLeft, shownSaving, saveLeft};
+use crate::HEADER_BYTES;
+use crate::copy;
+use machine::State;
+use refusal::Refusal;
+
+pub enum Saving {
+    Saved(usize),
+    Refused(Refusal),
+}
+
+// Trailing zeros are dropped block by block, then byte by byte.
+const BLOCK: usize = 64;
+
+// Every byte is tested: without an early return the test of a block takes a few instructions.
+fn all_zero(bytes: &[u8]) -> bool
+    ensures { λ r. ⌜ r ≡ eqb (bytesKept (now (bytes .entry))) 0 ⌝ }
+{
+    let mut zero = true;
+    let mut i = 0;
+    while i < bytes.len() {
+        zero = zero & (bytes[i] == 0);
+        i += 1;
+    }
+    zero
+}
+
+// How many of the first n bytes are kept when trailing zeros are dropped.
+fn kept_below(bytes: &[u8], n: usize) -> usize
+    requires { ⌜ n ≤ length (now bytes) ⌝ }
+    ensures { λ r. ⌜ r ≡ kept (λ k. getD (now (bytes .entry)) k 0) n ⌝ }
+{
+    let mut end = n;
+    while 0 < end {
+        if bytes[end - 1] != 0 {
+            return end;
+        }
+        end -= 1;
+    }
+    end
+}
+
+fn bytes_kept(bytes: &[u8]) -> usize
+    ensures { λ r. ⌜ (r ≡ bytesKept (now (bytes .entry))) × (r ≤ length (now (bytes .entry))) ⌝ }
+{
+    let mut end = bytes.len();
+    while BLOCK <= end {
+        let start = end - BLOCK;
+        if !all_zero(&bytes[start..end]) {
+            break;
+        }
+        end = start;
+    }
+    kept_below(bytes, end)
+}
+
+// A word is zero where both its bytes are.
+fn words_kept(program: &[u8]) -> usize
+    requires { ⌜ length (now program) ≡ 65536 ⌝ }
+    ensures { λ r. ⌜ (r ≡ wordsKept (now (program .entry))) × (r ≤ 32768) ⌝ }
+{
+    (bytes_kept(program) + 1) / 2
+}
+
+fn header(words: usize, bytes: usize) -> [u8; 16]
+    requires { ⌜ words ≤ 32768 ⌝ }
+    ensures { λ r. ⌜ r ≡ header words bytes ⌝ }
+{
+    let offset = HEADER_BYTES + 2 * words;
+    [
+        (words % 256) as u8,
+        (words / 256 % 256) as u8,
+        (words / 65536 % 256) as u8,
+        (words / 16777216 % 256) as u8,
+        16,
+        0,
+        0,
+        0,
+        (bytes % 256) as u8,
+        (bytes / 256 % 256) as u8,
+        (bytes / 65536 % 256) as u8,
+        (bytes / 16777216 % 256) as u8,
+        (offset % 256) as u8,
+        (offset / 256 % 256) as u8,
+        (offset / 65536 % 256) as u8,
+        (offset / 16777216 % 256) as u8,
+    ]
+}
+
+// The first `count` bytes of the source, in the target from `at` on; its other bytes stay.
+fn put_at(source: &[u8], count: usize, target: &mut [u8], at: usize)
+    requires { ⌜ (count ≤ length (now source)) × (at + count ≤ length (now target)) ⌝ }
+    ensures { λ _. ⌜ now (target .exit) ≡ take at (now (target .entry)) ++ take count (now (source .entry)) ++ drop (at + count) (now (target .entry)) ⌝ }
+{
+    let end = at + count;
+    copy(&source[..count], &mut target[at..end]);
+}
+
+// The file of so many words and bytes, at the front of the destination.
+fn write(program: &[u8], memory: &[u8], words: usize, bytes: usize, destination: &mut [u8])
+    requires { ⌜ (words ≤ 32768) × (2 * words ≤ length (now program)) × (bytes ≤ length (now memory)) × (16 + 2 * words + bytes ≤ length (now destination)) ⌝ }
+    ensures { λ _. ⌜ now (destination .exit) ≡ fileOf words bytes (now (program .entry)) (now (memory .entry)) ++ drop (16 + 2 * words + bytes) (now (destination .entry)) ⌝ }
+{
+    put_at(&header(words, bytes), HEADER_BYTES, destination, 0);
+    put_at(program, 2 * words, destination, HEADER_BYTES);
+    put_at(memory, bytes, destination, HEADER_BYTES + 2 * words);
+}
+
+// The trim file of both memories, without trailing zeros, at the front of the destination; its unused end keeps its bytes.
+pub fn save(program: &[u8], memory: &[u8], destination: &mut [u8]) -> Saving
+    ensures { λ r. ⌜ _≡_ {A = SaveLeft} (record { reply = shownSaving r; P = now (program .exit); D = now (memory .exit); destination = now (destination .exit) }) (saveLeft (record { P = now (program .entry); D = now (memory .entry); destination = now (destination .entry) })) ⌝ }
+{
+    if program.len() != State::MEMORY_BYTES {
+        return Saving::Refused(Refusal::LentLength);
+    }
+    if memory.len() != State::MEMORY_BYTES {
+        return Saving::Refused(Refusal::LentLength);
+    }
+    let words = words_kept(program);
+    let bytes = bytes_kept(memory);
+    let end = HEADER_BYTES + 2 * words + bytes;
+    if destination.len() < end {
+        return Saving::Refused(Refusal::ShortDestination);
+    }
+    write(program, memory, words, bytes, destination);
+    Saving::Saved(end)
+}

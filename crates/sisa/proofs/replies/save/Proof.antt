@@ -1,0 +1,18 @@
+-- By the case of the enum.
+-- Assumes nothing.
+use mathlib.Core.Path.{sym, ap}
+use borrow.Author.Needs.{needs}
+use Rattle.image.specs.declared.save.Saving.{Saving}
+use Rattle.image.specs.Saved.{shownSaving}
+use Rattle.sisa.specs.Sisa.{sisaSaved}
+use Rattle.sisa.proofs.replies.save.Statement.{statement}
+use Rattle.sisa.proofs.replies.save.Tie as tie
+
+returns : tie.Need-returns
+returns c = sym (ap (λ (x : Saving). sisaSaved (shownSaving x)) (c .before .saving .given .1))
+
+returns-2 : tie.Need-returns-2
+returns-2 c = rw (c .number .ensures) (sym (ap (λ (x : Saving). sisaSaved (shownSaving x)) (c .before .before .saving2 .given .1)))
+
+pub save-spec : {M : Type 1} → statement M
+save-spec = tie.close (tie.spec (λ c. search needs) (λ c. search needs) (λ c κs. search needs) returns returns-2)

@@ -1,0 +1,48 @@
+//! "Saves"
+
+use super::host::Host;
+use super::Digest;
+use crate::machine::MEMORY;
+use crate::save::save;
+
+/// "a buffer of 131,088 bytes"
+const BUFFER: usize = 131_088;
+
+/// "four times"
+const SAVES: usize = 4;
+
+impl Host {
+    /// The saves of case c, and the load of the file of s = 1.
+    pub fn saves(&mut self, c: u64) -> Vec<String> {
+        let mut lines = Vec::new();
+        // "what the save of s = 0 replied"
+        let mut length = 0;
+        for s in 0..SAVES {
+            let (lent, memory) = match s {
+                0 => (BUFFER, MEMORY),
+                1 => (length, MEMORY),
+                2 => (length - 1, MEMORY),
+                _ => (BUFFER, 65_535),
+            };
+            // "made anew before each save"
+            let mut buffer: Vec<u8> = (0..BUFFER).map(|j| ((j + s) % 253) as u8).collect();
+            let saved = save(&self.program, &self.memory[..memory], &mut buffer[..lent]);
+            let (refusal, replied) = (saved.err().unwrap_or(0), saved.unwrap_or(0));
+            let mut digest = Digest::default();
+            digest.take_all(&buffer);
+            lines.push(format!(
+                "save {c} {s} {refusal} {replied} {}",
+                digest.value()
+            ));
+            if s == 0 {
+                length = replied;
+            }
+            // "its file, the destination lent, is loaded"
+            if s == 1 {
+                let refusal = self.load(&buffer[..lent], MEMORY);
+                lines.push(format!("again {c} {refusal} {}", self.digest(self.kept)));
+            }
+        }
+        lines
+    }
+}

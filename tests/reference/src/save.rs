@@ -1,0 +1,42 @@
+//! Saving a trim file, as document 02's request L1 says.
+//!
+//! Sentences in quotation marks are that request's.
+
+use crate::machine::MEMORY;
+
+/// A file of these parts: "program at offset 16, data straight after it".
+pub fn file_of(program: &[u8], data: &[u8]) -> Vec<u8> {
+    let header = [program.len() / 2, 16, data.len(), 16 + program.len()];
+    let mut file: Vec<u8> = header
+        .iter()
+        .flat_map(|&x| (x as u32).to_le_bytes())
+        .collect();
+    file.extend(program);
+    file.extend(data);
+    file
+}
+
+/// The memory without its trailing zero parts of `size` bytes.
+fn trimmed(memory: &[u8], size: usize) -> &[u8] {
+    let zero = |part: &&[u8]| part.iter().all(|&byte| byte == 0);
+    let dropped = memory.rchunks(size).take_while(zero).count();
+    &memory[..memory.len() - size * dropped]
+}
+
+/// "Write a trim file from program and data memory and return its length", or
+/// the refusal's number. "The unused end of the destination keeps its bytes."
+pub fn save(p: &[u8], d: &[u8], destination: &mut [u8]) -> Result<usize, u8> {
+    // 01's "1 | P or D not 65,536 bytes"
+    if p.len() != MEMORY || d.len() != MEMORY {
+        return Err(1);
+    }
+    // "Trailing zero words of the program and trailing zero bytes of the data
+    // are dropped."
+    let file = file_of(trimmed(p, 2), trimmed(d, 1));
+    // "9, destination shorter than the file, after 1"
+    let Some(start) = destination.get_mut(..file.len()) else {
+        return Err(9);
+    };
+    start.copy_from_slice(&file);
+    Ok(file.len())
+}
