@@ -1,5 +1,2 @@
 pub mod Agreement
-mod Choice
-mod Done
-mod Together
 pub mod Laws

@@ -1,2 +1,1 @@
 pub mod Control
-pub mod Parts

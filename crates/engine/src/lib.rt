@@ -52,7 +52,7 @@ fn step(
 {
     if by_table {
         let control = control::control_of(table, w);
-        control::step(control, w, state, memory, inputs, outputs, log, entries)
+        datapath::step(control, w, state, memory, inputs, outputs, log, entries)
     } else {
         rules::step(w, state, memory, inputs, outputs, log, entries)
     }

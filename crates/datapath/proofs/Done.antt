@@ -1,0 +1,130 @@
+-- What a step by a control word comes to: it stops, or it is done, with an equation for each part.
+-- Assumes nothing.
+use mathlib.Core.Path.{_≡_, refl, sym, ap, _∙_}
+use mathlib.Core.Bool.{Bool, true, false, _&&_}
+use mathlib.Core.List.{List}
+use Prim.Native.Nat.{ℕ, _+_, _*_, _<_, _≤_}
+use native.Mathlib.Omega.{arith}
+use borrow.Author.Tests.{leb-false, lt-leb, eqb-true}
+use lib.Dec.{leb}
+use lib.ListN.{length, set, take, drop, length-set}
+use Rattle.word.specs.Fields.{a-of, N8}
+use Rattle.word.specs.Word.{pick}
+use Rattle.word.proofs.Tests.{clash, never}
+use Rattle.machine.specs.declared.State.{State}
+use Rattle.machine.specs.declared.Stepped.{Stepped}
+use Rattle.machine.specs.Machine.{Machine, R, putO, putD, onState}
+use Rattle.machine.specs.Step.{Next, cannot, to, Ra, Rb, PC}
+use Rattle.machine.specs.Run.{Outcome, unless}
+use Rattle.machine.specs.Held.{Held, held, machineOf, isFull, outcomeOf, StepMeets}
+use Rattle.machine.proofs.Answers.{answered}
+use Rattle.machine.proofs.Log.{put-take, put-drop}
+use Rattle.control.specs.Control.{storeField, writesPort, storedData, stored, performed, assigned, controlStep}
+use Rattle.datapath.specs.Parts.{stateAfter, dataAfter, stopOf}
+
+module _ (c w : ℕ) (h : Held) where
+  abbrev Meets : ℕ → Held → Type 0
+  Meets stop after = StepMeets (controlStep c w) (writesPort c) h stop after
+
+  -- what the run makes of the step of a machine, by the two tests
+  made : (m : Machine) (a b : Bool) → assigned c w ≡ a → (writesPort c && isFull h) ≡ b
+      → outcomeOf m (unless (writesPort c && isFull h) (controlStep c w m)) ≡ outcomeOf m (unless b (pick a (to (performed c w m)) (cannot 1)))
+  unfolding controlStep
+  made m a b e f = λ i. outcomeOf m (unless (f i) (pick (e i) (to (performed c w m)) (cannot 1)))
+
+  -- ---- It stops
+
+  pub stopped : (stop : ℕ) → h .entries ≤ length (h .log) → stop ≡ stopOf c w (isFull h) → (stop ≡ 0 → ⊥) → Meets stop h
+  stopped stop filled e n =
+      record { machine = λ P. by-tests (machineOf P h) (assigned c w) refl (writesPort c && isFull h) refl e; rest = refl; filled = filled }
+    where
+      by-tests : (m : Machine) (a : Bool) → assigned c w ≡ a → (b : Bool) → (writesPort c && isFull h) ≡ b → stop ≡ pick a (pick b 2 0) 1
+          → outcomeOf m (unless (writesPort c && isFull h) (controlStep c w m)) ≡ record { reason = stop; after = m }
+      by-tests m true p true q e = made m true true p q ∙ ap (λ k. record { reason = k; after = m }) (sym e)
+      by-tests m true p false q e = absurd (n e)
+      by-tests m false p b q e = made m false b p q ∙ ap (λ k. record { reason = k; after = m }) (sym e)
+
+  -- ---- It is done
+
+  module _ (is-assigned : assigned c w ≡ true) where
+    -- where the store is not to a port
+    pub data-done : {s : State} {D : List ℕ} → h .entries ≤ length (h .log) → writesPort c ≡ false
+        → s ≡ stateAfter c w (h .state) (h .D) (h .I)
+        → D ≡ dataAfter c w (h .state) (h .D)
+        → Meets 0 (held s D (h .I) (h .O) (h .log) (h .entries))
+    unfolding performed stored
+    data-done {s} {D} filled no-port es eD = record { machine = λ P. made (machineOf P h) true false is-assigned (ap (λ t. t && isFull h) no-port) ∙ done P; rest = refl; filled = filled }
+      where
+        done : (P : List ℕ) → _≡_ {A = Outcome} (record { reason = 0; after = performed c w (machineOf P h) })
+            (record { reason = 0; after = machineOf P (held s D (h .I) (h .O) (h .log) (h .entries)) })
+        done P = rw (no-port, es, eD)
+
+    -- where it is
+    pub port-done : {s : State} {D O log : List ℕ} {entries : ℕ} → h .entries < length (h .log) → writesPort c ≡ true
+        → s ≡ stateAfter c w (h .state) (h .D) (h .I)
+        → D ≡ h .D
+        → O ≡ set (h .O) (N8 w) (R (h .state) (a-of w))
+        → log ≡ set (h .log) (h .entries) (h .state .n * 16777216 + N8 w * 65536 + R (h .state) (a-of w))
+        → entries ≡ h .entries + 1
+        → Meets 0 (held s D (h .I) O log entries)
+    unfolding performed stored
+    port-done {s} {D} {O} {log} {entries} place port es eD eO el ee =
+        let free : isFull h ≡ false = lt-leb _ _ place in
+        record {
+          machine = λ P. made (machineOf P h) true false is-assigned (ap (λ t. t && isFull h) port ∙ free) ∙ done P;
+          rest = rw (el, ee) (put-drop (h .entries) _ (h .log) place);
+          filled = rw (el, ee) (simp length-set (omega arith));
+        }
+      where
+        done : (P : List ℕ) → _≡_ {A = Outcome} (record { reason = 0; after = performed c w (machineOf P h) })
+            (record { reason = 0; after = machineOf P (held s D (h .I) O log entries) })
+        done P = rw (port, es, eD, eO, el, ee, put-take (h .entries) (h .state .n * 16777216 + N8 w * 65536 + R (h .state) (a-of w)) (h .log) place)
+
+  -- a store to a port changes no data
+  no-data : (s : State) (D : List ℕ) → writesPort c ≡ true → dataAfter c w s D ≡ D
+  unfolding storedData
+  no-data s D port = let k : storeField c ≡ 3 = eqb-true (storeField c) 3 port in rw k
+
+  -- by fields
+  pub fields-done : {s : State} {D O log : List ℕ} {entries : ℕ} → h .entries ≤ length (h .log) → stopOf c w (isFull h) ≡ 0
+      → s ≡ stateAfter c w (h .state) (h .D) (h .I)
+      → D ≡ dataAfter c w (h .state) (h .D)
+      → (entries ≡ pick (writesPort c) (h .entries + 1) (h .entries))
+      × (O ≡ pick (writesPort c) (set (h .O) (N8 w) (R (h .state) (a-of w))) (h .O))
+      × (log ≡ pick (writesPort c) (set (h .log) (h .entries) (h .state .n * 16777216 + N8 w * 65536 + R (h .state) (a-of w))) (h .log))
+      → Meets 0 (held s D (h .I) O log entries)
+  fields-done {s} {D} {O} {log} {entries} filled go es eD port = by-tests (assigned c w) refl (writesPort c) refl (isFull h) refl go port
+    where
+      by-tests : (a : Bool) → assigned c w ≡ a → (p : Bool) → writesPort c ≡ p → (f : Bool) → isFull h ≡ f → _≡_ {A = ℕ} (pick a (pick (p && f) 2 0) 1) 0
+          → (entries ≡ pick p (h .entries + 1) (h .entries))
+          × (O ≡ pick p (set (h .O) (N8 w) (R (h .state) (a-of w))) (h .O))
+          × (log ≡ pick p (set (h .log) (h .entries) (h .state .n * 16777216 + N8 w * 65536 + R (h .state) (a-of w))) (h .log))
+          → Meets 0 (held s D (h .I) O log entries)
+      by-tests false a p ep f ef go e = absurd (omega arith)
+      by-tests true a true ep true ef go e = absurd (omega arith)
+      by-tests true a true ep false ef go e =
+          port-done a (leb-false _ _ ef) ep es (eD ∙ no-data (h .state) (h .D) ep) (e .1) (e .2) (e .0)
+      by-tests true a false ep f ef go e =
+          rw (e .0, e .1, e .2) (data-done a filled ep es eD)
+
+-- an answer by whether the word is assigned, where nothing is stored
+pub result-done : (c w : ℕ) (h : Held) → h .entries ≤ length (h .log) → writesPort c ≡ false → dataAfter c w (h .state) (h .D) ≡ h .D
+    → (r : Stepped)
+    → r ≡ pick (assigned c w) (record { stop = 0; state = stateAfter c w (h .state) (h .D) (h .I); entries = h .entries }) (record { stop = 1; state = h .state; entries = h .entries })
+    → StepMeets (controlStep c w) (writesPort c) h (r .stop) (held (r .state) (h .D) (h .I) (h .O) (h .log) (r .entries))
+result-done c w h filled no-port no-store r = by-test (assigned c w) refl
+  where
+    by-test : (a : Bool) → assigned c w ≡ a
+        → r ≡ pick a (record { stop = 0; state = stateAfter c w (h .state) (h .D) (h .I); entries = h .entries }) (record { stop = 1; state = h .state; entries = h .entries })
+        → StepMeets (controlStep c w) (writesPort c) h (r .stop) (held (r .state) (h .D) (h .I) (h .O) (h .log) (r .entries))
+    by-test true e a = answered r _ a (data-done c w h e filled no-port refl (sym no-store))
+    by-test false e a = answered r _ a (stopped c w h 1 filled (rw e) (λ z. omega arith))
+
+-- a port's step has a free place where nothing stops it
+pub free-place : (c w n places : ℕ) → stopOf c w (leb places n) ≡ 0 → writesPort c ≡ true → n < places
+free-place c w n places go port = by-tests (assigned c w) (leb places n) refl (rw port at go)
+  where
+    by-tests : (a f : Bool) → leb places n ≡ f → _≡_ {A = ℕ} (pick a (pick f 2 0) 1) 0 → n < places
+    by-tests false f e go = absurd (omega arith)
+    by-tests true true e go = absurd (omega arith)
+    by-tests true false e go = leb-false _ _ e

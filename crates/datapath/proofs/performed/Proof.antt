@@ -1,0 +1,63 @@
+-- The parts put together.
+-- Assumes nothing.
+use mathlib.Core.Path.{_≡_, sym, ap, ap₂, _∙_}
+use native.Mathlib.Omega.{arith}
+use borrow.Author.Needs.{needs}
+use lib.ListN.{length, length-set}
+use Rattle.machine.specs.Machine.{putPC, count}
+use Rattle.control.specs.Control.{unit, result, next, storedData, written}
+use Rattle.machine.proofs.Answers.{answered}
+use Rattle.datapath.proofs.Done.{fields-done, free-place}
+use Rattle.datapath.proofs.performed.Statement.{statement}
+use Rattle.datapath.proofs.performed.Tie as tie
+
+store-port-requires : tie.Need-store-port-requires
+store-port-requires c κs =
+    let start = c .before .before .before .before .before .before .before .before .before .before .before .before .before .before .before .before .before .before .before .before in
+    (start .pre .0 .outputs, free-place (start .args .control) (start .args .w) _ _ (start .pre .1))
+
+returns : tie.Need-returns
+returns c =
+    let ported = c .before .before .before .before .before in
+    let stored = ported .before .before .before .before .before in
+    let wrote = stored .before .before in
+    let moved = wrote .before in
+    let counted = moved .before in
+    let following = counted .before in
+    let choosing = following .before in
+    let computing = choosing .before .before .before in
+    let reading = computing .before in
+    let start = reading .before .before .before .before .before .before in
+    let a = start .args in
+    let ex = reading .before .ra .ensures in
+    let ey = reading .rb .ensures in
+    let eu = computing .unit-result .ensures ∙ ap₂ (unit (a .control) (a .w)) ex ey in
+    let ev = choosing .chosen-result .ensures ∙ ap (λ u. result (a .control) (a .w) u (a .state .pc) (a .memory .now) (a .inputs .now)) eu in
+    let en = following .next-pc .ensures ∙ ap (λ x. next (a .control) (a .w) x (a .state .pc)) ex in
+    let em = moved .with-pc .ensures ∙ ap₂ putPC en (counted .counted .ensures) in
+    answered (c .done .result) _ (c .done .ensures)
+    (fields-done (a .control) (a .w) _ (start .pre .0 .filled) (start .pre .1)
+    (wrote .write-destination .ensures ∙ ap₂ (written (a .control) (a .w)) ev em)
+    (stored .store-data .ensures ∙ ap₂ (λ y u. storedData (a .control) y u (a .memory .now)) ey eu)
+    (rw ex at (ported .store-port .ensures)))
+
+pub performed-spec : {M : Type 1} → statement M
+performed-spec =
+    tie.close
+    (tie.spec
+    (λ c κs. search needs)
+    (λ c κs. search needs)
+    (λ c κs. search needs)
+    (λ c κs. search needs)
+    (λ c κs. search needs)
+    (λ c κs. search needs)
+    (λ c κs. search needs)
+    (λ c κs. search needs)
+    (λ c κs. c .before .before .before .before .before .before .before .before .before .before .before .before .before .before .before .pre .0 .memory)
+    store-port-requires
+    (λ c κs. search needs)
+    (λ c. search needs)
+    (λ c. search needs)
+    (λ c. search needs)
+    (λ c. search needs)
+    returns)

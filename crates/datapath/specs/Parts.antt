@@ -1,0 +1,51 @@
+-- What the private functions of a step promise. Nothing here is promised to a caller.
+use Prim.Native.Nat.{ℕ, _<_, _/_, _%_}
+use mathlib.Core.Bool.{Bool, _&&_, not}
+use mathlib.Core.List.{List}
+use mathlib.Core.Path.{_≡_}
+use lib.Dec.{eqb}
+use lib.ListN.{length}
+use Rattle.word.specs.Fields.{a-of, b-of, N6}
+use Rattle.word.specs.Word.{pick, add, SE}
+use Rattle.machine.specs.declared.State.{State}
+use Rattle.machine.specs.Machine.{R, putPC, count}
+use Rattle.control.specs.Control.{unit, result, next, writesPort, storedData, written, assigned}
+
+-- what the state after a step takes: a count that can grow, a memory and inputs of their lengths
+pub record Lent (s : State) (D I : List ℕ) : Type 0 where
+  pub counts : s .n < 4294967295
+  pub memory : length D ≡ 65536
+  pub inputs : length I ≡ 256
+
+-- the unit's result in a state
+abbrev pub unitOf : ℕ → ℕ → State → ℕ
+unitOf c w s = unit c w (R s (a-of w)) (R s (b-of w))
+
+-- the state after a step with data D and inputs I, and the data after it
+abbrev pub stateAfter : ℕ → ℕ → State → List ℕ → List ℕ → State
+stateAfter c w s D I = written c w (result c w (unitOf c w s) (s .pc) D I) (putPC (next c w (R s (a-of w)) (s .pc)) (count s))
+
+abbrev pub dataAfter : ℕ → ℕ → State → List ℕ → List ℕ
+dataAfter c w s D = storedData c (R s (b-of w)) (unitOf c w s) D
+
+-- why w is not stepped: 1 unassigned, 2 a port write and the log is full; 0 where it is
+abbrev pub stopOf : ℕ → ℕ → Bool → ℕ
+stopOf c w full = pick (assigned c w) (pick (writesPort c && full) 2 0) 1
+
+-- ---- The groups
+
+-- Ra+SE(N6)
+abbrev pub addressOf : ℕ → State → ℕ
+addressOf w s = add (R s (a-of w)) (SE 6 (N6 w))
+
+-- no store, and PC+2
+abbrev pub isResult : ℕ → Bool
+isResult c = eqb (c / 1024 % 16) 0
+
+-- data memory at Ra+SE(N6) is stored to, or nothing; no destination, PC+2, assigned
+abbrev pub isStore : ℕ → Bool
+isStore c = eqb (c % 1024) 320 && eqb (c / 4096 % 8) 4 && not (eqb (c / 1024 % 4) 3)
+
+-- all fields but the next PC are 0, and assigned
+abbrev pub isJump : ℕ → Bool
+isJump c = eqb (c % 4096) 0 && eqb (c / 16384 % 2) 1

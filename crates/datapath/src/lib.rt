@@ -1,0 +1,146 @@
+// The step by a control word: everything but the operands, and f in units 0 and 1, is learnt from the control word.
+ghost use mathlib.Core.Path.{_≡_};
+ghost use mathlib.Core.Bool.{true};
+ghost use lib.Dec.{leb};
+ghost use lib.ListN.{length};
+ghost use Rattle.word.specs.Word.{pick};
+ghost use Rattle.machine.specs.Held.{held, Ready, StepMeets};
+ghost use Rattle.control.specs.Control.{assigned, writesPort, controlStep};
+ghost use Rattle.datapath.specs.Parts.{Lent, stateAfter, stopOf, isResult};
+use machine::State;
+use machine::Stepped;
+
+mod fields;
+mod groups;
+
+// Why w is not stepped by a control word: 1 unassigned, 2 a port write and the log is full; 0 where it is.
+fn stop_of(control: u16, w: u16, full: bool) -> u8
+    ensures { λ r. ⌜ r ≡ stopOf control w full ⌝ }
+{
+    if fields::is_assigned(control, w) {
+        if fields::writes_port(control) & full {
+            2
+        } else {
+            0
+        }
+    } else {
+        1
+    }
+}
+
+// The step of w where nothing stops it, field by field.
+fn performed(
+    control: u16,
+    w: u16,
+    state: State,
+    memory: &mut [u8],
+    inputs: &mut [u16],
+    outputs: &mut [u16],
+    log: &mut [u64],
+    entries: usize,
+) -> Stepped
+    requires { ⌜ Ready (held state (now memory) (now inputs) (now outputs) (now log) entries) ⌝ }
+    requires { ⌜ stopOf control w (leb (length (now log)) entries) ≡ 0 ⌝ }
+    ensures { λ r. ⌜ StepMeets (controlStep control w) (writesPort control) (held state (now (memory .entry)) (now (inputs .entry)) (now (outputs .entry)) (now (log .entry)) entries) (r .stop) (held (r .state) (now (memory .exit)) (now (inputs .exit)) (now (outputs .exit)) (now (log .exit)) (r .entries)) ⌝ }
+{
+    let x = state.ra(w);
+    let y = state.rb(w);
+    let u = fields::unit_result(control, w, x, y);
+    let v = fields::chosen_result(control, w, u, state.pc, memory, inputs);
+    let next = fields::next_pc(control, w, x, state.pc);
+    let after = fields::write_destination(control, w, v, state.counted().with_pc(next));
+    fields::store_data(control, y, u, memory);
+    Stepped::done(
+        after,
+        fields::store_port(control, w, x, state.n, outputs, log, entries),
+    )
+}
+
+// The step of w, field by field.
+fn field_step(
+    control: u16,
+    w: u16,
+    state: State,
+    memory: &mut [u8],
+    inputs: &mut [u16],
+    outputs: &mut [u16],
+    log: &mut [u64],
+    entries: usize,
+) -> Stepped
+    requires { ⌜ Ready (held state (now memory) (now inputs) (now outputs) (now log) entries) ⌝ }
+    ensures { λ r. ⌜ StepMeets (controlStep control w) (writesPort control) (held state (now (memory .entry)) (now (inputs .entry)) (now (outputs .entry)) (now (log .entry)) entries) (r .stop) (held (r .state) (now (memory .exit)) (now (inputs .exit)) (now (outputs .exit)) (now (log .exit)) (r .entries)) ⌝ }
+{
+    let stop = stop_of(control, w, log.len() <= entries);
+    if stop == 0 {
+        performed(control, w, state, memory, inputs, outputs, log, entries)
+    } else {
+        Stepped::stopped(stop, state, entries)
+    }
+}
+
+// The step of w by a control word with a store or a next PC other than PC+2.
+fn other_step(
+    control: u16,
+    w: u16,
+    state: State,
+    memory: &mut [u8],
+    inputs: &mut [u16],
+    outputs: &mut [u16],
+    log: &mut [u64],
+    entries: usize,
+) -> Stepped
+    requires { ⌜ Ready (held state (now memory) (now inputs) (now outputs) (now log) entries) ⌝ }
+    ensures { λ r. ⌜ StepMeets (controlStep control w) (writesPort control) (held state (now (memory .entry)) (now (inputs .entry)) (now (outputs .entry)) (now (log .entry)) entries) (r .stop) (held (r .state) (now (memory .exit)) (now (inputs .exit)) (now (outputs .exit)) (now (log .exit)) (r .entries)) ⌝ }
+{
+    if groups::is_store(control) {
+        groups::store(control, w, state, memory);
+        Stepped::done(state.advanced(), entries)
+    } else {
+        if groups::is_jump(control) {
+            Stepped::done(groups::jump(control, w, state), entries)
+        } else {
+            field_step(control, w, state, memory, inputs, outputs, log, entries)
+        }
+    }
+}
+
+// The step of w by a control word with no store and PC+2.
+fn result_step(
+    control: u16,
+    w: u16,
+    state: State,
+    memory: &[u8],
+    inputs: &[u16],
+    entries: usize,
+) -> Stepped
+    requires { ⌜ Lent state (now memory) (now inputs) × (isResult control ≡ true) ⌝ }
+    ensures { λ r. ⌜ r ≡ pick (assigned control w) (record { stop = 0; state = stateAfter control w state (now (memory .entry)) (now (inputs .entry)); entries = entries }) (record { stop = 1; state = state; entries = entries }) ⌝ }
+{
+    if fields::is_assigned(control, w) {
+        Stepped::done(groups::result(control, w, state, memory, inputs), entries)
+    } else {
+        Stepped::stopped(1, state, entries)
+    }
+}
+
+// The step of w by a control word, any control word beside any w. The commonest groups of fields have a step of their own, which
+// does what the fields say one by one.
+pub fn step(
+    control: u16,
+    w: u16,
+    state: State,
+    memory: &mut [u8],
+    inputs: &mut [u16],
+    outputs: &mut [u16],
+    log: &mut [u64],
+    entries: usize,
+) -> Stepped
+    requires { ⌜ Ready (held state (now memory) (now inputs) (now outputs) (now log) entries) ⌝ }
+    ensures { λ r. ⌜ StepMeets (controlStep control w) (writesPort control) (held state (now (memory .entry)) (now (inputs .entry)) (now (outputs .entry)) (now (log .entry)) entries) (r .stop) (held (r .state) (now (memory .exit)) (now (inputs .exit)) (now (outputs .exit)) (now (log .exit)) (r .entries)) ⌝ }
+{
+    if groups::is_result(control) {
+        result_step(control, w, state, memory, inputs, entries)
+    } else {
+        other_step(control, w, state, memory, inputs, outputs, log, entries)
+    }
+}
