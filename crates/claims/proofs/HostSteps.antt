@@ -12,9 +12,9 @@ use Rattle.machine.specs.declared.State.{State}
 use Rattle.machine.specs.Calls.{lengthsFit}
 use Rattle.control.specs.Control.{byTable}
 use Rattle.engine.specs.Runs.{Given, Left, RunReply, stopped, refused, verdict, verdictOn, leftBy, runLeft}
-use Rattle.sisa.specs.declared.SisaAnswer.{SisaAnswer}
-use Rattle.sisa.specs.declared.SisaRun.{SisaRun}
-use Rattle.sisa.specs.Sisa.{SisaRunLeft, sisaRun, sisaLeft, runInNumbers, sisaRunLeft, withState}
+use Rattle.replies.specs.declared.SisaAnswer.{SisaAnswer}
+use Rattle.replies.specs.declared.SisaRun.{SisaRun}
+use Rattle.replies.specs.Sisa.{SisaRunLeft, sisaRun, sisaLeft, runInNumbers, sisaRunLeft, withState}
 use Rattle.claims.specs.Session.{by-table, Call, Reply, of-run, Host, givenTo, CallMeets, a-run, Calls, none, more}
 use Rattle.claims.specs.HostSteps.{HostCall, call, host-step, budget1, asRun, replyOf, HostCallMeets, a-call, a-step, HostCalls, none as host-none, more as host-more, HostSteps}
 use Rattle.claims.proofs.Decided.{does-exists, replyTo, callOn, same}

@@ -11,8 +11,8 @@ use Rattle.machine.specs.Calls.{windowOf}
 use Rattle.isa.specs.Instructions.{readOf}
 use Rattle.control.specs.Control.{byTable}
 use Rattle.engine.specs.Runs.{given}
-use Rattle.sisa.specs.declared.SisaRun.{SisaRun}
-use Rattle.sisa.specs.Sisa.{SisaLoadLeft, sisaLoadLeft, SisaSaveLeft, sisaSaveLeft, SisaSetLeft, sisaSetLeft, sisaLeft, SisaRunMeets, sisaInstruction, sisaWrite, sisaWindow, chosen, bytesOf}
+use Rattle.replies.specs.declared.SisaRun.{SisaRun}
+use Rattle.replies.specs.Sisa.{SisaLoadLeft, sisaLoadLeft, SisaSaveLeft, sisaSaveLeft, SisaSetLeft, sisaSetLeft, sisaLeft, SisaRunMeets, sisaInstruction, sisaWrite, sisaWindow, chosen, bytesOf}
 use Rattle.sisa.proofs.sisa_load.Reads as load
 use Rattle.sisa.proofs.sisa_save.Reads as save
 use Rattle.sisa.proofs.sisa_set_input.Reads as set-input

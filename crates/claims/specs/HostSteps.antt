@@ -6,8 +6,8 @@ use lib.Dec.{eqb}
 use Rattle.word.specs.Word.{pick}
 use Rattle.machine.specs.declared.State.{State}
 use Rattle.engine.specs.Runs.{RunReply, stopped, refused}
-use Rattle.sisa.specs.declared.SisaAnswer.{SisaAnswer}
-use Rattle.sisa.specs.Sisa.{hostLent, HostStepMeets}
+use Rattle.replies.specs.declared.SisaAnswer.{SisaAnswer}
+use Rattle.replies.specs.Sisa.{hostLent, HostStepMeets}
 use Rattle.claims.specs.Session.{by-table, Lent, Call, runs, Reply, of-run, Host, CallMeets, Calls}
 
 -- a call of Session.antt, or a host step and the log that it is lent

@@ -10,7 +10,7 @@ use player::lent::all_but;
 use player::lent::least;
 use player::print;
 use player::runs::of_call;
-use sisa::SisaWindow;
+use replies::SisaWindow;
 
 // The start of a call's line.
 pub fn start_line(what: &[u8], c: u16, i: u16) {

@@ -9,7 +9,7 @@ use player::lent::Ports;
 use player::lent::all_but;
 use player::numbers::number;
 use player::print;
-use sisa::SisaLoad;
+use replies::SisaLoad;
 
 // The memory lent is short where the page says so.
 fn load(

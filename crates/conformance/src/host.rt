@@ -1,7 +1,7 @@
 // The host step by value. It is called over a state by reference, which the borrow checker does not cover, and the proof of
 // `host_step` walks the code by hand: so it only lends the state and hands back what there is then.
 use machine::State;
-use sisa::SisaRun;
+use replies::SisaRun;
 
 pub fn host_step(
     state: State,

@@ -2,8 +2,8 @@
 use crate::calls;
 use player::print;
 use player::runs::of_call;
-use sisa::SisaInstruction;
-use sisa::SisaWord;
+use replies::SisaInstruction;
+use replies::SisaWord;
 use std::num::wrapping_add_u8;
 use std::num::wrapping_add_u16;
 

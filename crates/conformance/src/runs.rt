@@ -10,7 +10,7 @@ use player::runs::Reply;
 use player::runs::Request;
 use player::runs::finish;
 use player::runs::of_call;
-use sisa::SisaRun;
+use replies::SisaRun;
 
 const HOST: u16 = 5;
 

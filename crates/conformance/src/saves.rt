@@ -8,8 +8,8 @@ use player::lent::Ports;
 use player::lent::all_but;
 use player::lent::least;
 use player::print;
-use sisa::SisaLoad;
-use sisa::SisaSaved;
+use replies::SisaLoad;
+use replies::SisaSaved;
 
 const DESTINATION_BYTES: usize = 131088;
 

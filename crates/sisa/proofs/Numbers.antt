@@ -1,27 +1,19 @@
 -- A call's contract, and its reply in numbers, make the contract of the function of sisa.h.
 -- Assumes nothing.
-use Prim.Native.Nat.{ℕ, _<_, _≤_}
+use Prim.Native.Nat.{ℕ}
 use mathlib.Core.List.{List}
-use mathlib.Core.Path.{_≡_, _∙_, ap}
-use borrow.Author.Tests.{le-leb, lt-leb}
-use lib.IntN.{ℤ}
-use lib.ListN.{getD}
+use mathlib.Core.Path.{_≡_, ap}
 use Rattle.refusal.specs.Refusals.{Verdict}
-use Rattle.isa.specs.declared.Kind.{Kind}
-use Rattle.isa.specs.declared.Kind.the-variants.{And}
-use Rattle.isa.specs.Sheet.{kinds}
-use Rattle.isa.specs.Instructions.{Written, writeOf}
 use Rattle.machine.specs.declared.State.{State}
 use Rattle.machine.specs.Run.{Stepper}
 use Rattle.machine.specs.Calls.{SetGiven, SetLeft, setLeft}
 use Rattle.image.specs.Image.{LoadGiven, LoadLeft, loadLeft}
 use Rattle.image.specs.Saved.{SaveReply, SaveGiven, SaveLeft, saveLeft}
 use Rattle.engine.specs.Runs.{Given, left, RunReply, RunMeets}
-use Rattle.sisa.specs.declared.SisaLoad.{SisaLoad}
-use Rattle.sisa.specs.declared.SisaSaved.{SisaSaved}
-use Rattle.sisa.specs.declared.SisaRun.{SisaRun}
-use Rattle.sisa.specs.declared.SisaWord.{SisaWord}
-use Rattle.sisa.specs.Sisa.{sisaLoad, SisaLoadLeft, loadInNumbers, sisaLoadLeft, sisaSaved, SisaSaveLeft, saveInNumbers, sisaSaveLeft, verdictNumber, SisaSetLeft, setInNumbers, sisaSetLeft, sisaRun, sisaLeft, runInNumbers, sisaRunLeft, SisaRunMeets, sisaWord, sisaWrite}
+use Rattle.replies.specs.declared.SisaLoad.{SisaLoad}
+use Rattle.replies.specs.declared.SisaSaved.{SisaSaved}
+use Rattle.replies.specs.declared.SisaRun.{SisaRun}
+use Rattle.replies.specs.Sisa.{sisaLoad, SisaLoadLeft, loadInNumbers, sisaLoadLeft, sisaSaved, SisaSaveLeft, saveInNumbers, sisaSaveLeft, verdictNumber, SisaSetLeft, setInNumbers, sisaSetLeft, sisaRun, sisaLeft, runInNumbers, sisaRunLeft, SisaRunMeets}
 
 pub load-meets : (g : LoadGiven) {reply : Verdict} {state : State} {P D I O : List ℕ} {r : SisaLoad}
     → _≡_ {A = LoadLeft} (record { reply = reply; state = state; P = P; D = D; I = I; O = O }) (loadLeft g)
@@ -50,18 +42,3 @@ pub run-meets : (v : Stepper) (g : Given) {reply : RunReply} {state : State} {P 
     → SisaRunMeets v g (sisaLeft r P D I O log)
 unfolding sisaRunLeft
 run-meets v g e h = rw h (ap runInNumbers e)
-
-pub write-refused : (kind a b d : ℕ) (n : ℤ) {k : ℕ} → 24 < kind → k ≡ 7 → record { refusal = k; word = 0 } ≡ sisaWrite kind a b d n
-unfolding sisaWrite
-write-refused kind a b d n h e = rw (e, lt-leb _ _ h)
-
--- k and m are the kind and the number as `isa::write` is handed them
-pub write-meets : (kind a b d : ℕ) (n : ℤ) (k : Kind) (m : ℤ) {written : Written} {r : SisaWord} → kind ≤ 24
-    → k ≡ getD kinds kind And
-    → m ≡ n
-    → written ≡ writeOf (record { kind = k; a = a; b = b; d = d; n = m })
-    → r ≡ sisaWord written
-    → r ≡ sisaWrite kind a b d n
-unfolding sisaWrite
-write-meets kind a b d n k m h e f w s =
-    rw (le-leb _ _ h) (s ∙ ap sisaWord (w ∙ λ j. writeOf (record { kind = e j; a = a; b = b; d = d; n = f j })))

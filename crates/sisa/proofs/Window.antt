@@ -5,14 +5,14 @@ use mathlib.Core.Bool.{Bool, true, false, _&&_, not}
 use mathlib.Core.List.{List, []}
 use mathlib.Core.Path.{_≡_, refl, sym, _∙_, ap}
 use native.Mathlib.Omega.{arith}
-use borrow.Author.Tests.{eqb-true, leb-true, eq-eqb, ne-eqb}
+use borrow.Author.Tests.{eqb-true, eqb-false, leb-true, eq-eqb, ne-eqb}
 use lib.Dec.{eqb, leb}
 use lib.ListN.{length, take, drop, length-drop}
 use lib.Seq.{length-take-le}
 use Rattle.word.specs.Word.{pick}
 use Rattle.machine.specs.Calls.{partOf, windowOf}
-use Rattle.sisa.specs.declared.SisaWindow.{SisaWindow}
-use Rattle.sisa.specs.Sisa.{chosen, sisaWindow, bytesOf}
+use Rattle.replies.specs.declared.SisaWindow.{SisaWindow}
+use Rattle.replies.specs.Sisa.{chosen, sisaWindow, bytesOf}
 
 -- the part, by whether it ends within M
 abbrev part-by : Bool → List ℕ → ℕ → ℕ → List ℕ
@@ -64,12 +64,21 @@ module _ (P D : List ℕ) (ofData start count : ℕ) {part : List ℕ} (is : par
   unfolding windowOf
   is-part = is ∙ ap (λ (M : List ℕ). partOf M start count) (sym (other-order (eqb ofData 0) P D))
 
-  pub none : length part ≡ 0 → record { start = 0; count = 0 } ≡ sisaWindow (chosen ofData P D) start count
+  none : length part ≡ 0 → record { start = 0; count = 0 } ≡ sisaWindow (chosen ofData P D) start count
   unfolding sisaWindow
   none e = none-by _ (chosen ofData P D) start count refl (sym (ap length is-part) ∙ e)
 
-  pub some : (length part ≡ 0 → ⊥) → record { start = start; count = length part } ≡ sisaWindow (chosen ofData P D) start count
+  some : (length part ≡ 0 → ⊥) → record { start = start; count = length part } ≡ sisaWindow (chosen ofData P D) start count
   unfolding sisaWindow
   some e =
       ap (λ (l : List ℕ). record { start = start; count = length l }) is-part
       ∙ some-by _ (chosen ofData P D) start count refl (λ z. e (ap length is-part ∙ z))
+
+  numbers-are : (b : Bool) → eqb (length part) 0 ≡ b
+      → pick b (record { start = 0; count = 0 }) (record { start = start; count = length part }) ≡ sisaWindow (chosen ofData P D) start count
+  numbers-are true e = none (eqb-true _ _ e)
+  numbers-are false e = some (eqb-false _ _ e)
+
+  -- the numbers of the part that `machine::window` hands back
+  pub numbers : pick (eqb (length part) 0) (record { start = 0; count = 0 }) (record { start = start; count = length part }) ≡ sisaWindow (chosen ofData P D) start count
+  numbers = numbers-are _ refl

@@ -1,9 +1,9 @@
 // The host step, the one function that takes the register state by reference. The borrow checker does not cover such a
 // function, and its proof walks the code by hand: so it only calls the run, stores the state and hands on the numbers.
-ghost use Rattle.sisa.specs.Sisa.{hostLent, HostStepMeets};
-use crate::SisaAnswer;
+ghost use Rattle.replies.specs.Sisa.{hostLent, HostStepMeets};
 use crate::sisa_run_by_table;
 use machine::State;
+use replies::SisaAnswer;
 
 #[no_mangle]
 pub extern "C" fn sisa_host_step(

@@ -8,65 +8,17 @@ ghost use Rattle.machine.specs.Calls.{windowOf};
 ghost use Rattle.control.specs.Control.{byTable};
 ghost use Rattle.engine.specs.Runs.{given};
 ghost use Rattle.isa.specs.Instructions.{readOf};
-ghost use Rattle.sisa.specs.Sisa.{SisaLoadLeft, sisaLoadLeft, SisaSaveLeft, sisaSaveLeft, SisaSetLeft, sisaSetLeft, sisaLeft, SisaRunMeets, sisaInstruction, sisaWrite, chosen, sisaWindow, bytesOf};
-use isa::Instruction;
+ghost use Rattle.replies.specs.Sisa.{SisaLoadLeft, sisaLoadLeft, SisaSaveLeft, sisaSaveLeft, SisaSetLeft, sisaSetLeft, sisaLeft, SisaRunMeets, sisaInstruction, sisaWrite, chosen, sisaWindow, bytesOf};
 use machine::Port;
 use machine::State;
-use refusal::Refusal;
+use replies::SisaInstruction;
+use replies::SisaLoad;
+use replies::SisaRun;
+use replies::SisaSaved;
+use replies::SisaWindow;
+use replies::SisaWord;
 
 pub mod host;
-mod replies;
-
-#[repr(C)]
-pub struct SisaLoad {
-    pub state: State,
-    pub refusal: u8,
-}
-
-#[repr(C)]
-pub struct SisaRun {
-    pub state: State,
-    pub refusal: u8,
-    pub stop: u8,
-    pub steps: u32,
-    pub entries: u64,
-}
-
-#[repr(C)]
-pub struct SisaAnswer {
-    pub refusal: u8,
-    pub stop: u8,
-    pub steps: u32,
-    pub entries: u64,
-}
-
-#[repr(C)]
-pub struct SisaInstruction {
-    pub assigned: u8,
-    pub kind: u8,
-    pub a: u8,
-    pub b: u8,
-    pub d: u8,
-    pub n: i16,
-}
-
-#[repr(C)]
-pub struct SisaWord {
-    pub refusal: u8,
-    pub word: u16,
-}
-
-#[repr(C)]
-pub struct SisaWindow {
-    pub start: usize,
-    pub count: usize,
-}
-
-#[repr(C)]
-pub struct SisaSaved {
-    pub refusal: u8,
-    pub length: usize,
-}
 
 #[no_mangle]
 pub extern "C" fn sisa_load(
@@ -141,18 +93,10 @@ pub extern "C" fn sisa_read(word: u16) -> SisaInstruction
 pub extern "C" fn sisa_write(kind: u8, a: u8, b: u8, d: u8, n: i16) -> SisaWord
     ensures { λ r. ⌜ r ≡ sisaWrite kind a b d n ⌝ }
 {
-    // There are 25 kinds.
-    if 24 < kind {
-        return SisaWord {
-            refusal: refusal::number(Refusal::InstructionPart),
-            word: 0,
-        };
-    }
-    let kind = isa::kind_at(kind);
-    replies::word(isa::write(Instruction { kind, a, b, d, n }))
+    replies::write(kind, a, b, d, n)
 }
 
-// of_data is 0 for the program; any other number is the data memory. An empty part starts at 0.
+// of_data is 0 for the program; any other number is the data memory.
 #[no_mangle]
 pub extern "C" fn sisa_window<'a>(
     program: &'a [u8],
@@ -164,11 +108,5 @@ pub extern "C" fn sisa_window<'a>(
     ensures { λ r. ⌜ (r ≡ sisaWindow (chosen of_data (now (program .entry)) (now (memory .entry))) start count) × (bytesOf r (chosen of_data (now (program .entry)) (now (memory .entry))) ≡ windowOf (now (program .entry)) (now (memory .entry)) (not (eqb of_data 0)) start count) ⌝ }
 {
     let part = machine::window(program, memory, of_data != 0, start, count);
-    if part.len() == 0 {
-        return SisaWindow { start: 0, count: 0 };
-    }
-    SisaWindow {
-        start,
-        count: part.len(),
-    }
+    replies::window(start, part.len())
 }

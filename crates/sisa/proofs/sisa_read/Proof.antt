@@ -2,7 +2,7 @@
 -- Assumes nothing.
 use mathlib.Core.Path.{_∙_, ap}
 use borrow.Author.Needs.{needs}
-use Rattle.sisa.specs.Sisa.{sisaInstruction}
+use Rattle.replies.specs.Sisa.{sisaInstruction}
 use Rattle.sisa.proofs.sisa_read.Statement.{statement}
 use Rattle.sisa.proofs.sisa_read.Tie as tie
 

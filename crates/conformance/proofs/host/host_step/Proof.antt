@@ -45,16 +45,16 @@ use denote.Exit.{yes}
 use Rattle.machine.specs.declared.State.{State}
 use Rattle.machine.proofs.State as T
 use Rattle.machine.proofs.State.Laws as T′
-use Rattle.sisa.specs.declared.SisaAnswer.{SisaAnswer}
-use Rattle.sisa.proofs.SisaAnswer as E
-use Rattle.sisa.proofs.SisaAnswer.Laws as E′
+use Rattle.replies.specs.declared.SisaAnswer.{SisaAnswer}
+use Rattle.replies.proofs.SisaAnswer as E
+use Rattle.replies.proofs.SisaAnswer.Laws as E′
 use Rattle.sisa.proofs.host.sisa_host_step as host-step
 use Rattle.sisa.proofs.host.sisa_host_step.Symbol as host-step-def
 use Rattle.sisa.proofs.host.sisa_host_step.Symbol.{name as #host-step}
 use Rattle.sisa.proofs.host.sisa_host_step.Met as host-step-thm
-use Rattle.sisa.specs.declared.SisaRun.{SisaRun}
-use Rattle.sisa.proofs.SisaRun as R
-use Rattle.sisa.proofs.SisaRun.Laws as R′
+use Rattle.replies.specs.declared.SisaRun.{SisaRun}
+use Rattle.replies.proofs.SisaRun as R
+use Rattle.replies.proofs.SisaRun.Laws as R′
 use Rattle.conformance.proofs.host.host_step.Key.{name as #step}
 use Rattle.conformance.proofs.host.host_step as step
 use Rattle.conformance.proofs.host.host_step.Statement as stated

@@ -49,15 +49,15 @@ use denote.Exit.{yes}
 use Rattle.machine.specs.declared.State.{State}
 use Rattle.machine.proofs.State as T
 use Rattle.machine.proofs.State.Laws as T′
-use Rattle.sisa.specs.declared.SisaAnswer.{SisaAnswer}
-use Rattle.sisa.specs.declared.SisaRun.{SisaRun}
+use Rattle.replies.specs.declared.SisaAnswer.{SisaAnswer}
+use Rattle.replies.specs.declared.SisaRun.{SisaRun}
 use Rattle.control.specs.Control.{byTable}
 use Rattle.engine.specs.Runs.{given as run-given}
-use Rattle.sisa.specs.Sisa.{sisaLeft, SisaRunMeets}
-use Rattle.sisa.proofs.SisaAnswer as E
-use Rattle.sisa.proofs.SisaAnswer.Laws as E′
-use Rattle.sisa.proofs.SisaRun as R
-use Rattle.sisa.proofs.SisaRun.Laws as R′
+use Rattle.replies.specs.Sisa.{sisaLeft, SisaRunMeets}
+use Rattle.replies.proofs.SisaAnswer as E
+use Rattle.replies.proofs.SisaAnswer.Laws as E′
+use Rattle.replies.proofs.SisaRun as R
+use Rattle.replies.proofs.SisaRun.Laws as R′
 use Rattle.sisa.proofs.sisa_run_by_table as run
 use Rattle.sisa.proofs.sisa_run_by_table.Symbol as run-def
 use Rattle.sisa.proofs.sisa_run_by_table.Symbol.{name as #run}

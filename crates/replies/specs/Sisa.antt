@@ -20,13 +20,13 @@ use Rattle.image.specs.Image.{LoadGiven, LoadLeft, loadLeft}
 use Rattle.image.specs.Saved.{SaveReply, saved, refused as save-refused, SaveGiven, SaveLeft, saveLeft}
 use Rattle.control.specs.Control.{byTable}
 use Rattle.engine.specs.Runs.{Given, given, RunReply, stopped, refused as run-refused, Left, runLeft}
-use Rattle.sisa.specs.declared.SisaLoad.{SisaLoad}
-use Rattle.sisa.specs.declared.SisaSaved.{SisaSaved}
-use Rattle.sisa.specs.declared.SisaRun.{SisaRun}
-use Rattle.sisa.specs.declared.SisaAnswer.{SisaAnswer}
-use Rattle.sisa.specs.declared.SisaInstruction.{SisaInstruction}
-use Rattle.sisa.specs.declared.SisaWord.{SisaWord}
-use Rattle.sisa.specs.declared.SisaWindow.{SisaWindow}
+use Rattle.replies.specs.declared.SisaLoad.{SisaLoad}
+use Rattle.replies.specs.declared.SisaSaved.{SisaSaved}
+use Rattle.replies.specs.declared.SisaRun.{SisaRun}
+use Rattle.replies.specs.declared.SisaAnswer.{SisaAnswer}
+use Rattle.replies.specs.declared.SisaInstruction.{SisaInstruction}
+use Rattle.replies.specs.declared.SisaWord.{SisaWord}
+use Rattle.replies.specs.declared.SisaWindow.{SisaWindow}
 
 -- 0, or the refusal's number
 abbrev pub verdictNumber : Verdict → ℕ

@@ -4,9 +4,9 @@ use mathlib.Core.Path.{sym, ap}
 use borrow.Author.Needs.{needs}
 use Rattle.isa.specs.declared.Writing.{Writing}
 use Rattle.isa.specs.Instructions.{shownWriting}
-use Rattle.sisa.specs.Sisa.{sisaWord}
-use Rattle.sisa.proofs.replies.word.Statement.{statement}
-use Rattle.sisa.proofs.replies.word.Tie as tie
+use Rattle.replies.specs.Sisa.{sisaWord}
+use Rattle.replies.proofs.word.Statement.{statement}
+use Rattle.replies.proofs.word.Tie as tie
 
 returns : tie.Need-returns
 returns c = sym (ap (λ (x : Writing). sisaWord (shownWriting x)) (c .before .writing .given .1))

@@ -1,24 +1,75 @@
-// The replies of the crates that do the work, in the numbers of include/sisa.h.
+// The structs of the C interface, include/sisa.h, and the replies of the crates that do the work in its numbers.
 ghost use mathlib.Core.Path.{_≡_};
+ghost use lib.Dec.{eqb};
+ghost use Rattle.word.specs.Word.{pick};
 ghost use Rattle.image.specs.Image.{shownLoading};
 ghost use Rattle.image.specs.Saved.{shownSaving};
 ghost use Rattle.machine.specs.Calls.{shownSetting};
 ghost use Rattle.engine.specs.Runs.{shownAnswer};
 ghost use Rattle.isa.specs.Instructions.{shownReading, shownWriting};
-ghost use Rattle.sisa.specs.Sisa.{sisaLoad, sisaSaved, verdictNumber, sisaRun, sisaInstruction, sisaWord};
-use crate::SisaInstruction;
-use crate::SisaLoad;
-use crate::SisaRun;
-use crate::SisaSaved;
-use crate::SisaWord;
+ghost use Rattle.replies.specs.Sisa.{sisaLoad, sisaSaved, verdictNumber, sisaRun, sisaInstruction, sisaWord, sisaWrite};
 use engine::Answer;
 use engine::Ran;
 use image::Loaded;
 use image::Loading;
 use image::save::Saving;
+use isa::Instruction;
 use isa::Reading;
 use isa::Writing;
 use machine::Setting;
+use machine::State;
+use refusal::Refusal;
+
+#[repr(C)]
+pub struct SisaLoad {
+    pub state: State,
+    pub refusal: u8,
+}
+
+#[repr(C)]
+pub struct SisaRun {
+    pub state: State,
+    pub refusal: u8,
+    pub stop: u8,
+    pub steps: u32,
+    pub entries: u64,
+}
+
+#[repr(C)]
+pub struct SisaAnswer {
+    pub refusal: u8,
+    pub stop: u8,
+    pub steps: u32,
+    pub entries: u64,
+}
+
+#[repr(C)]
+pub struct SisaInstruction {
+    pub assigned: u8,
+    pub kind: u8,
+    pub a: u8,
+    pub b: u8,
+    pub d: u8,
+    pub n: i16,
+}
+
+#[repr(C)]
+pub struct SisaWord {
+    pub refusal: u8,
+    pub word: u16,
+}
+
+#[repr(C)]
+pub struct SisaWindow {
+    pub start: usize,
+    pub count: usize,
+}
+
+#[repr(C)]
+pub struct SisaSaved {
+    pub refusal: u8,
+    pub length: usize,
+}
 
 pub fn load(loaded: Loaded) -> SisaLoad
     ensures { λ r. ⌜ r ≡ sisaLoad (shownLoading (loaded .reply)) (loaded .state) ⌝ }
@@ -113,5 +164,30 @@ pub fn word(writing: Writing) -> SisaWord
             refusal: refusal::number(refusal),
             word: 0,
         },
+    }
+}
+
+// The instruction that has these numbers, written. There are 25 kinds.
+pub fn write(kind: u8, a: u8, b: u8, d: u8, n: i16) -> SisaWord
+    ensures { λ r. ⌜ r ≡ sisaWrite kind a b d n ⌝ }
+{
+    if 24 < kind {
+        return SisaWord {
+            refusal: refusal::number(Refusal::InstructionPart),
+            word: 0,
+        };
+    }
+    let kind = isa::kind_at(kind);
+    word(isa::write(Instruction { kind, a, b, d, n }))
+}
+
+// A part of a memory: where it starts and how many bytes it has. An empty part starts at 0.
+pub fn window(start: usize, count: usize) -> SisaWindow
+    ensures { λ r. ⌜ r ≡ pick (eqb count 0) (record { start = 0; count = 0 }) (record { start = start; count = count }) ⌝ }
+{
+    if count == 0 {
+        SisaWindow { start: 0, count: 0 }
+    } else {
+        SisaWindow { start, count }
     }
 }

@@ -4,9 +4,9 @@ use mathlib.Core.Path.{sym, ap}
 use borrow.Author.Needs.{needs}
 use Rattle.image.specs.declared.save.Saving.{Saving}
 use Rattle.image.specs.Saved.{shownSaving}
-use Rattle.sisa.specs.Sisa.{sisaSaved}
-use Rattle.sisa.proofs.replies.save.Statement.{statement}
-use Rattle.sisa.proofs.replies.save.Tie as tie
+use Rattle.replies.specs.Sisa.{sisaSaved}
+use Rattle.replies.proofs.save.Statement.{statement}
+use Rattle.replies.proofs.save.Tie as tie
 
 returns : tie.Need-returns
 returns c = sym (ap (λ (x : Saving). sisaSaved (shownSaving x)) (c .before .saving .given .1))

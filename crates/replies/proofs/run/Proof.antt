@@ -4,9 +4,9 @@ use mathlib.Core.Path.{sym, ap}
 use borrow.Author.Needs.{needs}
 use Rattle.engine.specs.declared.Answer.{Answer}
 use Rattle.engine.specs.Runs.{shownAnswer}
-use Rattle.sisa.specs.Sisa.{sisaRun}
-use Rattle.sisa.proofs.replies.run.Statement.{statement}
-use Rattle.sisa.proofs.replies.run.Tie as tie
+use Rattle.replies.specs.Sisa.{sisaRun}
+use Rattle.replies.proofs.run.Statement.{statement}
+use Rattle.replies.proofs.run.Tie as tie
 
 returns : tie.Need-returns
 returns c =

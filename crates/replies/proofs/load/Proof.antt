@@ -4,9 +4,9 @@ use mathlib.Core.Path.{sym, ap}
 use borrow.Author.Needs.{needs}
 use Rattle.image.specs.declared.Loading.{Loading}
 use Rattle.image.specs.Image.{shownLoading}
-use Rattle.sisa.specs.Sisa.{sisaLoad}
-use Rattle.sisa.proofs.replies.load.Statement.{statement}
-use Rattle.sisa.proofs.replies.load.Tie as tie
+use Rattle.replies.specs.Sisa.{sisaLoad}
+use Rattle.replies.proofs.load.Statement.{statement}
+use Rattle.replies.proofs.load.Tie as tie
 
 returns : tie.Need-returns
 returns c =

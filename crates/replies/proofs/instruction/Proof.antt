@@ -10,9 +10,9 @@ use Rattle.isa.specs.declared.Reading.{Reading}
 use Rattle.isa.specs.declared.Instruction.{Instruction}
 use Rattle.isa.specs.Sheet.{kindNumber}
 use Rattle.isa.specs.Instructions.{instruction, shownReading}
-use Rattle.sisa.specs.Sisa.{sisaInstruction}
-use Rattle.sisa.proofs.replies.instruction.Statement.{statement}
-use Rattle.sisa.proofs.replies.instruction.Tie as tie
+use Rattle.replies.specs.Sisa.{sisaInstruction}
+use Rattle.replies.proofs.instruction.Statement.{statement}
+use Rattle.replies.proofs.instruction.Tie as tie
 
 in-numbers : (i : Instruction) {k : ℕ} {n : ℤ} → k ≡ kindNumber (i .kind) → n ≡ i .n
     → record { assigned = 1; kind = k; a = i .a; b = i .b; d = i .d; n = n } ≡ sisaInstruction (instruction i)

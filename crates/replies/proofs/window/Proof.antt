@@ -1,0 +1,14 @@
+-- By whether the part has bytes.
+-- Assumes nothing.
+use borrow.Author.Tests.{eq-eqb, ne-eqb}
+use Rattle.replies.proofs.window.Statement.{statement}
+use Rattle.replies.proofs.window.Tie as tie
+
+returns : tie.Need-returns
+returns c = rw (eq-eqb _ 0 (c .if1 .taken))
+
+returns-2 : tie.Need-returns-2
+returns-2 c = rw (ne-eqb _ 0 (c .if1 .left))
+
+pub window-spec : {M : Type 1} → statement M
+window-spec = tie.close (tie.spec returns returns-2)
