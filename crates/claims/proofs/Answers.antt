@@ -18,9 +18,9 @@ use Rattle.machine.specs.Calls.{shownSetting}
 use Rattle.image.specs.declared.Loading.{Loading}
 use Rattle.image.specs.declared.Loading.the-variants.{Accepted, Refused as LoadRefused}
 use Rattle.image.specs.Image.{shownLoading}
-use Rattle.image.specs.declared.save.Saving.{Saving}
-use Rattle.image.specs.declared.save.Saving.the-variants.{Saved, Refused as SaveRefused}
-use Rattle.image.specs.Saved.{SaveReply, saved, refused as save-refused, shownSaving}
+use Rattle.save.specs.declared.Saving.{Saving}
+use Rattle.save.specs.declared.Saving.the-variants.{Saved, Refused as SaveRefused}
+use Rattle.save.specs.Saved.{SaveReply, saved, refused as save-refused, shownSaving}
 use Rattle.engine.specs.declared.Answer.{Answer}
 use Rattle.engine.specs.declared.Answer.the-variants.{Stopped, Refused as RunRefused}
 use Rattle.engine.specs.Runs.{RunReply, stopped, refused as run-refused, shownAnswer}

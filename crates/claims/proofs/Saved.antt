@@ -8,8 +8,8 @@ use native.Mathlib.Omega.{arith}
 use lib.ListN.{length, take, drop}
 use lib.Seq.{take-append-seam}
 use Rattle.word.proofs.Tests.{clash}
-use Rattle.image.specs.Saved.{savedFile, SaveReply, saved, refused, SaveGiven, SaveLeft, saveReply, leftBy, saveLeft}
-use Rattle.image.proofs.Saved.{RightLengths, file-length, file-at-most, loads-back, last-word, least-words, last-byte, least-bytes, number-1, number-9, saves, no-other, nothing-changes}
+use Rattle.save.specs.Saved.{savedFile, SaveReply, saved, refused, SaveGiven, SaveLeft, saveReply, leftBy, saveLeft}
+use Rattle.save.proofs.Saved.{RightLengths, file-length, file-at-most, loads-back, last-word, least-words, last-byte, least-bytes, number-1, number-9, saves, no-other, nothing-changes}
 use Rattle.claims.specs.Saved.{LoadsAs, MemoryLengths, ShortDestination, SaveRefusals, Saved}
 use Rattle.claims.proofs.Decides.{decides-eq, decides-le, decides-stable}
 

@@ -11,7 +11,7 @@ use Rattle.machine.specs.declared.Setting.{Setting}
 use Rattle.machine.specs.Calls.{shownSetting}
 use Rattle.image.specs.declared.Loading.{Loading}
 use Rattle.image.specs.Image.{shownLoading}
-use Rattle.image.specs.Saved.{shownSaving}
+use Rattle.save.specs.Saved.{shownSaving}
 use Rattle.engine.specs.declared.Answer.{Answer}
 use Rattle.engine.specs.Runs.{shownAnswer}
 use Rattle.isa.specs.Sheet.{kindNumber}

@@ -11,7 +11,7 @@ use Rattle.machine.specs.Run.{Stepper, byRules}
 use Rattle.machine.specs.Calls.{SetLeft, shownSetting, setLeft, windowOf}
 use Rattle.isa.specs.Instructions.{shownReading, readOf, shownWriting, writeOf}
 use Rattle.image.specs.Image.{LoadLeft, shownLoading, loadLeft}
-use Rattle.image.specs.Saved.{SaveLeft, shownSaving, saveLeft}
+use Rattle.save.specs.Saved.{SaveLeft, shownSaving, saveLeft}
 use Rattle.control.specs.Control.{byControl, byTable}
 use Rattle.engine.specs.declared.Ran.{Ran}
 use Rattle.engine.specs.Runs.{given, left, shownAnswer, RunMeets}
@@ -21,7 +21,7 @@ use Rattle.isa.proofs.write.Reads as write
 use Rattle.machine.proofs.set_input.Reads as set-input
 use Rattle.machine.proofs.window.Reads as window
 use Rattle.image.proofs.load.Reads as load
-use Rattle.image.proofs.save.save.Reads as save
+use Rattle.save.proofs.save.Reads as save
 use Rattle.engine.proofs.run_by_rules.Reads as run-by-rules
 use Rattle.engine.proofs.run_by_table.Reads as run-by-table
 use Rattle.engine.proofs.run_by_control.Reads as run-by-control

@@ -8,7 +8,7 @@ use lib.ListN.{length, getD, take, replicate}
 use Rattle.refusal.specs.Refusals.{accepted}
 use Rattle.machine.specs.Machine.{reset, wordAt}
 use Rattle.image.specs.Image.{LoadLeft, loadLeft}
-use Rattle.image.specs.Saved.{wordsKept, bytesKept, savedFile, saved, refused, SaveGiven, SaveLeft, saveLeft}
+use Rattle.save.specs.Saved.{wordsKept, bytesKept, savedFile, saved, refused, SaveGiven, SaveLeft, saveLeft}
 
 -- what a load leaves that gave back P and D, with ports and registers reset
 abbrev pub givenBack : List ℕ → List ℕ → LoadLeft

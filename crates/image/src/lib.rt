@@ -1,4 +1,4 @@
-// Loading a trim file, called an image here; `save` writes one.
+// Loading a trim file, called an image here.
 ghost use mathlib.Core.Path.{_≡_};
 ghost use mathlib.Core.List.{_++_};
 ghost use Prim.Native.Nat.{_+_, _-_, _<_, _≤_};
@@ -6,11 +6,10 @@ ghost use lib.ListN.{length, take, drop, replicate};
 ghost use Rattle.refusal.specs.Refusals.{accepted};
 ghost use Rattle.image.specs.Parts.{programPart, dataPart, ReadAs};
 ghost use Rattle.image.specs.Image.{number32, partsFit, inside, partsInside, LoadLeft, loadReply, leftBy, loadLeft, shownLoading};
+use block::copy;
 use bus::lengths_fit;
 use machine::State;
 use refusal::Refusal;
-
-pub mod save;
 
 pub enum Loading {
     Accepted,
@@ -30,7 +29,7 @@ struct Part {
     count: usize,
 }
 
-const HEADER_BYTES: usize = 16;
+pub const HEADER_BYTES: usize = 16;
 
 // Where the header's numbers stand.
 const WORDS: usize = 0;
@@ -116,17 +115,6 @@ fn verdict(file: &[u8], program: &[u8], memory: &[u8], inputs: &[u16], outputs: 
         return Loading::Refused(Refusal::PartOutside);
     }
     Loading::Accepted
-}
-
-fn copy(source: &[u8], target: &mut [u8])
-    requires { ⌜ length (now source) ≡ length (now target) ⌝ }
-    ensures { λ _. ⌜ now (target .exit) ≡ now (source .entry) ⌝ }
-{
-    let mut i = 0;
-    while i < target.len() {
-        target[i] = source[i];
-        i += 1;
-    }
 }
 
 fn zero_bytes(bytes: &mut [u8])

@@ -17,7 +17,7 @@ use Rattle.machine.specs.declared.State.{State}
 use Rattle.machine.specs.Run.{Stepper}
 use Rattle.machine.specs.Calls.{SetGiven, SetLeft, setLeft}
 use Rattle.image.specs.Image.{LoadGiven, LoadLeft, loadLeft}
-use Rattle.image.specs.Saved.{SaveReply, saved, refused as save-refused, SaveGiven, SaveLeft, saveLeft}
+use Rattle.save.specs.Saved.{SaveReply, saved, refused as save-refused, SaveGiven, SaveLeft, saveLeft}
 use Rattle.control.specs.Control.{byTable}
 use Rattle.engine.specs.Runs.{Given, given, RunReply, stopped, refused as run-refused, Left, runLeft}
 use Rattle.replies.specs.declared.SisaLoad.{SisaLoad}

@@ -8,7 +8,7 @@ use Rattle.machine.specs.declared.State.{State}
 use Rattle.machine.specs.Run.{Stepper}
 use Rattle.machine.specs.Calls.{SetGiven, SetLeft, setLeft}
 use Rattle.image.specs.Image.{LoadGiven, LoadLeft, loadLeft}
-use Rattle.image.specs.Saved.{SaveReply, SaveGiven, SaveLeft, saveLeft}
+use Rattle.save.specs.Saved.{SaveReply, SaveGiven, SaveLeft, saveLeft}
 use Rattle.engine.specs.Runs.{Given, left, RunReply, RunMeets}
 use Rattle.replies.specs.declared.SisaLoad.{SisaLoad}
 use Rattle.replies.specs.declared.SisaSaved.{SisaSaved}

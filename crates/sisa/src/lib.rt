@@ -38,7 +38,7 @@ pub extern "C" fn sisa_load(
 pub extern "C" fn sisa_save(program: &[u8], memory: &[u8], destination: &mut [u8]) -> SisaSaved
     ensures { λ r. ⌜ _≡_ {A = SisaSaveLeft} (record { reply = r; P = now (program .exit); D = now (memory .exit); destination = now (destination .exit) }) (sisaSaveLeft (record { P = now (program .entry); D = now (memory .entry); destination = now (destination .entry) })) ⌝ }
 {
-    let saving = image::save::save(program, memory, destination);
+    let saving = save::save(program, memory, destination);
     replies::save(saving)
 }
 

@@ -4,7 +4,7 @@ use mathlib.Core.Path.{sym}
 use lib.ListN.{length}
 use lib.Seq.{length-take-le}
 use borrow.Author.Needs.{needs}
-use Rattle.image.proofs.Placing.{front, placed}
+use Rattle.block.proofs.Placing.{front, placed}
 use Rattle.image.proofs.place.Statement.{statement}
 use Rattle.image.proofs.place.Tie as tie
 

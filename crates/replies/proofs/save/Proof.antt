@@ -2,8 +2,8 @@
 -- Assumes nothing.
 use mathlib.Core.Path.{sym, ap}
 use borrow.Author.Needs.{needs}
-use Rattle.image.specs.declared.save.Saving.{Saving}
-use Rattle.image.specs.Saved.{shownSaving}
+use Rattle.save.specs.declared.Saving.{Saving}
+use Rattle.save.specs.Saved.{shownSaving}
 use Rattle.replies.specs.Sisa.{sisaSaved}
 use Rattle.replies.proofs.save.Statement.{statement}
 use Rattle.replies.proofs.save.Tie as tie

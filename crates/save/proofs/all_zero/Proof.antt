@@ -3,9 +3,9 @@
 use Prim.Native.Nat.{_-_}
 use lib.ListN.{length, getD}
 use borrow.Author.Needs.{needs}
-use Rattle.image.proofs.Kept.{Tested, test-start, test-turn, test-whole}
-use Rattle.image.proofs.save.all_zero.Statement.{statement}
-use Rattle.image.proofs.save.all_zero.Tie as tie
+use Rattle.save.proofs.Kept.{Tested, test-start, test-turn, test-whole}
+use Rattle.save.proofs.all_zero.Statement.{statement}
+use Rattle.save.proofs.all_zero.Tie as tie
 
 abbrev Inv-loop : tie.InvT-loop
 Inv-loop bytes zero₀ i₀ zero i = Tested (λ k. getD bytes k 0) (length bytes) i zero

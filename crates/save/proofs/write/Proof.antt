@@ -1,9 +1,9 @@
 -- Header, program and data are put one after the other (`written`).
 -- Assumes nothing.
 use borrow.Author.Needs.{needs}
-use Rattle.image.proofs.Writing.{written}
-use Rattle.image.proofs.save.write.Statement.{statement}
-use Rattle.image.proofs.save.write.Tie as tie
+use Rattle.save.proofs.Writing.{written}
+use Rattle.save.proofs.write.Statement.{statement}
+use Rattle.save.proofs.write.Tie as tie
 
 returns : tie.Need-returns
 returns c =

@@ -1,9 +1,9 @@
 -- Half the bytes kept, rounded up (`words-kept`).
 -- Assumes nothing.
 use borrow.Author.Needs.{needs}
-use Rattle.image.proofs.Kept.{words-kept}
-use Rattle.image.proofs.save.words_kept.Statement.{statement}
-use Rattle.image.proofs.save.words_kept.Tie as tie
+use Rattle.save.proofs.Kept.{words-kept}
+use Rattle.save.proofs.words_kept.Statement.{statement}
+use Rattle.save.proofs.words_kept.Tie as tie
 
 returns : tie.Need-returns
 returns c = (words-kept (c .before .before .args .program .now) (c .before .before .pre) (c .bytes-kept .ensures .0), search needs)

@@ -3,9 +3,9 @@
 use mathlib.Core.Path.{sym}
 use lib.Seq.{length-take-le}
 use borrow.Author.Needs.{needs}
-use Rattle.image.proofs.Placing.{front, stored-at}
-use Rattle.image.proofs.save.put_at.Statement.{statement}
-use Rattle.image.proofs.save.put_at.Tie as tie
+use Rattle.block.proofs.Placing.{front, stored-at}
+use Rattle.save.proofs.put_at.Statement.{statement}
+use Rattle.save.proofs.put_at.Tie as tie
 
 returns : tie.Need-returns
 returns c =

@@ -4,9 +4,9 @@ ghost use mathlib.Core.List.{_++_};
 ghost use Prim.Native.Nat.{_+_, _*_, _<_, _≤_};
 ghost use lib.Dec.{eqb};
 ghost use lib.ListN.{length, getD, take, drop};
-ghost use Rattle.image.specs.Saved.{kept, wordsKept, bytesKept, header, fileOf, SaveLeft, shownSaving, saveLeft};
-use crate::HEADER_BYTES;
-use crate::copy;
+ghost use Rattle.save.specs.Saved.{kept, wordsKept, bytesKept, header, fileOf, SaveLeft, shownSaving, saveLeft};
+use block::copy;
+use image::HEADER_BYTES;
 use machine::State;
 use refusal::Refusal;
 

@@ -2,9 +2,9 @@
 -- Assumes nothing.
 use lib.ListN.{getD}
 use borrow.Author.Needs.{needs}
-use Rattle.image.proofs.Kept.{Narrowed, narrow-start, narrow-one, narrow-found, narrow-none}
-use Rattle.image.proofs.save.kept_below.Statement.{statement}
-use Rattle.image.proofs.save.kept_below.Tie as tie
+use Rattle.save.proofs.Kept.{Narrowed, narrow-start, narrow-one, narrow-found, narrow-none}
+use Rattle.save.proofs.kept_below.Statement.{statement}
+use Rattle.save.proofs.kept_below.Tie as tie
 
 abbrev Inv-loop : tie.InvT-loop
 Inv-loop bytes n end₀ end = Narrowed (λ k. getD bytes k 0) n end

@@ -7,8 +7,8 @@ use lib.ListN.{length, getD, take, drop}
 use Rattle.refusal.specs.Refusals.{refusalNumber}
 use Rattle.word.specs.Word.{pick}
 use Rattle.machine.specs.Machine.{wordAt}
-use Rattle.image.specs.declared.save.Saving.{Saving}
-use Rattle.image.specs.declared.save.Saving.the-variants.{Saved, Refused}
+use Rattle.save.specs.declared.Saving.{Saving}
+use Rattle.save.specs.declared.Saving.the-variants.{Saved, Refused}
 
 -- ---- The file
 

@@ -14,7 +14,7 @@ use lib.Seq.{getD-take, getD-drop}
 use borrow.Author.Tests.{eqb-true, eqb-false, eq-eqb, ne-eqb}
 use Rattle.word.specs.Word.{add}
 use Rattle.machine.specs.Machine.{wordAt}
-use Rattle.image.specs.Saved.{kept, wordsKept, bytesKept}
+use Rattle.save.specs.Saved.{kept, wordsKept, bytesKept}
 
 -- r of n elements are kept
 pub record Cut (f : ℕ → ℕ) (n r : ℕ) : Type 0 where

@@ -2,10 +2,10 @@
 -- Assumes nothing.
 use mathlib.Core.Logic.{inl, inr}
 use borrow.Author.Needs.{needs}
-use Rattle.image.proofs.Saved.{lengths}
-use Rattle.image.proofs.Writing.{refused-left, short-left, written-left}
-use Rattle.image.proofs.save.save.Statement.{statement}
-use Rattle.image.proofs.save.save.Tie as tie
+use Rattle.save.proofs.Saved.{lengths}
+use Rattle.save.proofs.Writing.{refused-left, short-left, written-left}
+use Rattle.save.proofs.save.Statement.{statement}
+use Rattle.save.proofs.save.Tie as tie
 
 returns-3 : tie.Need-returns-3
 returns-3 c =

@@ -6,8 +6,8 @@ use mathlib.Core.List.{List, _++_}
 use native.Mathlib.Omega.{arith}
 use lib.ListN.{length, take, drop, length-append, length-take}
 use lib.Seq.{take-at, drop-at, drop-drop}
-use Rattle.image.specs.Saved.{wordsKept, bytesKept, header, fileOf, savedFile, saved, refused, SaveGiven, SaveLeft, leftBy, saveLeft}
-use Rattle.image.proofs.Saved.{file-length, Found, short, room, decided, replies, nothing-changes}
+use Rattle.save.specs.Saved.{wordsKept, bytesKept, header, fileOf, savedFile, saved, refused, SaveGiven, SaveLeft, leftBy, saveLeft}
+use Rattle.save.proofs.Saved.{file-length, Found, short, room, decided, replies, nothing-changes}
 
 -- the memory begins with `front`, of n bytes, and is as it was after that
 pub record Begun (front old memory : List ℕ) (n : ℕ) : Type 0 where

@@ -13,11 +13,11 @@ use lib.Seq.{ext-getD, getD-drop, take-at, drop-at, drop-drop, take-take, length
 use borrow.Author.Tests.{eq-eqb, ne-eqb, le-leb, lt-leb}
 use Rattle.refusal.specs.Refusals.{accepted}
 use Rattle.machine.specs.Machine.{reset, wordAt}
 use Rattle.image.specs.Image.{W, programOffset, C, dataOffset, memoryOf, loadReply, loadLeft}
-use Rattle.image.specs.Saved.{kept, wordsKept, bytesKept, savedFile, SaveReply, saved, refused, SaveGiven, saveReply, leftBy, saveLeft}
+use Rattle.save.specs.Saved.{kept, wordsKept, bytesKept, savedFile, SaveReply, saved, refused, SaveGiven, saveReply, leftBy, saveLeft}
 use Rattle.image.proofs.Fits.{no-refusal}
 use Rattle.image.proofs.Left.{left-by, accepted-left}
-use Rattle.image.proofs.Kept.{Cut, cut, least, words-kept}
+use Rattle.save.proofs.Kept.{Cut, cut, least, words-kept}
 
 -- ---- Its length
 

@@ -4,9 +4,9 @@ use Prim.Native.Nat.{_-_}
 use mathlib.Core.Path.{refl}
 use lib.ListN.{length}
 use borrow.Author.Needs.{needs}
-use Rattle.image.proofs.Filling.{Filled, start, turn, whole}
-use Rattle.image.proofs.copy.Statement.{statement}
-use Rattle.image.proofs.copy.Tie as tie
+use Rattle.block.proofs.Filling.{Filled, start, turn, whole}
+use Rattle.block.proofs.copy.Statement.{statement}
+use Rattle.block.proofs.copy.Tie as tie
 
 abbrev Inv-loop : tie.InvT-loop
 Inv-loop source target₀ i₀ target i = Filled source target₀ target i

@@ -2,10 +2,10 @@
 -- Assumes nothing.
 use lib.ListN.{length, getD}
 use borrow.Author.Needs.{needs}
 use Rattle.image.proofs.Fits.{passes}
-use Rattle.image.proofs.Kept.{Narrowed, narrow-start, narrow-part, narrow-fits}
-use Rattle.image.proofs.save.bytes_kept.Statement.{statement}
-use Rattle.image.proofs.save.bytes_kept.Tie as tie
+use Rattle.save.proofs.Kept.{Narrowed, narrow-start, narrow-part, narrow-fits}
+use Rattle.save.proofs.bytes_kept.Statement.{statement}
+use Rattle.save.proofs.bytes_kept.Tie as tie
 
 abbrev Inv-loop : tie.InvT-loop
 Inv-loop bytes end₀ end = Narrowed (λ k. getD bytes k 0) (length bytes) end

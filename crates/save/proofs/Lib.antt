@@ -1,0 +1,3 @@
+mod Kept
+mod Writing
+pub mod Saved
