@@ -1,5 +1,4 @@
 // A case: its load, its calls and its saves.
-use crate::calls;
 use crate::saves;
 use machine::State;
 use player::file;

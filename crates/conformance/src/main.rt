@@ -1,12 +1,8 @@
 // Plays pseudo-random calls on pseudo-random files, and prints what docs/CONFORMANCE.md says.
 use machine::State;
 
-mod calls;
 mod cases;
-mod host;
-mod instructions;
 mod printed;
-mod runs;
 mod saves;
 
 fn main() {

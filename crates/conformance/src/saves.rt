@@ -1,5 +1,4 @@
 // The saves of a case, and the load of a saved file.
-use crate::calls;
 use crate::cases;
 use player::digest;
 use player::lent::Log;

@@ -12,13 +12,13 @@ use engine::Answer;
 use engine::Ran;
 use image::Loaded;
 use image::Loading;
-use save::Saving;
 use isa::Instruction;
 use isa::Reading;
 use isa::Writing;
 use machine::Setting;
 use machine::State;
 use refusal::Refusal;
+use save::Saving;
 
 #[repr(C)]
 pub struct SisaLoad {

@@ -1,5 +1,5 @@
 // Reading and writing instructions.
-use crate::calls;
+use crate::start_line;
 use player::print;
 use player::runs::of_call;
 use replies::SisaInstruction;
@@ -51,7 +51,7 @@ fn write_changed(read: SisaInstruction, change: u16) -> SisaWord {
 
 pub fn read_and_write(c: u16, i: u16) {
     let read = sisa::sisa_read(of_call(c, i, 1));
-    calls::start_line(b"instruction", c, i);
+    start_line(b"instruction", c, i);
     print_read(read);
     if read.assigned == 1 {
         print_written(write_changed(read, of_call(c, i, 2) % 8));

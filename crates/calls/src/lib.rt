@@ -1,6 +1,4 @@
-// The calls of a case.
-use crate::instructions;
-use crate::runs;
+// The calls of a case of docs/CONFORMANCE.md, played on the C interface.
 use machine::State;
 use player::digest;
 use player::lent::Log;
@@ -11,6 +9,10 @@ use player::lent::least;
 use player::print;
 use player::runs::of_call;
 use replies::SisaWindow;
+
+mod host;
+mod instructions;
+mod runs;
 
 // The start of a call's line.
 pub fn start_line(what: &[u8], c: u16, i: u16) {

@@ -3,8 +3,8 @@
 use native.Mathlib.Omega.{arith}
 use borrow.Author.Needs.{needs}
 use Rattle.isa.proofs.Signs.{negative, natural}
-use Rattle.conformance.proofs.instructions.word_of.Statement.{statement}
-use Rattle.conformance.proofs.instructions.word_of.Tie as tie
+use Rattle.calls.proofs.instructions.word_of.Statement.{statement}
+use Rattle.calls.proofs.instructions.word_of.Tie as tie
 
 pub word-of-spec : {M : Type 1} → statement M
 word-of-spec =

@@ -55,10 +55,10 @@ use Rattle.sisa.proofs.host.sisa_host_step.Met as host-step-thm
 use Rattle.replies.specs.declared.SisaRun.{SisaRun}
 use Rattle.replies.proofs.SisaRun as R
 use Rattle.replies.proofs.SisaRun.Laws as R′
-use Rattle.conformance.proofs.host.host_step.Key.{name as #step}
-use Rattle.conformance.proofs.host.host_step as step
-use Rattle.conformance.proofs.host.host_step.Statement as stated
-use Rattle.conformance.proofs.host.host_step.Code as code
+use Rattle.calls.proofs.host.host_step.Key.{name as #step}
+use Rattle.calls.proofs.host.host_step as step
+use Rattle.calls.proofs.host.host_step.Statement as stated
+use Rattle.calls.proofs.host.host_step.Code as code
 
 abbrev Ref : Type 0
 Ref = RefT (List ℕ)
