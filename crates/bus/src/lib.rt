@@ -3,7 +3,7 @@ ghost use mathlib.Core.Path.{_≡_};
 ghost use Prim.Native.Nat.{_+_, _*_, _%_, _<_};
 ghost use lib.ListN.{length, getD, set};
 ghost use Rattle.word.specs.Word.{clear0};
-ghost use Rattle.machine.specs.Calls.{lengthsFit};
+ghost use Rattle.machine.specs.Lengths.{lengthsFit};
 ghost use Rattle.machine.specs.Machine.{wordAt, putWord, putByte};
 use machine::Address;
 use machine::Port;

@@ -5,7 +5,7 @@ use Rattle.machine.specs.Step.{fetched, step}
 use Rattle.machine.specs.Run.{byRules}
 use Rattle.control.specs.Control.{byTable}
 use Rattle.control.proofs.Agreement.{agreement, agreement-port, same-stepper}
-use Rattle.engine.specs.Runs.{Given, runLeft}
+use Rattle.run.specs.Runs.{Given, runLeft}
 use Rattle.claims.specs.Agreement.{Agreement}
 
 pub same-run : (g : Given) → runLeft byTable g ≡ runLeft byRules g

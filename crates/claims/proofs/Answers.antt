@@ -7,24 +7,24 @@ use lib.ListN.{getD}
 use Rattle.refusal.specs.declared.Refusal.{Refusal}
 use Rattle.refusal.specs.declared.Refusal.the-variants.{LentLength, ShortFile, LargePart, PartOutside, OddPc, StepCount, InstructionPart, LongFile, ShortDestination}
 use Rattle.refusal.specs.Refusals.{refusalNumber, Verdict, accepted, refused as turned-away}
-use Rattle.isa.specs.declared.Kind.the-variants.{And}
+use Rattle.kinds.specs.declared.Kind.the-variants.{And}
 use Rattle.isa.specs.declared.Reading.{Reading}
 use Rattle.isa.specs.declared.Reading.the-variants.{Instruction as ReadInstruction, Unassigned as ReadUnassigned}
 use Rattle.isa.specs.declared.Writing.{Writing}
 use Rattle.isa.specs.declared.Writing.the-variants.{Word, Refused}
-use Rattle.machine.specs.declared.Setting.{Setting}
-use Rattle.machine.specs.declared.Setting.the-variants.{Done, Refused as SetRefused}
-use Rattle.machine.specs.Calls.{shownSetting}
+use Rattle.panel.specs.declared.Setting.{Setting}
+use Rattle.panel.specs.declared.Setting.the-variants.{Done, Refused as SetRefused}
+use Rattle.panel.specs.Calls.{shownSetting}
 use Rattle.image.specs.declared.Loading.{Loading}
 use Rattle.image.specs.declared.Loading.the-variants.{Accepted, Refused as LoadRefused}
 use Rattle.image.specs.Image.{shownLoading}
 use Rattle.save.specs.declared.Saving.{Saving}
 use Rattle.save.specs.declared.Saving.the-variants.{Saved, Refused as SaveRefused}
 use Rattle.save.specs.Saved.{SaveReply, saved, refused as save-refused, shownSaving}
-use Rattle.engine.specs.declared.Answer.{Answer}
-use Rattle.engine.specs.declared.Answer.the-variants.{Stopped, Refused as RunRefused}
-use Rattle.engine.specs.Runs.{RunReply, stopped, refused as run-refused, shownAnswer}
-use Rattle.isa.specs.Sheet.{kinds}
+use Rattle.run.specs.declared.Answer.{Answer}
+use Rattle.run.specs.declared.Answer.the-variants.{Stopped, Refused as RunRefused}
+use Rattle.run.specs.Runs.{RunReply, stopped, refused as run-refused, shownAnswer}
+use Rattle.kinds.specs.Kinds.{kinds}
 use Rattle.isa.specs.Instructions.{Read, instruction, unassigned, shownReading, Written, word, refused, shownWriting}
 use Rattle.isa.proofs.Every.{listed}
 use Rattle.claims.specs.Answers.{Injective, Answers}

@@ -4,8 +4,8 @@ use mathlib.Core.Path.{_≡_, refl, sym, ap, _∙_}
 use mathlib.Core.List.{List, [], _∷_, map}
 use Prim.Native.Nat.{ℕ}
 use Rattle.machine.specs.Run.{byRules}
-use Rattle.machine.specs.Calls.{SetLeft, setLeft}
-use Rattle.engine.specs.Runs.{Left, runLeft}
+use Rattle.panel.specs.Calls.{SetLeft, setLeft}
+use Rattle.run.specs.Runs.{Left, runLeft}
 use Rattle.claims.specs.Session.{by-rules, by-table, Lent, Call, runs, sets, Reply, of-run, of-set, plain, Alike, Host, givenTo, afterRun, afterSet, CallMeets, a-run, a-setting, Calls, none, more}
 use Rattle.claims.proofs.Agreement.{same-run}
 use Rattle.claims.proofs.Together.{both}

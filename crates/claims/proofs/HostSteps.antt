@@ -9,9 +9,9 @@ use lib.Dec.{eqb, leb}
 use Rattle.refusal.specs.Refusals.{Verdict, accepted, refused as turned-away}
 use Rattle.word.specs.Word.{pick}
 use Rattle.machine.specs.declared.State.{State}
-use Rattle.machine.specs.Calls.{lengthsFit}
+use Rattle.machine.specs.Lengths.{lengthsFit}
 use Rattle.control.specs.Control.{byTable}
-use Rattle.engine.specs.Runs.{Given, Left, RunReply, stopped, refused, verdict, verdictOn, leftBy, runLeft}
+use Rattle.run.specs.Runs.{Given, Left, RunReply, stopped, refused, verdict, verdictOn, leftBy, runLeft}
 use Rattle.replies.specs.declared.SisaAnswer.{SisaAnswer}
 use Rattle.replies.specs.declared.SisaRun.{SisaRun}
 use Rattle.replies.specs.Sisa.{SisaRunLeft, sisaRun, sisaLeft, runInNumbers, sisaRunLeft, withState}

@@ -11,9 +11,9 @@ use Rattle.word.specs.Word.{pick}
 use Rattle.machine.specs.Machine.{Machine}
 use Rattle.machine.specs.Step.{PC, to}
 use Rattle.machine.specs.Run.{byRules}
-use Rattle.machine.specs.Calls.{SetLeft, setLeft}
+use Rattle.panel.specs.Calls.{SetLeft, setLeft}
 use Rattle.control.proofs.Laws.{lawful-rules, local-rules}
-use Rattle.engine.specs.Runs.{Left, verdict, verdictOn, leftBy, runLeft}
+use Rattle.run.specs.Runs.{Left, verdict, verdictOn, leftBy, runLeft}
 use Rattle.claims.specs.Session.{Call, Reply, of-run, Host, Lent, givenTo, afterRun, afterSet, CallMeets, a-run, a-setting, Calls, none, more, outcome, machineOn, Only6, All, nil, cons}
 use Rattle.claims.proofs.Shift.{run-keeps}
 use Rattle.claims.proofs.Together.{both}

@@ -13,8 +13,8 @@ use lib.Seq.{getD-set-same}
 use lib.Signed.{ltZ}
 use Rattle.word.specs.Fields.{Bits}
 use Rattle.word.specs.Word.{pick, add, clear0, signed, lowBits, SE, shifted, sha, shl, flag}
-use Rattle.isa.specs.declared.Kind.{Kind}
-use Rattle.isa.specs.declared.Kind.the-variants.{Sha, Shl, Cmplt, Cmpltu, Ldb, Bz}
+use Rattle.kinds.specs.declared.Kind.{Kind}
+use Rattle.kinds.specs.declared.Kind.the-variants.{Sha, Shl, Cmplt, Cmpltu, Ldb, Bz}
 use Rattle.isa.specs.declared.Instruction.{Instruction}
 use Rattle.isa.specs.Sheet.{kindAt, sheet}
 use Rattle.isa.specs.Instructions.{readOf, writeOf}

@@ -10,7 +10,7 @@ use lib.IntN.{ℤ}
 use Rattle.word.specs.Fields.{Bits}
 use Rattle.word.specs.Word.{pick}
 use Rattle.word.proofs.Computed.{both, both-split, all}
-use Rattle.isa.specs.declared.Kind.{Kind}
+use Rattle.kinds.specs.declared.Kind.{Kind}
 use Rattle.isa.specs.declared.Instruction.{Instruction}
 use Rattle.isa.specs.Sheet.{Number, signed-n, unsigned-n, Line, sheet}
 use Rattle.isa.specs.Instructions.{inRange, fits}

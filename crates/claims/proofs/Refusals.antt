@@ -9,9 +9,10 @@ use lib.ListN.{length, set}
 use Rattle.refusal.specs.Refusals.{Verdict, accepted, refused}
 use Rattle.word.proofs.Tests.{clash}
 use Rattle.machine.specs.Run.{Stepper}
-use Rattle.machine.specs.Calls.{lengthsFit, SetGiven, SetLeft, setLeft}
+use Rattle.machine.specs.Lengths.{lengthsFit}
+use Rattle.panel.specs.Calls.{SetGiven, SetLeft, setLeft}
 use Rattle.image.specs.Image.{W, programOffset, C, dataOffset, LoadGiven, loadReply, leftBy as load-leftBy, loadLeft}
-use Rattle.engine.specs.Runs.{Given, stopped, refused as run-refused, verdict, leftBy as run-leftBy, runLeft}
+use Rattle.run.specs.Runs.{Given, stopped, refused as run-refused, verdict, leftBy as run-leftBy, runLeft}
 use Rattle.claims.specs.Refusals.{Lengths, LoadRefusals, SetRefusals, RunRefusals, Refusals}
 use Rattle.claims.proofs.Decides.{Fails, fails-eq, fails-le, fails-and, decides-eq, decides-stable}
 use Rattle.claims.proofs.Chains.{Reply, Tests, last, _then_, at, number, none, one-of}

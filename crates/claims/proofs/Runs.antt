@@ -14,7 +14,7 @@ use Rattle.machine.specs.Run.{Stepper, byRules, Outcome, noPlace, runFrom}
 use Rattle.machine.proofs.Runs.{Lawful, run-none, run-cannot, run-full, run-on}
 use Rattle.control.specs.Control.{byControl}
 use Rattle.control.proofs.Laws.{lawful-control, lawful-rules, cannot-1, cannot-1-control}
-use Rattle.engine.specs.Runs.{Given, left, stopped, machineAt, leftOf, leftBy, runLeft, verdictOn}
+use Rattle.run.specs.Runs.{Given, left, stopped, machineAt, leftOf, leftBy, runLeft, verdictOn}
 use Rattle.claims.specs.Runs.{Takes, none, more, First, budget-used, cannot-step, no-place, Reported, Runs}
 
 -- the number of steps, said in another way

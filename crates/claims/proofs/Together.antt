@@ -13,9 +13,9 @@ use Rattle.refusal.specs.Refusals.{Verdict, accepted, refused}
 use Rattle.word.specs.Word.{pick}
 use Rattle.machine.specs.Machine.{Machine, putI}
 use Rattle.machine.specs.Run.{byRules, Outcome, runFrom}
-use Rattle.machine.specs.Calls.{SetLeft, setLeft}
+use Rattle.panel.specs.Calls.{SetLeft, setLeft}
 use Rattle.control.proofs.Laws.{shift}
-use Rattle.engine.specs.Runs.{Given, Left, stopped, verdictOn, leftOf, leftBy, runLeft, RunMeets}
+use Rattle.run.specs.Runs.{Given, Left, stopped, verdictOn, leftOf, leftBy, runLeft, RunMeets}
 use Rattle.claims.specs.Session.{Engine, by-rules, by-table, stepperOf, Lent, Call, runs, sets, Reply, of-run, of-set, Host, givenTo, afterRun, afterSet, CallMeets, a-run, a-setting, Calls, none, more, wrote, joined, outcome, runBy, machineCall, machineCalls, saidBy, machineSays, machineReplies, machineOn}
 use Rattle.claims.proofs.Agreement.{same-run}
 use Rattle.claims.proofs.Shift.{shiftOutcome, run-shift}

@@ -12,8 +12,8 @@ use Rattle.word.specs.Fields.{opcode, e-of, f-of}
 use Rattle.word.specs.Word.{pick}
 use Rattle.word.proofs.Computed.{all}
 use Rattle.word.proofs.Tests.{clash}
-use Rattle.isa.specs.declared.Kind.{Kind}
-use Rattle.isa.specs.declared.Kind.the-variants.{And}
+use Rattle.kinds.specs.declared.Kind.{Kind}
+use Rattle.kinds.specs.declared.Kind.the-variants.{And}
 use Rattle.isa.specs.declared.Instruction.{Instruction}
 use Rattle.isa.specs.declared.Writing.{Writing}
 use Rattle.isa.specs.declared.Writing.the-variants.{Word, Refused}
@@ -24,7 +24,8 @@ use Rattle.isa.specs.declared.layout.Form.the-variants.{Abd, Axd, AdSigned, AbS
 use Rattle.isa.specs.declared.layout.Layout.{Layout}
 use Rattle.isa.specs.declared.parts.Low.{Low}
 use Rattle.isa.specs.declared.parts.Low.the-variants.{Nothing, Bits}
-use Rattle.isa.specs.Sheet.{kinds, kindAt}
+use Rattle.kinds.specs.Kinds.{kinds}
+use Rattle.isa.specs.Sheet.{kindAt}
 use Rattle.isa.specs.Instructions.{instruction, readAs, readOf, word, shownWriting, writeOf}
 use Rattle.isa.specs.Layouts.{formOf, entryNumber, layoutOf, wordSum, numberOf, bitsOf, fieldsOf, writeBits, writeIn}
 use Rattle.isa.proofs.Every.{every, entry-fixed, at-word, kind-same}

@@ -6,7 +6,7 @@ use Rattle.machine.specs.Machine.{Machine}
 use Rattle.machine.specs.Step.{fetched, step}
 use Rattle.machine.specs.Run.{isOut, byRules}
 use Rattle.control.specs.Control.{controlOf, controlStep, writesPort, byTable}
-use Rattle.engine.specs.Runs.{Given, runLeft}
+use Rattle.run.specs.Runs.{Given, runLeft}
 
 pub record Agreement : Type 0 where
   pub steps : (m : Machine) → controlStep (controlOf (fetched m)) (fetched m) m ≡ step m

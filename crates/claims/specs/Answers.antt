@@ -4,17 +4,17 @@ use mathlib.Core.Path.{_≡_}
 use Prim.Native.Nat.{ℕ}
 use Rattle.refusal.specs.declared.Refusal.{Refusal}
 use Rattle.refusal.specs.Refusals.{refusalNumber}
-use Rattle.isa.specs.declared.Kind.{Kind}
+use Rattle.kinds.specs.declared.Kind.{Kind}
 use Rattle.isa.specs.declared.Reading.{Reading}
 use Rattle.isa.specs.declared.Writing.{Writing}
-use Rattle.machine.specs.declared.Setting.{Setting}
-use Rattle.machine.specs.Calls.{shownSetting}
+use Rattle.panel.specs.declared.Setting.{Setting}
+use Rattle.panel.specs.Calls.{shownSetting}
 use Rattle.image.specs.declared.Loading.{Loading}
 use Rattle.image.specs.Image.{shownLoading}
 use Rattle.save.specs.Saved.{shownSaving}
-use Rattle.engine.specs.declared.Answer.{Answer}
-use Rattle.engine.specs.Runs.{shownAnswer}
-use Rattle.isa.specs.Sheet.{kindNumber}
+use Rattle.run.specs.declared.Answer.{Answer}
+use Rattle.run.specs.Runs.{shownAnswer}
+use Rattle.kinds.specs.Kinds.{kindNumber}
 use Rattle.isa.specs.Instructions.{shownReading, shownWriting}
 
 abbrev pub Injective : {A B : Type 0} → (A → B) → Type 0

@@ -8,18 +8,18 @@ use mathlib.Core.List.{List}
 use Prim.Native.Nat.{ℕ}
 use Rattle.machine.specs.declared.State.{State}
 use Rattle.machine.specs.Run.{Stepper, byRules}
-use Rattle.machine.specs.Calls.{SetLeft, shownSetting, setLeft, windowOf}
+use Rattle.panel.specs.Calls.{SetLeft, shownSetting, setLeft, windowOf}
 use Rattle.isa.specs.Instructions.{shownReading, readOf, shownWriting, writeOf}
 use Rattle.image.specs.Image.{LoadLeft, shownLoading, loadLeft}
 use Rattle.save.specs.Saved.{SaveLeft, shownSaving, saveLeft}
 use Rattle.control.specs.Control.{byControl, byTable}
-use Rattle.engine.specs.declared.Ran.{Ran}
-use Rattle.engine.specs.Runs.{given, left, shownAnswer, RunMeets}
+use Rattle.run.specs.declared.Ran.{Ran}
+use Rattle.run.specs.Runs.{given, left, shownAnswer, RunMeets}
 use Rattle.report.specs.Printed.{held, printed}
 use Rattle.isa.proofs.read.Reads as read
 use Rattle.isa.proofs.write.Reads as write
-use Rattle.machine.proofs.set_input.Reads as set-input
-use Rattle.machine.proofs.window.Reads as window
+use Rattle.panel.proofs.set_input.Reads as set-input
+use Rattle.panel.proofs.window.Reads as window
 use Rattle.image.proofs.load.Reads as load
 use Rattle.save.proofs.save.Reads as save
 use Rattle.engine.proofs.run_by_rules.Reads as run-by-rules

@@ -7,10 +7,10 @@ use mathlib.Core.Logic.{_↔_}
 use mathlib.Core.Path.{_≡_}
 use lib.Dec.{eqb}
 use Rattle.machine.specs.Run.{Stepper, byRules}
-use Rattle.machine.specs.Calls.{windowOf}
+use Rattle.panel.specs.Calls.{windowOf}
 use Rattle.isa.specs.Instructions.{readOf}
 use Rattle.control.specs.Control.{byTable}
-use Rattle.engine.specs.Runs.{given}
+use Rattle.run.specs.Runs.{given}
 use Rattle.replies.specs.declared.SisaRun.{SisaRun}
 use Rattle.replies.specs.Sisa.{SisaLoadLeft, sisaLoadLeft, SisaSaveLeft, sisaSaveLeft, SisaSetLeft, sisaSetLeft, sisaLeft, SisaRunMeets, sisaInstruction, sisaWrite, sisaWindow, chosen, bytesOf}
 use Rattle.sisa.proofs.sisa_load.Reads as load

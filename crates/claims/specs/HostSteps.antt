@@ -5,7 +5,7 @@ use Prim.Native.Nat.{ℕ}
 use lib.Dec.{eqb}
 use Rattle.word.specs.Word.{pick}
 use Rattle.machine.specs.declared.State.{State}
-use Rattle.engine.specs.Runs.{RunReply, stopped, refused}
+use Rattle.run.specs.Runs.{RunReply, stopped, refused}
 use Rattle.replies.specs.declared.SisaAnswer.{SisaAnswer}
 use Rattle.replies.specs.Sisa.{hostLent, HostStepMeets}
 use Rattle.claims.specs.Session.{by-table, Lent, Call, runs, Reply, of-run, Host, CallMeets, Calls}

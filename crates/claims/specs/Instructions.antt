@@ -8,7 +8,7 @@ use lib.IntN.{ℤ, pos, negℤ}
 use lib.Signed.{_≤ℤ_, _<ℤ_}
 use Rattle.word.specs.Fields.{Bits, field, opcode, f-of}
 use Rattle.word.specs.Word.{pick}
-use Rattle.isa.specs.declared.Kind.{Kind}
+use Rattle.kinds.specs.declared.Kind.{Kind}
 use Rattle.isa.specs.declared.Instruction.{Instruction}
 use Rattle.isa.specs.Sheet.{Number, signed-n, unsigned-n, Line, sheet}
 use Rattle.isa.specs.Instructions.{Read, instruction, unassigned, readOf, Written, word, refused, placed, writeOf}

@@ -3,8 +3,8 @@ use mathlib.Core.Path.{_≡_}
 use Prim.Native.Nat.{ℕ}
 use lib.IntN.{ℤ, pos}
 use lib.ListN.{length, getD}
-use Rattle.isa.specs.declared.Kind.{Kind}
-use Rattle.isa.specs.declared.Kind.the-variants.{Sha, Shl, Cmplt, Cmpltu, Cmpleu, Ldb, Bz}
+use Rattle.kinds.specs.declared.Kind.{Kind}
+use Rattle.kinds.specs.declared.Kind.the-variants.{Sha, Shl, Cmplt, Cmpltu, Cmpleu, Ldb, Bz}
 use Rattle.isa.specs.declared.Instruction.{Instruction}
 use Rattle.isa.specs.Instructions.{instruction, readOf, word, writeOf}
 use Rattle.machine.specs.Machine.{Machine, wordAt}

@@ -8,9 +8,9 @@ use lib.ListN.{length}
 use Rattle.refusal.specs.Refusals.{accepted, refused}
 use Rattle.machine.specs.Machine.{reset}
 use Rattle.machine.specs.Run.{Stepper}
-use Rattle.machine.specs.Calls.{SetGiven, SetLeft, setLeft}
+use Rattle.panel.specs.Calls.{SetGiven, SetLeft, setLeft}
 use Rattle.image.specs.Image.{W, programOffset, C, dataOffset, LoadGiven, LoadLeft, loadLeft}
-use Rattle.engine.specs.Runs.{Given, left, stopped, refused as run-refused, runLeft}
+use Rattle.run.specs.Runs.{Given, left, stopped, refused as run-refused, runLeft}
 
 -- ---- The conditions, as 01's table has them
 

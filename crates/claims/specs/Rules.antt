@@ -8,8 +8,8 @@ use lib.IntN.{ℤ, natAbs}
 use lib.ListN.{getD}
 use lib.Signed.{ltZ, leZ}
 use Rattle.word.specs.Word.{pick, flag, add, subtract, clear0, signed, lowBits, sha, shl}
-use Rattle.isa.specs.declared.Kind.{Kind}
-use Rattle.isa.specs.declared.Kind.the-variants.{And, Or, Xor, Not, Add, Sub, Sha, Shl, Cmplt, Cmple, Cmpeq, Cmpltu, Cmpleu, Addi, Ld, St, Ldb, Stb, Jalr, Bz, Bnz, Movi, Movhi, In, Out}
+use Rattle.kinds.specs.declared.Kind.{Kind}
+use Rattle.kinds.specs.declared.Kind.the-variants.{And, Or, Xor, Not, Add, Sub, Sha, Shl, Cmplt, Cmple, Cmpeq, Cmpltu, Cmpleu, Addi, Ld, St, Ldb, Stb, Jalr, Bz, Bnz, Movi, Movhi, In, Out}
 use Rattle.isa.specs.declared.Instruction.{Instruction}
 use Rattle.isa.specs.Instructions.{instruction, unassigned, readOf, word, writeOf}
 use Rattle.machine.specs.Machine.{Machine, R, count, onState, putD, putO, wordAt, putWord, putByte}

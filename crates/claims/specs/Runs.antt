@@ -9,7 +9,7 @@ use Rattle.machine.specs.Machine.{Machine}
 use Rattle.machine.specs.Step.{cannot, to}
 use Rattle.machine.specs.Run.{Stepper, byRules, noPlace}
 use Rattle.control.specs.Control.{byControl}
-use Rattle.engine.specs.Runs.{Given, Left, left, stopped, machineAt, runLeft}
+use Rattle.run.specs.Runs.{Given, Left, left, stopped, machineAt, runLeft}
 
 -- so many possible steps lead from one machine to the other, where v is what the run goes by
 pub data Takes (v : Stepper) : ℕ → Machine → Machine → Type 0 where

@@ -10,11 +10,11 @@ use Rattle.word.specs.Word.{pick}
 use Rattle.machine.specs.declared.State.{State}
 use Rattle.machine.specs.Machine.{Machine, putI}
 use Rattle.machine.specs.Run.{Stepper, byRules, Outcome, run}
-use Rattle.machine.specs.Calls.{SetGiven, SetLeft, setLeft}
+use Rattle.panel.specs.Calls.{SetGiven, SetLeft, setLeft}
 use Rattle.image.specs.Image.{LoadGiven, LoadLeft, loaded, loadLeft}
 use Rattle.report.specs.Example.{exampleFile}
 use Rattle.control.specs.Control.{byTable}
-use Rattle.engine.specs.Runs.{Given, given, Left, RunReply, stopped, refused as run-refused, verdictOn, RunMeets}
+use Rattle.run.specs.Runs.{Given, given, Left, RunReply, stopped, refused as run-refused, verdictOn, RunMeets}
 
 -- ---- The calls
 

@@ -1,8 +1,6 @@
 // The runs by a table.
 use crate::tables;
 use crate::tables::Table;
-use engine::Answer;
-use engine::Ran;
 use machine::State;
 use player::file;
 use player::file::NO_DAMAGE;
@@ -17,6 +15,8 @@ use player::runs::Request;
 use player::runs::finish;
 use player::runs::of_call;
 use player::runs::request_of;
+use run::Answer;
+use run::Ran;
 
 fn reply_of(ran: Ran) -> Reply {
     let state = ran.state;

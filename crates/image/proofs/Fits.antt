@@ -10,7 +10,7 @@ use lib.ListN.{length}
 use borrow.Author.Tests.{not-true, not-false, eqb-true, leb-true, le-leb}
 use Rattle.refusal.specs.Refusals.{accepted}
 use Rattle.word.proofs.Tests.{clash, passed}
-use Rattle.machine.specs.Calls.{lengthsFit}
+use Rattle.machine.specs.Lengths.{lengthsFit}
 use Rattle.image.specs.declared.Part.{Part}
 use Rattle.image.specs.Parts.{programPart, dataPart}
 use Rattle.image.specs.Image.{W, programOffset, C, dataOffset, partsFit, inside, partsInside, LoadGiven, loadReply}

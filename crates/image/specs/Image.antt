@@ -8,7 +8,7 @@ use Rattle.refusal.specs.Refusals.{refusalNumber, Verdict, accepted, refused}
 use Rattle.word.specs.Word.{pick}
 use Rattle.machine.specs.declared.State.{State}
 use Rattle.machine.specs.Machine.{Machine, reset}
-use Rattle.machine.specs.Calls.{lengthsFit}
+use Rattle.machine.specs.Lengths.{lengthsFit}
 use Rattle.image.specs.declared.Loading.{Loading}
 use Rattle.image.specs.declared.Loading.the-variants.{Accepted, Refused}
 

@@ -16,15 +16,16 @@ use Rattle.word.specs.Fields.{bits, field}
 use Rattle.word.specs.Word.{pick, signed, lowBits}
 use Rattle.word.proofs.Computed.{both, both-split, all}
 use Rattle.word.proofs.Signed.{signed-is, low-lt}
-use Rattle.isa.specs.declared.Kind.{Kind}
-use Rattle.isa.specs.declared.Kind.the-variants.{And}
+use Rattle.kinds.specs.declared.Kind.{Kind}
+use Rattle.kinds.specs.declared.Kind.the-variants.{And}
 use Rattle.isa.specs.declared.Instruction.{Instruction}
 use Rattle.isa.specs.declared.Writing.the-variants.{Refused}
 use Rattle.isa.specs.declared.layout.Form.{Form}
 use Rattle.isa.specs.declared.layout.Form.the-variants.{Abd, Axd, AdSigned, AbSigned, Adx, ASigned, AUnsigned, DSigned, DUnsigned}
 use Rattle.isa.specs.declared.layout.Layout.{Layout}
 use Rattle.isa.specs.declared.parts.Low.the-variants.{Nothing, Bits}
-use Rattle.isa.specs.Sheet.{Format, R3, R3-NOT, R2-ab, R2-ad, R2-JALR, R1-a, R1-d, Code, F, E, only, Number, signed-n, unsigned-n, Line, sheet, kinds, kindNumber}
+use Rattle.kinds.specs.Kinds.{kinds, kindNumber}
+use Rattle.isa.specs.Sheet.{Format, R3, R3-NOT, R2-ab, R2-ad, R2-JALR, R1-a, R1-d, Code, F, E, only, Number, signed-n, unsigned-n, Line, sheet}
 use Rattle.isa.specs.Instructions.{partsOf, Written, word, refused, shownWriting, inRange, wordOf, writeAs}
 use Rattle.isa.specs.Layouts.{forms, formOf, layoutOf, wordSum, Sound, numberOf, bitsOf, fieldsOf, writeBits, writeIn}
 use Rattle.isa.proofs.Every.{listed, every}

@@ -7,7 +7,7 @@ use lib.Signed.{leZ, ltZ}
 use Rattle.refusal.specs.Refusals.{refusalNumber}
 use Rattle.word.specs.Fields.{Bits, bits, field, opcode, e-of, f-of}
 use Rattle.word.specs.Word.{pick, signed, lowBits}
-use Rattle.isa.specs.declared.Kind.{Kind}
+use Rattle.kinds.specs.declared.Kind.{Kind}
 use Rattle.isa.specs.declared.Instruction.{Instruction}
 use Rattle.isa.specs.declared.rows.Entry.{Entry}
 use Rattle.isa.specs.declared.rows.Entry.the-variants.{Unassigned, Assigned}

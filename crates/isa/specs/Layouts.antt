@@ -7,7 +7,7 @@ use lib.IntN.{ℤ, pos, negsuc}
 use lib.ListN.{length, getD}
 use Rattle.refusal.specs.declared.Refusal.the-variants.{InstructionPart}
 use Rattle.word.specs.Word.{pick}
-use Rattle.isa.specs.declared.Kind.{Kind}
+use Rattle.kinds.specs.declared.Kind.{Kind}
 use Rattle.isa.specs.declared.Instruction.{Instruction}
 use Rattle.isa.specs.declared.Writing.{Writing}
 use Rattle.isa.specs.declared.Writing.the-variants.{Word, Refused}
@@ -18,7 +18,7 @@ use Rattle.isa.specs.declared.parts.Low.{Low}
 use Rattle.isa.specs.declared.parts.Low.the-variants.{Nothing, Bits}
 use Rattle.isa.specs.declared.rows.Entry.{Entry}
 use Rattle.isa.specs.declared.rows.Entry.the-variants.{Unassigned, Assigned}
-use Rattle.isa.specs.Sheet.{kinds, kindNumber}
+use Rattle.kinds.specs.Kinds.{kinds, kindNumber}
 
 -- the number of an entry's kind; where there is none, how many kinds there are
 abbrev pub entryNumber : Entry → ℕ

@@ -5,8 +5,8 @@ use lib.Dec.{eqb}
 use lib.ListN.{getD}
 use Rattle.word.specs.Fields.{Bits, bits}
 use Rattle.word.specs.Word.{pick}
-use Rattle.isa.specs.declared.Kind.{Kind}
-use Rattle.isa.specs.declared.Kind.the-variants.{And, Or, Xor, Not, Add, Sub, Sha, Shl, Cmplt, Cmple, Cmpeq, Cmpltu, Cmpleu, Addi, Ld, St, Ldb, Stb, Jalr, Bz, Bnz, Movi, Movhi, In, Out}
+use Rattle.kinds.specs.declared.Kind.{Kind}
+use Rattle.kinds.specs.declared.Kind.the-variants.{And, Or, Xor, Not, Add, Sub, Sha, Shl, Cmplt, Cmple, Cmpeq, Cmpltu, Cmpleu, Addi, Ld, St, Ldb, Stb, Jalr, Bz, Bnz, Movi, Movhi, In, Out}
 use Rattle.isa.specs.declared.rows.Entry.{Entry}
 use Rattle.isa.specs.declared.rows.Entry.the-variants.{Unassigned, Assigned}
 
@@ -176,35 +176,3 @@ inRow unassigned e f = Unassigned
 -- the kind of the words with this opcode, e and f
 unfoldable pub kindAt : ℕ → ℕ → ℕ → Entry
 kindAt op e f = inRow (getD rows op unassigned) e f
-
--- ---- The kinds in the sheet's order, and each one's place in it, from 0 (the numbering is ours).
-
-abbrev pub kinds : List Kind
-kinds = And ∷ Or ∷ Xor ∷ Not ∷ Add ∷ Sub ∷ Sha ∷ Shl ∷ Cmplt ∷ Cmple ∷ Cmpeq ∷ Cmpltu ∷ Cmpleu ∷ Addi ∷ Ld ∷ St ∷ Ldb ∷ Stb ∷ Jalr ∷ Bz ∷ Bnz ∷ Movi ∷ Movhi ∷ In ∷ Out ∷ []
-
-abbrev pub kindNumber : Kind → ℕ
-kindNumber And = 0
-kindNumber Or = 1
-kindNumber Xor = 2
-kindNumber Not = 3
-kindNumber Add = 4
-kindNumber Sub = 5
-kindNumber Sha = 6
-kindNumber Shl = 7
-kindNumber Cmplt = 8
-kindNumber Cmple = 9
-kindNumber Cmpeq = 10
-kindNumber Cmpltu = 11
-kindNumber Cmpleu = 12
-kindNumber Addi = 13
-kindNumber Ld = 14
-kindNumber St = 15
-kindNumber Ldb = 16
-kindNumber Stb = 17
-kindNumber Jalr = 18
-kindNumber Bz = 19
-kindNumber Bnz = 20
-kindNumber Movi = 21
-kindNumber Movhi = 22
-kindNumber In = 23
-kindNumber Out = 24

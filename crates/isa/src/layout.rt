@@ -3,9 +3,9 @@ ghost use mathlib.Core.Path.{_≡_};
 ghost use Prim.Native.Nat.{_<_};
 ghost use lib.ListN.{length, getD};
 ghost use Rattle.isa.specs.declared.layout.Form.the-variants.{Abd};
-ghost use Rattle.isa.specs.Sheet.{kinds};
+ghost use Rattle.kinds.specs.Kinds.{kinds};
 ghost use Rattle.isa.specs.Layouts.{forms, formOf, numbersOf, layoutOf, Sound};
-use crate::Kind;
+use kinds::Kind;
 
 // A bit row of the sheet and how its n is read: a, b and d are the row's registers in their order, x its ignored bits. The
 // number holds the word's fixed bits: opcode, e and f.
@@ -111,5 +111,5 @@ pub fn layout_of(kind: Kind) -> Layout
     ensures is { λ r. ⌜ r ≡ layoutOf (formOf kind) ⌝ }
     ensures sound { λ r. ⌜ Sound r ⌝ }
 {
-    in_numbers(form_at(crate::kind_number(kind)))
+    in_numbers(form_at(kinds::kind_number(kind)))
 }

@@ -1,44 +1,12 @@
 // Reading and writing one instruction.
 ghost use mathlib.Core.Path.{_≡_};
-ghost use Prim.Native.Nat.{_<_};
-ghost use lib.ListN.{length, getD};
-ghost use Rattle.isa.specs.declared.Kind.the-variants.{And};
-ghost use Rattle.isa.specs.Sheet.{kinds, kindNumber};
 ghost use Rattle.isa.specs.Instructions.{readOf, writeOf, shownReading, shownWriting};
+use kinds::Kind;
 use refusal::Refusal;
 
 mod layout;
 mod parts;
 mod rows;
-
-// The 25 kinds of instruction, in the sheet's order.
-pub enum Kind {
-    And,
-    Or,
-    Xor,
-    Not,
-    Add,
-    Sub,
-    Sha,
-    Shl,
-    Cmplt,
-    Cmple,
-    Cmpeq,
-    Cmpltu,
-    Cmpleu,
-    Addi,
-    Ld,
-    St,
-    Ldb,
-    Stb,
-    Jalr,
-    Bz,
-    Bnz,
-    Movi,
-    Movhi,
-    In,
-    Out,
-}
 
 // An instruction: its kind and its parts. A part that the kind does not use is 0.
 pub struct Instruction {
@@ -57,77 +25,6 @@ pub enum Reading {
 pub enum Writing {
     Word(u16),
     Refused(Refusal),
-}
-
-// The kind's place in the sheet's table, from 0.
-pub fn kind_number(kind: Kind) -> u8
-    ensures { λ r. ⌜ r ≡ kindNumber kind ⌝ }
-{
-    match kind {
-        Kind::And => 0,
-        Kind::Or => 1,
-        Kind::Xor => 2,
-        Kind::Not => 3,
-        Kind::Add => 4,
-        Kind::Sub => 5,
-        Kind::Sha => 6,
-        Kind::Shl => 7,
-        Kind::Cmplt => 8,
-        Kind::Cmple => 9,
-        Kind::Cmpeq => 10,
-        Kind::Cmpltu => 11,
-        Kind::Cmpleu => 12,
-        Kind::Addi => 13,
-        Kind::Ld => 14,
-        Kind::St => 15,
-        Kind::Ldb => 16,
-        Kind::Stb => 17,
-        Kind::Jalr => 18,
-        Kind::Bz => 19,
-        Kind::Bnz => 20,
-        Kind::Movi => 21,
-        Kind::Movhi => 22,
-        Kind::In => 23,
-        Kind::Out => 24,
-    }
-}
-
-// The kinds by number.
-const KINDS: [Kind; 25] = [
-    Kind::And,
-    Kind::Or,
-    Kind::Xor,
-    Kind::Not,
-    Kind::Add,
-    Kind::Sub,
-    Kind::Sha,
-    Kind::Shl,
-    Kind::Cmplt,
-    Kind::Cmple,
-    Kind::Cmpeq,
-    Kind::Cmpltu,
-    Kind::Cmpleu,
-    Kind::Addi,
-    Kind::Ld,
-    Kind::St,
-    Kind::Ldb,
-    Kind::Stb,
-    Kind::Jalr,
-    Kind::Bz,
-    Kind::Bnz,
-    Kind::Movi,
-    Kind::Movhi,
-    Kind::In,
-    Kind::Out,
-];
-
-// The kind of a number.
-pub fn kind_at(number: u8) -> Kind
-    requires { ⌜ number < length kinds ⌝ }
-    ensures { λ r. ⌜ r ≡ getD kinds number And ⌝ }
-{
-    let at = number as usize;
-    KINDS[at]
 }
 
 // The instruction that a word stands for.

@@ -5,9 +5,9 @@ ghost use Rattle.isa.specs.Sheet.{sheet};
 ghost use Rattle.isa.specs.Instructions.{partsOf};
 ghost use Rattle.isa.specs.Layouts.{Sound, numberOf, bitsOf, wordSum, writeIn};
 use crate::Instruction;
-use crate::Kind;
 use crate::Writing;
 use crate::layout::Layout;
+use kinds::Kind;
 use refusal::Refusal;
 
 // The low bits of n, or none where n is out of range.

@@ -3,7 +3,7 @@ ghost use mathlib.Core.Path.{_≡_};
 ghost use Rattle.word.specs.Fields.{opcode, e-of, f-of};
 ghost use Rattle.isa.specs.Sheet.{kindAt};
 ghost use Rattle.isa.specs.Layouts.{entryNumber};
-use crate::Kind;
+use kinds::Kind;
 
 pub enum Entry {
     Unassigned,
@@ -45,5 +45,5 @@ pub fn kind_of(w: u16) -> Entry
     if number == NO {
         return Entry::Unassigned;
     }
-    Entry::Assigned(crate::kind_at(number))
+    Entry::Assigned(kinds::kind_at(number))
 }

@@ -1,5 +1,5 @@
 pub mod Machine
 pub mod Step
 pub mod Run
-pub mod Calls
+pub mod Lengths
 pub mod Held

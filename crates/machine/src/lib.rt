@@ -1,13 +1,10 @@
 // The register state, memories and ports of the SISA trim processor.
 ghost use mathlib.Core.Path.{_≡_};
 ghost use Prim.Native.Nat.{_+_, _%_, _<_};
-ghost use lib.ListN.{length};
 ghost use Rattle.word.specs.Fields.{a-of, b-of};
 ghost use Rattle.word.specs.Word.{pick, add};
 ghost use lib.Dec.{eqb};
 ghost use Rattle.machine.specs.Machine.{reset, R, putR, putPC, count};
-ghost use Rattle.machine.specs.Calls.{SetLeft, setLeft, shownSetting, partOf, windowOf};
-use refusal::Refusal;
 
 // R0 to R7, PC, and n, the count of steps done.
 #[repr(C)]
@@ -48,11 +45,6 @@ pub struct Port(pub u8);
 
 // An address of data memory.
 pub struct Address(pub u16);
-
-pub enum Setting {
-    Done,
-    Refused(Refusal),
-}
 
 fn choose(d: u16, i: u16, v: u16, old: u16) -> u16
     ensures { λ r. ⌜ r ≡ pick (eqb d i) v old ⌝ }
@@ -143,47 +135,5 @@ impl State {
         ensures { λ s. ⌜ s ≡ putPC (add (self .pc) 2) (count self) ⌝ }
     {
         self.counted().with_pc(word::sum(self.pc, 2))
-    }
-}
-
-// The input at a port becomes the value.
-pub fn set_input(inputs: &mut [u16], port: Port, value: u16) -> Setting
-    ensures { λ r. ⌜ _≡_ {A = SetLeft} (record { reply = shownSetting r; I = now (inputs .exit) }) (setLeft (record { I = now (inputs .entry); port = port .0; value = value })) ⌝ }
-{
-    if inputs.len() != State::PORTS {
-        return Setting::Refused(Refusal::LentLength);
-    }
-    let at = port.0 as usize;
-    inputs[at] = value;
-    Setting::Done
-}
-
-fn part(bytes: &[u8], start: usize, count: usize) -> &[u8]
-    ensures { λ r. ⌜ now r ≡ partOf (now (bytes .entry)) start count ⌝ }
-{
-    if bytes.len() < start {
-        return &bytes[0..0];
-    }
-    if bytes.len() - start < count {
-        return &bytes[0..0];
-    }
-    let end = start + count;
-    &bytes[start..end]
-}
-
-// The bytes start .. start + count of the data memory or of the program, or the empty part where they end beyond it.
-pub fn window<'a>(
-    program: &'a [u8],
-    memory: &'a [u8],
-    of_data: bool,
-    start: usize,
-    count: usize,
-) -> &'a [u8]
-    ensures { λ r. ⌜ now r ≡ windowOf (now (program .entry)) (now (memory .entry)) «of_data» start count ⌝ }
-{
-    if of_data {
-        part(memory, start, count)
-    } else {
-        part(program, start, count)
     }
 }

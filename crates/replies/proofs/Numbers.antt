@@ -5,9 +5,9 @@ use mathlib.Core.Path.{_≡_, _∙_, ap}
 use borrow.Author.Tests.{le-leb, lt-leb}
 use lib.IntN.{ℤ}
 use lib.ListN.{getD}
-use Rattle.isa.specs.declared.Kind.{Kind}
-use Rattle.isa.specs.declared.Kind.the-variants.{And}
-use Rattle.isa.specs.Sheet.{kinds}
+use Rattle.kinds.specs.declared.Kind.{Kind}
+use Rattle.kinds.specs.declared.Kind.the-variants.{And}
+use Rattle.kinds.specs.Kinds.{kinds}
 use Rattle.isa.specs.Instructions.{Written, writeOf}
 use Rattle.replies.specs.declared.SisaWord.{SisaWord}
 use Rattle.replies.specs.Sisa.{sisaWord, sisaWrite}

@@ -10,16 +10,16 @@ use lib.IntN.{ℤ, pos}
 use lib.ListN.{length, getD, take, drop}
 use Rattle.refusal.specs.Refusals.{Verdict, accepted, refused}
 use Rattle.word.specs.Word.{pick}
-use Rattle.isa.specs.declared.Kind.the-variants.{And}
-use Rattle.isa.specs.Sheet.{kinds, kindNumber}
+use Rattle.kinds.specs.declared.Kind.the-variants.{And}
+use Rattle.kinds.specs.Kinds.{kinds, kindNumber}
 use Rattle.isa.specs.Instructions.{Read, instruction, unassigned, Written, word, refused as write-refused, writeOf}
 use Rattle.machine.specs.declared.State.{State}
 use Rattle.machine.specs.Run.{Stepper}
-use Rattle.machine.specs.Calls.{SetGiven, SetLeft, setLeft}
+use Rattle.panel.specs.Calls.{SetGiven, SetLeft, setLeft}
 use Rattle.image.specs.Image.{LoadGiven, LoadLeft, loadLeft}
 use Rattle.save.specs.Saved.{SaveReply, saved, refused as save-refused, SaveGiven, SaveLeft, saveLeft}
 use Rattle.control.specs.Control.{byTable}
-use Rattle.engine.specs.Runs.{Given, given, RunReply, stopped, refused as run-refused, Left, runLeft}
+use Rattle.run.specs.Runs.{Given, given, RunReply, stopped, refused as run-refused, Left, runLeft}
 use Rattle.replies.specs.declared.SisaLoad.{SisaLoad}
 use Rattle.replies.specs.declared.SisaSaved.{SisaSaved}
 use Rattle.replies.specs.declared.SisaRun.{SisaRun}

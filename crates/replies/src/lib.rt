@@ -4,20 +4,20 @@ ghost use lib.Dec.{eqb};
 ghost use Rattle.word.specs.Word.{pick};
 ghost use Rattle.image.specs.Image.{shownLoading};
 ghost use Rattle.save.specs.Saved.{shownSaving};
-ghost use Rattle.machine.specs.Calls.{shownSetting};
-ghost use Rattle.engine.specs.Runs.{shownAnswer};
+ghost use Rattle.panel.specs.Calls.{shownSetting};
+ghost use Rattle.run.specs.Runs.{shownAnswer};
 ghost use Rattle.isa.specs.Instructions.{shownReading, shownWriting};
 ghost use Rattle.replies.specs.Sisa.{sisaLoad, sisaSaved, verdictNumber, sisaRun, sisaInstruction, sisaWord, sisaWrite};
-use engine::Answer;
-use engine::Ran;
 use image::Loaded;
 use image::Loading;
 use isa::Instruction;
 use isa::Reading;
 use isa::Writing;
-use machine::Setting;
 use machine::State;
+use panel::Setting;
 use refusal::Refusal;
+use run::Answer;
+use run::Ran;
 use save::Saving;
 
 #[repr(C)]
@@ -137,7 +137,7 @@ pub fn instruction(reading: Reading) -> SisaInstruction
             let kind = i.kind;
             SisaInstruction {
                 assigned: 1,
-                kind: isa::kind_number(kind),
+                kind: kinds::kind_number(kind),
                 a: i.a,
                 b: i.b,
                 d: i.d,
@@ -155,7 +155,7 @@ pub fn instruction(reading: Reading) -> SisaInstruction
     }
 }
 
-pub fn word(writing: Writing) -> SisaWord
+fn word(writing: Writing) -> SisaWord
     ensures { λ r. ⌜ r ≡ sisaWord (shownWriting writing) ⌝ }
 {
     match writing {
@@ -177,7 +177,7 @@ pub fn write(kind: u8, a: u8, b: u8, d: u8, n: i16) -> SisaWord
             word: 0,
         };
     }
-    let kind = isa::kind_at(kind);
+    let kind = kinds::kind_at(kind);
     word(isa::write(Instruction { kind, a, b, d, n }))
 }
 

@@ -8,7 +8,7 @@ use borrow.Author.Tests.{le-leb, lt-leb}
 use Rattle.refusal.specs.Refusals.{Verdict, accepted, refused}
 use Rattle.image.specs.Image.{LoadLeft, loadLeft}
 use Rattle.control.specs.Control.{byTable}
-use Rattle.engine.specs.Runs.{given, runLeft}
+use Rattle.run.specs.Runs.{given, runLeft}
 use Rattle.report.specs.declared.Printed.{Printed}
 use Rattle.report.specs.Printed.{refusedLine, ranLines, loadedBy, printed, held}
 

@@ -9,7 +9,7 @@ use lib.Seq.{length-take-le}
 use Rattle.refusal.specs.Refusals.{Verdict, accepted, refused as turned-away}
 use Rattle.word.proofs.Tests.{clash}
 use Rattle.machine.specs.Run.{Stepper, run}
-use Rattle.engine.specs.Runs.{Given, RunReply, stopped, refused, Left, machineAt, verdictOn, leftBy, runLeft}
+use Rattle.run.specs.Runs.{Given, RunReply, stopped, refused, Left, machineAt, verdictOn, leftBy, runLeft}
 use Rattle.report.specs.declared.Printed.{Printed}
 use Rattle.report.specs.Printed.{refusedLine, stoppedLines, linesBy, ranLines, held}
 

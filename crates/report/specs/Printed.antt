@@ -11,7 +11,7 @@ use Rattle.word.specs.Word.{pick}
 use Rattle.machine.specs.declared.State.{State}
 use Rattle.image.specs.Image.{LoadLeft, loadLeft}
 use Rattle.control.specs.Control.{byTable}
-use Rattle.engine.specs.Runs.{given, RunReply, stopped, refused, Left, runLeft}
+use Rattle.run.specs.Runs.{given, RunReply, stopped, refused, Left, runLeft}
 use Rattle.report.specs.declared.Printed.{Printed}
 
 -- ---- Words and numbers

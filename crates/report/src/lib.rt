@@ -2,12 +2,12 @@
 ghost use mathlib.Core.Path.{_≡_};
 ghost use lib.ListN.{replicate};
 ghost use Rattle.control.specs.Control.{byTable};
-ghost use Rattle.engine.specs.Runs.{given, runLeft};
+ghost use Rattle.run.specs.Runs.{given, runLeft};
 ghost use Rattle.report.specs.Printed.{ranLines, printed, held};
-use engine::Answer;
 use image::Loading;
 use machine::State;
 use refusal::Refusal;
+use run::Answer;
 
 mod lines;
 mod text;

@@ -6,9 +6,9 @@ ghost use Rattle.refusal.specs.Refusals.{refusalNumber};
 ghost use Rattle.report.specs.Printed.{each, runLine, outLine, pcLine, register, registersLine, refusedLine, stoppedLines, held};
 ghost use Rattle.report.specs.Writing.{Wrote};
 use crate::Printed;
-use engine::Report;
 use machine::State;
 use refusal::Refusal;
+use run::Report;
 
 const SPACE: u8 = b' ';
 

@@ -6,10 +6,10 @@ use mathlib.Core.Path.{_≡_, ap}
 use Rattle.refusal.specs.Refusals.{Verdict}
 use Rattle.machine.specs.declared.State.{State}
 use Rattle.machine.specs.Run.{Stepper}
-use Rattle.machine.specs.Calls.{SetGiven, SetLeft, setLeft}
+use Rattle.panel.specs.Calls.{SetGiven, SetLeft, setLeft}
 use Rattle.image.specs.Image.{LoadGiven, LoadLeft, loadLeft}
 use Rattle.save.specs.Saved.{SaveReply, SaveGiven, SaveLeft, saveLeft}
-use Rattle.engine.specs.Runs.{Given, left, RunReply, RunMeets}
+use Rattle.run.specs.Runs.{Given, left, RunReply, RunMeets}
 use Rattle.replies.specs.declared.SisaLoad.{SisaLoad}
 use Rattle.replies.specs.declared.SisaSaved.{SisaSaved}
 use Rattle.replies.specs.declared.SisaRun.{SisaRun}

@@ -1,4 +1,4 @@
--- The window's numbers, by how many bytes `machine::window` hands back.
+-- The window's numbers, by how many bytes `panel::window` hands back.
 -- Assumes nothing.
 use Prim.Native.Nat.{ℕ, _+_, _≤_}
 use mathlib.Core.Bool.{Bool, true, false, _&&_, not}
@@ -10,7 +10,7 @@ use lib.Dec.{eqb, leb}
 use lib.ListN.{length, take, drop, length-drop}
 use lib.Seq.{length-take-le}
 use Rattle.word.specs.Word.{pick}
-use Rattle.machine.specs.Calls.{partOf, windowOf}
+use Rattle.panel.specs.Calls.{partOf, windowOf}
 use Rattle.replies.specs.declared.SisaWindow.{SisaWindow}
 use Rattle.replies.specs.Sisa.{chosen, sisaWindow, bytesOf}
 
@@ -79,6 +79,6 @@ module _ (P D : List ℕ) (ofData start count : ℕ) {part : List ℕ} (is : par
   numbers-are true e = none (eqb-true _ _ e)
   numbers-are false e = some (eqb-false _ _ e)
 
-  -- the numbers of the part that `machine::window` hands back
+  -- the numbers of the part that `panel::window` hands back
   pub numbers : pick (eqb (length part) 0) (record { start = 0; count = 0 }) (record { start = start; count = length part }) ≡ sisaWindow (chosen ofData P D) start count
   numbers = numbers-are _ refl

@@ -4,9 +4,9 @@ ghost use mathlib.Core.Path.{_≡_};
 ghost use mathlib.Core.Bool.{not};
 ghost use lib.Dec.{eqb};
 ghost use Rattle.machine.specs.Run.{byRules};
-ghost use Rattle.machine.specs.Calls.{windowOf};
+ghost use Rattle.panel.specs.Calls.{windowOf};
 ghost use Rattle.control.specs.Control.{byTable};
-ghost use Rattle.engine.specs.Runs.{given};
+ghost use Rattle.run.specs.Runs.{given};
 ghost use Rattle.isa.specs.Instructions.{readOf};
 ghost use Rattle.replies.specs.Sisa.{SisaLoadLeft, sisaLoadLeft, SisaSaveLeft, sisaSaveLeft, SisaSetLeft, sisaSetLeft, sisaLeft, SisaRunMeets, sisaInstruction, sisaWrite, chosen, sisaWindow, bytesOf};
 use machine::Port;
@@ -46,7 +46,7 @@ pub extern "C" fn sisa_save(program: &[u8], memory: &[u8], destination: &mut [u8
 pub extern "C" fn sisa_set_input(inputs: &mut [u16], port: u8, value: u16) -> u8
     ensures { λ r. ⌜ _≡_ {A = SisaSetLeft} (record { refusal = r; I = now (inputs .exit) }) (sisaSetLeft (record { I = now (inputs .entry); port = port; value = value })) ⌝ }
 {
-    let setting = machine::set_input(inputs, Port(port), value);
+    let setting = panel::set_input(inputs, Port(port), value);
     replies::set(setting)
 }
 
@@ -107,6 +107,6 @@ pub extern "C" fn sisa_window<'a>(
 ) -> SisaWindow
     ensures { λ r. ⌜ (r ≡ sisaWindow (chosen of_data (now (program .entry)) (now (memory .entry))) start count) × (bytesOf r (chosen of_data (now (program .entry)) (now (memory .entry))) ≡ windowOf (now (program .entry)) (now (memory .entry)) (not (eqb of_data 0)) start count) ⌝ }
 {
-    let part = machine::window(program, memory, of_data != 0, start, count);
+    let part = panel::window(program, memory, of_data != 0, start, count);
     replies::window(start, part.len())
 }

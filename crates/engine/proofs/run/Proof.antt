@@ -2,7 +2,7 @@
 -- Assumes nothing.
 use mathlib.Core.Path.{_≡_, sym, _∙_, ap}
 use borrow.Author.Needs.{needs}
-use Rattle.engine.specs.Runs.{shownVerdict}
+use Rattle.run.specs.Runs.{shownVerdict}
 use Rattle.engine.proofs.Refusals.{accepted-fits, run-refused, run-accepted}
 use Rattle.engine.proofs.run.Statement.{statement}
 use Rattle.engine.proofs.run.Tie as tie

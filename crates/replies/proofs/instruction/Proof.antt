@@ -8,7 +8,7 @@ use mir.Val.{toZ, ofZ}
 use borrow.Author.Needs.{needs}
 use Rattle.isa.specs.declared.Reading.{Reading}
 use Rattle.isa.specs.declared.Instruction.{Instruction}
-use Rattle.isa.specs.Sheet.{kindNumber}
+use Rattle.kinds.specs.Kinds.{kindNumber}
 use Rattle.isa.specs.Instructions.{instruction, shownReading}
 use Rattle.replies.specs.Sisa.{sisaInstruction}
 use Rattle.replies.proofs.instruction.Statement.{statement}

@@ -2,8 +2,8 @@
 -- Assumes nothing.
 use mathlib.Core.Path.{sym, ap}
 use borrow.Author.Needs.{needs}
-use Rattle.engine.specs.declared.Answer.{Answer}
-use Rattle.engine.specs.Runs.{shownAnswer}
+use Rattle.run.specs.declared.Answer.{Answer}
+use Rattle.run.specs.Runs.{shownAnswer}
 use Rattle.replies.specs.Sisa.{sisaRun}
 use Rattle.replies.proofs.run.Statement.{statement}
 use Rattle.replies.proofs.run.Tie as tie

@@ -3,7 +3,7 @@
 use mathlib.Core.Path.{sym, ap}
 use lib.Seq.{length-take-le}
 use borrow.Author.Needs.{needs}
-use Rattle.engine.specs.Runs.{shownAnswer}
+use Rattle.run.specs.Runs.{shownAnswer}
 use Rattle.report.proofs.Runs.{entries-fit, part-fits, stopped-lines, refused-lines}
 use Rattle.report.proofs.run_loaded.Statement.{statement}
 use Rattle.report.proofs.run_loaded.Tie as tie

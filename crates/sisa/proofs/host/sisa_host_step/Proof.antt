@@ -52,7 +52,7 @@ use Rattle.machine.proofs.State.Laws as T′
 use Rattle.replies.specs.declared.SisaAnswer.{SisaAnswer}
 use Rattle.replies.specs.declared.SisaRun.{SisaRun}
 use Rattle.control.specs.Control.{byTable}
-use Rattle.engine.specs.Runs.{given as run-given}
+use Rattle.run.specs.Runs.{given as run-given}
 use Rattle.replies.specs.Sisa.{sisaLeft, SisaRunMeets}
 use Rattle.replies.proofs.SisaAnswer as E
 use Rattle.replies.proofs.SisaAnswer.Laws as E′

@@ -1,0 +1,78 @@
+-- The loop's turns and ends, by the laws of proofs/Loop.antt.
+-- Assumes nothing.
+use mathlib.Core.Path.{_∙_}
+use Prim.Native.Nat.{_-_}
+use native.Mathlib.Omega.{arith}
+use Rattle.cycle.specs.Loops.{chosen}
+use Rattle.cycle.proofs.Loop.{Going, start, ends-budget, ready, ends-stopped, turns}
+use Rattle.cycle.proofs.run_accepted.Statement.{statement}
+use Rattle.cycle.proofs.run_accepted.Tie as tie
+
+abbrev Inv-loop : tie.InvT-loop
+Inv-loop by-table words program memory₀ inputs₀ outputs₀ budget log₀ state₀ steps₀ entries₀ memory inputs outputs log state steps entries =
+    Going (chosen by-table words)
+    (record { state = state₀; P = program; D = memory₀; I = inputs₀; O = outputs₀; budget = budget; log = log₀ })
+    (record { state = state; D = memory; I = inputs; O = outputs; log = log; entries = entries })
+    steps
+
+abbrev μ-loop : tie.MeasureT-loop
+μ-loop by-table words program memory₀ inputs₀ outputs₀ budget log₀ state₀ steps₀ entries₀ memory inputs outputs log state steps entries =
+    budget - steps
+
+loop-holds : tie.Need-loop-holds Inv-loop μ-loop
+loop-holds c = start _ _ (c .before .before .before .before .before .pre)
+
+fetch-requires : tie.Need-fetch-requires Inv-loop μ-loop
+fetch-requires c κs = let v = c .before .loop .inv in (v .program, v .even)
+
+step-requires : tie.Need-step-requires Inv-loop μ-loop
+step-requires c κs =
+    let l = c .before .before .before .before .before in
+    let a = l .before .before .before .before .before .before .before .args in
+    ready (a .by-table) (a .table .now) (l .before .loop .inv) (l .loop-test .taken)
+
+returns : tie.Need-returns Inv-loop μ-loop
+returns c =
+    let k = c .before .before .before .before .before .before .before .before .before .before .before in
+    let f = k .before .before .before .before .before in
+    let l = f .before in
+    let a = l .before .before .before .before .before .before .before .args in
+    ends-stopped (a .by-table) (a .table .now) (l .before .loop .inv) (l .loop-test .taken) (f .fetch .ensures) (k .step .ensures) (c .if1 .taken)
+
+loop-again : tie.Need-loop-again Inv-loop μ-loop
+loop-again c =
+    let k = c .before .before .before .before .before .before .before .before .before .before .before in
+    let f = k .before .before .before .before .before in
+    let l = f .before in
+    let a = l .before .before .before .before .before .before .before .args in
+    turns (a .by-table) (a .table .now) (l .before .loop .inv) (l .loop-test .taken) (f .fetch .ensures) (k .step .ensures) (c .if1 .left)
+    (k .step .kept .1 .1 .1 .1 .0)
+    (k .step .kept .1 .1 .1 .1 .1 .0)
+    (k .step .kept .1 .1 .1 .1 .1 .1 .0)
+    (k .step .kept .1 .1 .1 .1 .1 .1 .1 .0)
+
+returns-2 : tie.Need-returns-2 Inv-loop μ-loop
+returns-2 c = let a = c .before .before .before .before .before .before .before .args in ends-budget (a .by-table) (a .table .now) (c .before .loop .inv) (omega arith)
+
+pub run-accepted-spec : {M : Type 1} → statement M
+run-accepted-spec =
+    tie.close
+    (tie.spec
+    Inv-loop
+    μ-loop
+    loop-holds
+    fetch-requires
+    step-requires
+    (λ c. let k = c .before .before .before .before .before .before .before .before .before .before .before in k .step .kept .1 .1 .1 .1 .0 ∙ k .before .before .before .before .before .before .before .loop .inv .memory-kept)
+    (λ c. let k = c .before .before .before .before .before .before .before .before .before .before .before in k .step .kept .1 .1 .1 .1 .1 .0 ∙ k .before .before .before .before .before .before .before .loop .inv .inputs-kept)
+    (λ c. let k = c .before .before .before .before .before .before .before .before .before .before .before in k .step .kept .1 .1 .1 .1 .1 .1 .0 ∙ k .before .before .before .before .before .before .before .loop .inv .outputs-kept)
+    (λ c. let k = c .before .before .before .before .before .before .before .before .before .before .before in k .step .kept .1 .1 .1 .1 .1 .1 .1 .0 ∙ k .before .before .before .before .before .before .before .loop .inv .log-kept)
+    returns
+    (λ c. omega arith)
+    (λ c. omega arith)
+    loop-again
+    (λ c. c .before .loop .inv .memory-kept)
+    (λ c. c .before .loop .inv .inputs-kept)
+    (λ c. c .before .loop .inv .outputs-kept)
+    (λ c. c .before .loop .inv .log-kept)
+    returns-2)

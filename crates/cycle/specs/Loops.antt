@@ -1,0 +1,34 @@
+-- What the contracts of the run's private functions cite. Nothing here is promised to a caller.
+use mathlib.Core.Path.{_≡_}
+use mathlib.Core.Bool.{Bool, true, false}
+use mathlib.Core.List.{List}
+use Prim.Native.Nat.{ℕ, _+_, _%_, _≤_}
+use lib.ListN.{length}
+use Rattle.machine.specs.Machine.{Machine}
+use Rattle.machine.specs.Step.{choice, stepBy, Next}
+use Rattle.machine.specs.Run.{Stepper, isOut, byRules}
+use Rattle.control.specs.Control.{controlIn, controlStep, writesPort, byControl}
+use Rattle.run.specs.Runs.{Given}
+
+-- what the loop of an accepted run needs, which the refusals leave
+pub record CanRun (g : Given) : Type 0 where
+  pub program : length (g .P) ≡ 65536
+  pub memory : length (g .D) ≡ 65536
+  pub inputs : length (g .I) ≡ 256
+  pub outputs : length (g .O) ≡ 256
+  pub even : g .state .pc % 2 ≡ 0
+  pub counts : g .state .n + g .budget ≤ 4294967295
+
+-- what the loop goes by: a table, or the rules
+abbrev pub chosen : Bool → List ℕ → Stepper
+chosen true words = byControl words
+chosen false words = byRules
+
+-- what it steps to and whether it writes a port, of the word w
+abbrev pub stepOf : Bool → List ℕ → ℕ → Machine → Next
+stepOf true words w m = controlStep (controlIn words w) w m
+stepOf false words w m = stepBy (choice w) w m
+
+abbrev pub writesOf : Bool → List ℕ → ℕ → Bool
+writesOf true words w = writesPort (controlIn words w)
+writesOf false words w = isOut w

@@ -1,0 +1,88 @@
+// The loop of a run: fetch and step.
+ghost use mathlib.Core.Path.{_≡_};
+ghost use Rattle.machine.specs.Held.{held, Ready, StepMeets};
+ghost use Rattle.run.specs.Runs.{Left, given, left, shownAnswer, acceptedLeft};
+ghost use Rattle.cycle.specs.Loops.{CanRun, chosen, stepOf, writesOf};
+use machine::State;
+use machine::Stepped;
+use run::Answer;
+use run::Ran;
+use run::Report;
+
+// The step of w by a table's word for it, or by the rules.
+fn step(
+    by_table: bool,
+    table: &[u16; 32],
+    w: u16,
+    state: State,
+    memory: &mut [u8],
+    inputs: &mut [u16],
+    outputs: &mut [u16],
+    log: &mut [u64],
+    entries: usize,
+) -> Stepped
+    requires { ⌜ Ready (held state (now memory) (now inputs) (now outputs) (now log) entries) ⌝ }
+    ensures { λ r. ⌜ StepMeets (stepOf «by_table» (now (table .entry)) w) (writesOf «by_table» (now (table .entry)) w) (held state (now (memory .entry)) (now (inputs .entry)) (now (outputs .entry)) (now (log .entry)) entries) (r .stop) (held (r .state) (now (memory .exit)) (now (inputs .exit)) (now (outputs .exit)) (now (log .exit)) (r .entries)) ⌝ }
+{
+    if by_table {
+        let control = control::control_of(table, w);
+        datapath::step(control, w, state, memory, inputs, outputs, log, entries)
+    } else {
+        rules::step(w, state, memory, inputs, outputs, log, entries)
+    }
+}
+
+// The loop of an accepted run, by a table or by the rules. PC stays even.
+pub fn run_accepted(
+    by_table: bool,
+    table: &[u16; 32],
+    start: State,
+    program: &[u8],
+    memory: &mut [u8],
+    inputs: &mut [u16],
+    outputs: &mut [u16],
+    budget: u32,
+    log: &mut [u64],
+) -> Ran
+    requires { ⌜ CanRun (given start (now program) (now memory) (now inputs) (now outputs) budget (now log)) ⌝ }
+    ensures { λ r. ⌜ _≡_ {A = Left} (left (shownAnswer (r .answer)) (r .state) (now (program .exit)) (now (memory .exit)) (now (inputs .exit)) (now (outputs .exit)) (now (log .exit))) (acceptedLeft (chosen «by_table» (now (table .entry))) (given start (now (program .entry)) (now (memory .entry)) (now (inputs .entry)) (now (outputs .entry)) budget (now (log .entry)))) ⌝ }
+{
+    let mut state = start;
+    let mut steps: u32 = 0;
+    let mut entries: usize = 0;
+    while steps < budget {
+        let w = bus::fetch(program, state.pc);
+        let done = step(
+            by_table,
+            table,
+            w,
+            state,
+            memory,
+            inputs,
+            outputs,
+            log,
+            entries,
+        );
+        state = done.state;
+        entries = done.entries;
+        if done.stop != 0 {
+            return Ran {
+                state,
+                answer: Answer::Stopped(Report {
+                    stop: done.stop,
+                    steps,
+                    entries,
+                }),
+            };
+        }
+        steps = steps + 1;
+    }
+    Ran {
+        state,
+        answer: Answer::Stopped(Report {
+            stop: 0,
+            steps,
+            entries,
+        }),
+    }
+}

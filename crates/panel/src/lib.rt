@@ -1,0 +1,53 @@
+// What a host does at the panel besides runs: setting an input, and the window on a memory.
+ghost use mathlib.Core.Path.{_≡_};
+ghost use Rattle.panel.specs.Calls.{SetLeft, setLeft, shownSetting, partOf, windowOf};
+use machine::Port;
+use machine::State;
+use refusal::Refusal;
+
+pub enum Setting {
+    Done,
+    Refused(Refusal),
+}
+
+// The input at a port becomes the value.
+pub fn set_input(inputs: &mut [u16], port: Port, value: u16) -> Setting
+    ensures { λ r. ⌜ _≡_ {A = SetLeft} (record { reply = shownSetting r; I = now (inputs .exit) }) (setLeft (record { I = now (inputs .entry); port = port .0; value = value })) ⌝ }
+{
+    if inputs.len() != State::PORTS {
+        return Setting::Refused(Refusal::LentLength);
+    }
+    let at = port.0 as usize;
+    inputs[at] = value;
+    Setting::Done
+}
+
+fn part(bytes: &[u8], start: usize, count: usize) -> &[u8]
+    ensures { λ r. ⌜ now r ≡ partOf (now (bytes .entry)) start count ⌝ }
+{
+    if bytes.len() < start {
+        return &bytes[0..0];
+    }
+    if bytes.len() - start < count {
+        return &bytes[0..0];
+    }
+    let end = start + count;
+    &bytes[start..end]
+}
+
+// The bytes start .. start + count of the data memory or of the program, or the empty part where they end beyond it.
+pub fn window<'a>(
+    program: &'a [u8],
+    memory: &'a [u8],
+    of_data: bool,
+    start: usize,
+    count: usize,
+) -> &'a [u8]
+    ensures { λ r. ⌜ now r ≡ windowOf (now (program .entry)) (now (memory .entry)) «of_data» start count ⌝ }
+{
+    if of_data {
+        part(memory, start, count)
+    } else {
+        part(program, start, count)
+    }
+}

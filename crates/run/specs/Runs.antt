@@ -1,0 +1,103 @@
+-- What a run replies and leaves, of what it is given (01, "Runs", "Refusal table"), by the rules or by a control table.
+use mathlib.Core.Path.{_≡_}
+use mathlib.Core.List.{List, [], _++_}
+use Prim.Native.Nat.{ℕ, _+_, _-_, _%_}
+use lib.Dec.{eqb, leb}
+use lib.ListN.{length, drop}
+use Rattle.refusal.specs.Refusals.{refusalNumber, Verdict, accepted, refused as turned-away}
+use Rattle.word.specs.Word.{pick}
+use Rattle.machine.specs.declared.State.{State}
+use Rattle.machine.specs.Machine.{Machine}
+use Rattle.machine.specs.Lengths.{lengthsFit}
+use Rattle.machine.specs.Run.{Stepper, Outcome, run}
+use Rattle.run.specs.declared.Report.{Report}
+use Rattle.run.specs.declared.Answer.{Answer}
+use Rattle.run.specs.declared.Answer.the-variants.{Stopped, Refused}
+use Rattle.run.specs.declared.Check.{Check}
+use Rattle.run.specs.declared.Check.the-variants.{Accepted, Refused as CheckRefused}
+
+-- A run gets a state, the memories and ports, a 32-bit budget and a log of any length.
+pub record Given : Type 0 where
+  pub state : State
+  pub P : List ℕ
+  pub D : List ℕ
+  pub I : List ℕ
+  pub O : List ℕ
+  pub budget : ℕ
+  pub log : List ℕ
+
+abbrev pub given : State → List ℕ → List ℕ → List ℕ → List ℕ → ℕ → List ℕ → Given
+given state P D I O budget log = record { state = state; P = P; D = D; I = I; O = O; budget = budget; log = log }
+
+-- the stop reason, steps and entries written; or the number of the refusal
+pub data RunReply : Type 0 where
+  stopped : ℕ → ℕ → ℕ → RunReply
+  refused : ℕ → RunReply
+
+abbrev pub shownAnswer : Answer → RunReply
+shownAnswer (Stopped r) = stopped (r .stop) (r .steps) (r .entries)
+shownAnswer (Refused r) = refused (refusalNumber r)
+
+-- It replies with the state, stop reason, steps and entries, and leaves the memories, ports and log.
+pub record Left : Type 0 where
+  pub reply : RunReply
+  pub state : State
+  pub P : List ℕ
+  pub D : List ℕ
+  pub I : List ℕ
+  pub O : List ℕ
+  pub log : List ℕ
+
+abbrev pub left : RunReply → State → List ℕ → List ℕ → List ℕ → List ℕ → List ℕ → Left
+left reply state P D I O log = record { reply = reply; state = state; P = P; D = D; I = I; O = O; log = log }
+
+-- ---- Refusals: run 1, 5, 6, in order
+
+-- 1: the lengths. 5: PC odd. 6: n plus budget over 4,294,967,295.
+unfoldable pub verdict : ℕ → ℕ → List ℕ → List ℕ → List ℕ → List ℕ → ℕ → Verdict
+verdict pc n P D I O budget =
+    pick (lengthsFit P D I O)
+    (pick (eqb (pc % 2) 0) (pick (leb (n + budget) 4294967295) accepted (turned-away 6)) (turned-away 5))
+    (turned-away 1)
+
+abbrev pub verdictOn : Given → Verdict
+verdictOn g = verdict (g .state .pc) (g .state .n) (g .P) (g .D) (g .I) (g .O) (g .budget)
+
+abbrev pub shownVerdict : Check → Verdict
+shownVerdict Accepted = accepted
+shownVerdict (CheckRefused r) = turned-away (refusalNumber r)
+
+-- ---- What is left, where v is what the run goes by
+
+-- the machine at the start of the run, its L empty
+abbrev pub machineAt : Given → Machine
+machineAt g = record { state = g .state; P = g .P; D = g .D; I = g .I; O = g .O; L = [] }
+
+-- The run's steps and entries are by how much n and L grew in it. Places after those entries keep their content.
+abbrev pub leftOf : Given → Outcome → Left
+leftOf g z =
+    record {
+      reply = stopped (z .reason) (z .after .state .n - g .state .n) (length (z .after .L));
+      state = z .after .state;
+      P = z .after .P;
+      D = z .after .D;
+      I = z .after .I;
+      O = z .after .O;
+      log = z .after .L ++ drop (length (z .after .L)) (g .log);
+    }
+
+-- an accepted run
+abbrev pub acceptedLeft : Stepper → Given → Left
+acceptedLeft v g = leftOf g (run v (g .budget) (length (g .log)) (machineAt g))
+
+-- A refused one changes nothing lent and hands back the state it got.
+abbrev pub leftBy : Stepper → Verdict → Given → Left
+leftBy v accepted g = acceptedLeft v g
+leftBy v (turned-away k) g = left (refused k) (g .state) (g .P) (g .D) (g .I) (g .O) (g .log)
+
+unfoldable pub runLeft : Stepper → Given → Left
+runLeft v g = leftBy v (verdictOn g) g
+
+-- the contract of a run: by the rules `byRules`, by a table `byControl` of it
+abbrev pub RunMeets : Stepper → Given → Left → Type 0
+RunMeets v g l = l ≡ runLeft v g

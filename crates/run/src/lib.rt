@@ -1,0 +1,53 @@
+// What a run replies, and the tests that refuse it.
+ghost use mathlib.Core.Path.{_≡_};
+ghost use Rattle.run.specs.Runs.{shownVerdict, verdict};
+use machine::State;
+use refusal::Refusal;
+
+// Why a run stopped, how many steps it took, and how many entries of the log it filled.
+pub struct Report {
+    pub stop: u8,
+    pub steps: u32,
+    pub entries: usize,
+}
+
+pub enum Answer {
+    Stopped(Report),
+    Refused(Refusal),
+}
+
+// What a run replies: the register state, and the report or the refusal. An enum cannot hold the state's array in covered
+// form, so the state stands beside the answer.
+pub struct Ran {
+    pub state: State,
+    pub answer: Answer,
+}
+
+// Whether a run is refused.
+pub enum Check {
+    Accepted,
+    Refused(Refusal),
+}
+
+// The refusals of a run, in their order.
+pub fn checked(
+    state: State,
+    program: &[u8],
+    memory: &[u8],
+    inputs: &[u16],
+    outputs: &[u16],
+    budget: u32,
+) -> Check
+    ensures { λ r. ⌜ shownVerdict r ≡ verdict (state .pc) (state .n) (now (program .entry)) (now (memory .entry)) (now (inputs .entry)) (now (outputs .entry)) budget ⌝ }
+{
+    if !bus::lengths_fit(program, memory, inputs, outputs) {
+        return Check::Refused(Refusal::LentLength);
+    }
+    if state.pc % 2 != 0 {
+        return Check::Refused(Refusal::OddPc);
+    }
+    if 4294967295 - state.n < budget {
+        return Check::Refused(Refusal::StepCount);
+    }
+    Check::Accepted
+}
