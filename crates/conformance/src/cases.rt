@@ -1,12 +1,12 @@
 // A case: its load, its calls and its saves.
 use crate::saves;
 use machine::State;
+use numbers::number;
 use player::file;
 use player::lent::Log;
 use player::lent::Memory;
 use player::lent::Ports;
 use player::lent::all_but;
-use player::numbers::number;
 use player::print;
 use replies::SisaLoad;
 

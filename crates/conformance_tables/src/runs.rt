@@ -2,13 +2,13 @@
 use crate::tables;
 use crate::tables::Table;
 use machine::State;
+use numbers::number;
 use player::file;
 use player::file::NO_DAMAGE;
 use player::lent::Log;
 use player::lent::Memory;
 use player::lent::Ports;
 use player::lent::least;
-use player::numbers::number;
 use player::print;
 use player::runs::Reply;
 use player::runs::Request;

@@ -1,5 +1,5 @@
 // The tables.
-use player::numbers::number;
+use numbers::number;
 
 pub type Table = [u16; 32];
 

@@ -1,7 +1,7 @@
 // The file of a case.
 ghost use Prim.Native.Nat.{_<_};
 use crate::lent::File;
-use crate::numbers::number;
+use numbers::number;
 
 // A damage that is none.
 pub const NO_DAMAGE: u16 = 16;

@@ -3,9 +3,9 @@ use crate::lent::Log;
 use crate::lent::Memory;
 use crate::lent::Ports;
 use crate::lent::all_but;
-use crate::numbers::number;
 use crate::print;
 use machine::State;
+use numbers::number;
 use std::num::wrapping_add_u16;
 
 // What a run is handed, and how much of the memory, the outputs and the log it is lent.

@@ -1,6 +1,6 @@
-// The pseudo-random numbers.
+// The pseudo-random numbers of docs/CONFORMANCE.md.
 ghost use mathlib.Core.Path.{_≡_};
-ghost use Rattle.player.specs.Numbers.{numberOf, mixed};
+ghost use Rattle.numbers.specs.Numbers.{numberOf, mixed};
 
 const TWO_32: u64 = 4294967296;
 

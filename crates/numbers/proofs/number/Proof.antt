@@ -1,9 +1,9 @@
 -- The result is computed from what `mixed` answers.
 -- Assumes nothing.
 use borrow.Author.Needs.{needs}
-use Rattle.player.specs.Numbers.{numberOf}
-use Rattle.player.proofs.numbers.number.Statement.{statement}
-use Rattle.player.proofs.numbers.number.Tie as tie
+use Rattle.numbers.specs.Numbers.{numberOf}
+use Rattle.numbers.proofs.number.Statement.{statement}
+use Rattle.numbers.proofs.number.Tie as tie
 
 pub number-spec : {M : Type 1} → statement M
 unfolding numberOf
