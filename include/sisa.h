@@ -1,9 +1,9 @@
-/* The SISA trim processor: loading a trim, running it by the rules or by the control table, saving it, and reading and
-   writing one instruction. Link libsisa.a (rt staticlib sisa).
+/* The SISA trim processor: loading a trim, running it by the rules or by the control table, saving it, writing it as text,
+   and reading and writing one instruction. Link libsisa.a (rt staticlib sisa).
 
    A slice is passed as a pointer and the number of its elements. A pointer is never null, also where the number is 0, and
    no two slices of a call overlap. Beyond that every value of every argument is allowed. A memory is 65,536 bytes, an array
-   of ports 256 words; any other length is refused with 1. A refusal is its number in the refusal table of document 01, 0
+   of ports 256 words; any other length is refused with 1. A refusal is its number in the refusal table of documents 01 and 02, 0
    where the call was accepted; a refused call changes nothing lent. Fields that a case does not speak of are 0. */
 #ifndef SISA_H
 #define SISA_H
@@ -33,6 +33,14 @@ typedef struct {
     uint8_t refusal;
     size_t length;
 } SisaSaved;
+
+/* What assembling replies: how many words there are; or the refusal and the line, from 1, that is turned away (0 with
+   number 1). */
+typedef struct {
+    uint8_t refusal;
+    uint32_t line;
+    uint32_t words;
+} SisaAssembly;
 
 /* What a run replies: the state (as handed, where the run is refused), the refusal, the stop reason (0 budget used,
    1 unassigned word, 2 OUT with the log full), the steps taken and the entries written to the log. */
@@ -87,6 +95,11 @@ SisaLoad sisa_load(const uint8_t *file, size_t file_len,
 SisaSaved sisa_save(const uint8_t *program, size_t program_len,
                     const uint8_t *memory, size_t memory_len,
                     uint8_t *destination, size_t destination_len);
+
+/* Assembles a text of at most 65,536 bytes, one instruction a line, into a program memory from address 0 on; bytes past the
+   words stay. The first bad line is refused with the lowest number that holds of it: 10, it is outside the grammar or past
+   a stated size; 11, a name is unknown or was given before; 12, a value does not fit its field. */
+SisaAssembly sisa_assemble(const uint8_t *text, size_t text_len, uint8_t *program, size_t program_len);
 
 /* The input at a port becomes the value. Replies 0 or the refusal. */
 uint8_t sisa_set_input(uint16_t *inputs, size_t inputs_len, uint8_t port, uint16_t value);

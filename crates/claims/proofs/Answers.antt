@@ -5,7 +5,7 @@ use mathlib.Core.List.{List, [], _∷_}
 use Prim.Native.Nat.{ℕ}
 use lib.ListN.{getD}
 use Rattle.refusal.specs.declared.Refusal.{Refusal}
-use Rattle.refusal.specs.declared.Refusal.the-variants.{LentLength, ShortFile, LargePart, PartOutside, OddPc, StepCount, InstructionPart, LongFile, ShortDestination}
+use Rattle.refusal.specs.declared.Refusal.the-variants.{LentLength, ShortFile, LargePart, PartOutside, OddPc, StepCount, InstructionPart, LongFile, ShortDestination, TextLine, TextName, TextValue}
 use Rattle.refusal.specs.Refusals.{refusalNumber, Verdict, accepted, refused as turned-away}
 use Rattle.kinds.specs.declared.Kind.the-variants.{And}
 use Rattle.isa.specs.declared.Reading.{Reading}
@@ -20,6 +20,10 @@ use Rattle.image.specs.declared.Loading.the-variants.{Accepted, Refused as Load
 use Rattle.image.specs.Image.{shownLoading}
 use Rattle.save.specs.declared.Saving.{Saving}
 use Rattle.save.specs.declared.Saving.the-variants.{Saved, Refused as SaveRefused}
+use Rattle.assembler.specs.declared.Assembly.{Assembly}
+use Rattle.assembler.specs.declared.Assembly.the-variants.{Words, Refused as TextRefused}
+use Rattle.assembler.specs.Text.{Reply, words, turned-away as text-refused}
+use Rattle.assembler.specs.Passes.{shownAssembly}
 use Rattle.save.specs.Saved.{SaveReply, saved, refused as save-refused, shownSaving}
 use Rattle.run.specs.declared.Answer.{Answer}
 use Rattle.run.specs.declared.Answer.the-variants.{Stopped, Refused as RunRefused}
@@ -34,7 +38,7 @@ undone f g h x y e = sym (h x) ∙ ap g e ∙ h y
 
 -- the refusal of a number
 abbrev refusal-at : ℕ → Refusal
-refusal-at n = getD (LentLength ∷ LentLength ∷ ShortFile ∷ LargePart ∷ PartOutside ∷ OddPc ∷ StepCount ∷ InstructionPart ∷ LongFile ∷ ShortDestination ∷ []) n LentLength
+refusal-at n = getD (LentLength ∷ LentLength ∷ ShortFile ∷ LargePart ∷ PartOutside ∷ OddPc ∷ StepCount ∷ InstructionPart ∷ LongFile ∷ ShortDestination ∷ TextLine ∷ TextName ∷ TextValue ∷ []) n LentLength
 
 refusal-back : (x : Refusal) → refusal-at (refusalNumber x) ≡ x
 refusal-back LentLength = refl
@@ -46,6 +50,9 @@ refusal-back StepCount = refl
 refusal-back InstructionPart = refl
 refusal-back LongFile = refl
 refusal-back ShortDestination = refl
+refusal-back TextLine = refl
+refusal-back TextName = refl
+refusal-back TextValue = refl
 
 reading-of : Read → Reading
 reading-of (instruction i) = ReadInstruction i
@@ -89,6 +96,15 @@ unfolding saving-of
 saving-back (Saved n) = refl
 saving-back (SaveRefused r) = ap SaveRefused (refusal-back r)
 
+assembly-of : Reply → Assembly
+assembly-of (words n) = Words n
+assembly-of (text-refused k n) = TextRefused k (refusal-at n)
+
+assembly-back : (x : Assembly) → assembly-of (shownAssembly x) ≡ x
+unfolding assembly-of
+assembly-back (Words n) = refl
+assembly-back (TextRefused k r) = ap (TextRefused k) (refusal-back r)
+
 answer-of : RunReply → Answer
 answer-of (stopped q s k) = Stopped (record { stop = q; steps = s; entries = k })
 answer-of (run-refused n) = RunRefused (refusal-at n)
@@ -107,6 +123,7 @@ answers =
       writing = undone shownWriting writing-of writing-back;
       loading = undone shownLoading (verdict-of Accepted LoadRefused) loading-back;
       saving = undone shownSaving saving-of saving-back;
+      assembly = undone shownAssembly assembly-of assembly-back;
       setting = undone shownSetting (verdict-of Done SetRefused) setting-back;
       answer = undone shownAnswer answer-of answer-back;
     }

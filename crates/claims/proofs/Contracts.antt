@@ -13,6 +13,8 @@ contracts =
       load = λ κs a r s. (λ h. h, λ h. h);
       save-asks = λ κs a. tt;
       save = λ κs a r s. (λ h. h, λ h. h);
+      assemble-asks = λ κs a. tt;
+      assemble = λ κs a r s. (λ h. h, λ h. h);
       set-input-asks = λ κs a. tt;
       set-input = λ κs a r s. (λ h. h, λ h. h);
       window-asks = λ κs a. tt;
@@ -25,4 +27,6 @@ contracts =
       run-by-control = λ κs a r s. (λ h. h, λ h. h);
       report-asks = λ κs a. tt;
       report = λ κs a r s. (λ h. h, λ h. h);
+      diagnostic-asks = λ κs a. tt;
+      diagnostic = λ κs a r s. (λ h. h, λ h. h);
     }

@@ -12,6 +12,7 @@ use Rattle.panel.specs.Calls.{shownSetting}
 use Rattle.image.specs.declared.Loading.{Loading}
 use Rattle.image.specs.Image.{shownLoading}
 use Rattle.save.specs.Saved.{shownSaving}
+use Rattle.assembler.specs.Passes.{shownAssembly}
 use Rattle.run.specs.declared.Answer.{Answer}
 use Rattle.run.specs.Runs.{shownAnswer}
 use Rattle.kinds.specs.Kinds.{kindNumber}
@@ -27,5 +28,6 @@ pub record Answers : Type 0 where
   pub writing : Injective shownWriting
   pub loading : Injective shownLoading
   pub saving : Injective shownSaving
+  pub assembly : Injective shownAssembly
   pub setting : Injective shownSetting
   pub answer : Injective shownAnswer

@@ -6,26 +6,33 @@ use mathlib.Core.Logic.{_↔_}
 use mathlib.Core.Path.{_≡_}
 use mathlib.Core.List.{List}
 use Prim.Native.Nat.{ℕ}
+use Rattle.refusal.specs.Refusals.{refusalNumber}
 use Rattle.machine.specs.declared.State.{State}
 use Rattle.machine.specs.Run.{Stepper, byRules}
 use Rattle.panel.specs.Calls.{SetLeft, shownSetting, setLeft, windowOf}
 use Rattle.isa.specs.Instructions.{shownReading, readOf, shownWriting, writeOf}
 use Rattle.image.specs.Image.{LoadLeft, shownLoading, loadLeft}
 use Rattle.save.specs.Saved.{SaveLeft, shownSaving, saveLeft}
+use Rattle.assembler.specs.Text.{AssembleLeft, assembleLeft}
+use Rattle.assembler.specs.Passes.{shownAssembly}
 use Rattle.control.specs.Control.{byControl, byTable}
 use Rattle.run.specs.declared.Ran.{Ran}
 use Rattle.run.specs.Runs.{given, left, shownAnswer, RunMeets}
-use Rattle.report.specs.Printed.{held, printed}
+use Rattle.printing.specs.Text.{held}
+use Rattle.report.specs.Printed.{printed}
+use Rattle.diagnostic.specs.Diagnostic.{diagnosticOf}
 use Rattle.isa.proofs.read.Reads as read
 use Rattle.isa.proofs.write.Reads as write
 use Rattle.panel.proofs.set_input.Reads as set-input
 use Rattle.panel.proofs.window.Reads as window
 use Rattle.image.proofs.load.Reads as load
 use Rattle.save.proofs.save.Reads as save
+use Rattle.assembler.proofs.assemble.Reads as assemble
 use Rattle.engine.proofs.run_by_rules.Reads as run-by-rules
 use Rattle.engine.proofs.run_by_table.Reads as run-by-table
 use Rattle.engine.proofs.run_by_control.Reads as run-by-control
 use Rattle.report.proofs.report.Reads as report
+use Rattle.diagnostic.proofs.diagnostic.Reads as diagnostic
 
 -- a lent slice
 abbrev pub Lent : Type 0
@@ -79,6 +86,12 @@ pub record Contracts : Type 1 where
       ↔ (_≡_ {A = SaveLeft}
       (record { reply = shownSaving r; P = now (s .0); D = now (s .1 .0); destination = now (s .1 .1 .0) })
       (saveLeft (record { P = now (a .0); D = now (a .1 .0); destination = now (a .1 .1 .0) })))
+  -- assemble(text, program)
+  pub assemble-asks : (κs : Lfts 2) (a : _) → assemble.Asked κs a
+  pub assemble :
+      (κs : Lfts 2) (a : _) (r : _) (s : _)
+      → assemble.Learnt κs a r s
+      ↔ (_≡_ {A = AssembleLeft} (record { reply = shownAssembly r; program = now (s .1 .0) }) (assembleLeft (now (a .0)) (now (a .1 .0))))
   -- set_input(inputs, port, value)
   pub set-input-asks : (κs : Lfts 1) (a : _) → set-input.Asked κs a
   pub set-input :
@@ -105,3 +118,6 @@ pub record Contracts : Type 1 where
   -- report(file)
   pub report-asks : (κs : Lfts 1) (a : _) → report.Asked κs a
   pub report : (κs : Lfts 1) (a : _) (r : _) (s : _) → report.Learnt κs a r s ↔ (r ≡ held (printed (now (a .0))))
+  -- diagnostic(line, refusal)
+  pub diagnostic-asks : (κs : Lfts 0) (a : _) → diagnostic.Asked κs a
+  pub diagnostic : (κs : Lfts 0) (a : _) (r : _) (s : _) → diagnostic.Learnt κs a r s ↔ (r ≡ held (diagnosticOf (a .0) (refusalNumber (a .1 .0))))

@@ -12,9 +12,10 @@ use Rattle.isa.specs.Instructions.{readOf}
 use Rattle.control.specs.Control.{byTable}
 use Rattle.run.specs.Runs.{given}
 use Rattle.replies.specs.declared.SisaRun.{SisaRun}
-use Rattle.replies.specs.Sisa.{SisaLoadLeft, sisaLoadLeft, SisaSaveLeft, sisaSaveLeft, SisaSetLeft, sisaSetLeft, sisaLeft, SisaRunMeets, sisaInstruction, sisaWrite, sisaWindow, chosen, bytesOf}
+use Rattle.replies.specs.Sisa.{SisaLoadLeft, sisaLoadLeft, SisaSaveLeft, sisaSaveLeft, SisaAssembleLeft, sisaAssembleLeft, SisaSetLeft, sisaSetLeft, sisaLeft, SisaRunMeets, sisaInstruction, sisaWrite, sisaWindow, chosen, bytesOf}
 use Rattle.sisa.proofs.sisa_load.Reads as load
 use Rattle.sisa.proofs.sisa_save.Reads as save
+use Rattle.sisa.proofs.sisa_assemble.Reads as assemble
 use Rattle.sisa.proofs.sisa_set_input.Reads as set-input
 use Rattle.sisa.proofs.sisa_run_by_rules.Reads as run-by-rules
 use Rattle.sisa.proofs.sisa_run_by_table.Reads as run-by-table
@@ -60,6 +61,12 @@ pub record Exports : Type 1 where
       ↔ (_≡_ {A = SisaSaveLeft}
       (record { reply = r; P = now (s .0); D = now (s .1 .0); destination = now (s .1 .1 .0) })
       (sisaSaveLeft (record { P = now (a .0); D = now (a .1 .0); destination = now (a .1 .1 .0) })))
+  -- sisa_assemble(text, program)
+  pub assemble-asks : (κs : Lfts 2) (a : _) → assemble.Asked κs a
+  pub assemble :
+      (κs : Lfts 2) (a : _) (r : _) (s : _)
+      → assemble.Learnt κs a r s
+      ↔ (_≡_ {A = SisaAssembleLeft} (record { reply = r; program = now (s .1 .0) }) (sisaAssembleLeft (now (a .0)) (now (a .1 .0))))
   -- sisa_set_input(inputs, port, value)
   pub set-input-asks : (κs : Lfts 1) (a : _) → set-input.Asked κs a
   pub set-input :

@@ -1,5 +1,6 @@
 pub mod Agreement
 pub mod Answers
+pub mod Assembly
 pub mod Contracts
 pub mod Exports
 pub mod HostSteps
@@ -11,3 +12,4 @@ pub mod Runs
 pub mod Saved
 pub mod Session
 pub mod Steps
+pub mod Texts

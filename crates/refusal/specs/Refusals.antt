@@ -2,7 +2,7 @@
 -- accepted or refused with a number.
 use Prim.Native.Nat.{ℕ}
 use Rattle.refusal.specs.declared.Refusal.{Refusal}
-use Rattle.refusal.specs.declared.Refusal.the-variants.{LentLength, ShortFile, LargePart, PartOutside, OddPc, StepCount, InstructionPart, LongFile, ShortDestination}
+use Rattle.refusal.specs.declared.Refusal.the-variants.{LentLength, ShortFile, LargePart, PartOutside, OddPc, StepCount, InstructionPart, LongFile, ShortDestination, TextLine, TextName, TextValue}
 
 abbrev pub refusalNumber : Refusal → ℕ
 -- P or D not 65,536 bytes, or I or O not 256 words (set looks at I only)
@@ -23,6 +23,12 @@ refusalNumber InstructionPart = 7
 refusalNumber LongFile = 8
 -- destination shorter than the file (02, L1)
 refusalNumber ShortDestination = 9
+-- line outside the grammar or past a stated size (02, L2)
+refusalNumber TextLine = 10
+-- a name unknown, or given on an earlier line (02, L2)
+refusalNumber TextName = 11
+-- a value its field can't hold (02, L2)
+refusalNumber TextValue = 12
 
 -- whether a call is accepted: it is, or it is refused with this number
 pub data Verdict : Type 0 where

@@ -12,6 +12,9 @@ pub enum Refusal {
     InstructionPart,
     LongFile,
     ShortDestination,
+    TextLine,
+    TextName,
+    TextValue,
 }
 
 // The refusal's number in the table.
@@ -28,5 +31,8 @@ pub fn number(refusal: Refusal) -> u8
         Refusal::InstructionPart => 7,
         Refusal::LongFile => 8,
         Refusal::ShortDestination => 9,
+        Refusal::TextLine => 10,
+        Refusal::TextName => 11,
+        Refusal::TextValue => 12,
     }
 }

@@ -1,5 +1,5 @@
 -- What each function of include/sisa.h replies and leaves, of what it is given. The crates that do the work decide it
--- (`loadLeft`, `saveLeft`, `setLeft`, `runLeft`, `readOf`, `writeOf`, `windowOf`); here their replies become the numbers of the header's
+-- (`loadLeft`, `saveLeft`, `assembleLeft`, `setLeft`, `runLeft`, `readOf`, `writeOf`, `windowOf`); here their replies become the numbers of the header's
 -- structs. A refusal of 0 is an accepted call; a field that a case does not speak of is 0.
 use Prim.Native.Nat.{ℕ, _+_}
 use mathlib.Core.Bool.{_&&_, not}
@@ -18,10 +18,12 @@ use Rattle.machine.specs.Run.{Stepper}
 use Rattle.panel.specs.Calls.{SetGiven, SetLeft, setLeft}
 use Rattle.image.specs.Image.{LoadGiven, LoadLeft, loadLeft}
 use Rattle.save.specs.Saved.{SaveReply, saved, refused as save-refused, SaveGiven, SaveLeft, saveLeft}
+use Rattle.assembler.specs.Text.{Reply, words, turned-away, AssembleLeft, assembleLeft}
 use Rattle.control.specs.Control.{byTable}
 use Rattle.run.specs.Runs.{Given, given, RunReply, stopped, refused as run-refused, Left, runLeft}
 use Rattle.replies.specs.declared.SisaLoad.{SisaLoad}
 use Rattle.replies.specs.declared.SisaSaved.{SisaSaved}
+use Rattle.replies.specs.declared.SisaAssembly.{SisaAssembly}
 use Rattle.replies.specs.declared.SisaRun.{SisaRun}
 use Rattle.replies.specs.declared.SisaAnswer.{SisaAnswer}
 use Rattle.replies.specs.declared.SisaInstruction.{SisaInstruction}
@@ -68,6 +70,22 @@ saveInNumbers l = record { reply = sisaSaved (l .reply); P = l .P; D = l .D; des
 
 unfoldable pub sisaSaveLeft : SaveGiven → SisaSaveLeft
 sisaSaveLeft g = saveInNumbers (saveLeft g)
+
+-- ---- sisa_assemble
+
+abbrev pub sisaAssembly : Reply → SisaAssembly
+sisaAssembly (words n) = record { refusal = 0; line = 0; words = n }
+sisaAssembly (turned-away k r) = record { refusal = r; line = k; words = 0 }
+
+pub record SisaAssembleLeft : Type 0 where
+  pub reply : SisaAssembly
+  pub program : List ℕ
+
+abbrev pub assemblyInNumbers : AssembleLeft → SisaAssembleLeft
+assemblyInNumbers l = record { reply = sisaAssembly (l .reply); program = l .program }
+
+unfoldable pub sisaAssembleLeft : List ℕ → List ℕ → SisaAssembleLeft
+sisaAssembleLeft text program = assemblyInNumbers (assembleLeft text program)
 
 -- ---- sisa_set_input
 

@@ -4,10 +4,12 @@ ghost use lib.Dec.{eqb};
 ghost use Rattle.word.specs.Word.{pick};
 ghost use Rattle.image.specs.Image.{shownLoading};
 ghost use Rattle.save.specs.Saved.{shownSaving};
+ghost use Rattle.assembler.specs.Passes.{shownAssembly};
 ghost use Rattle.panel.specs.Calls.{shownSetting};
 ghost use Rattle.run.specs.Runs.{shownAnswer};
 ghost use Rattle.isa.specs.Instructions.{shownReading, shownWriting};
-ghost use Rattle.replies.specs.Sisa.{sisaLoad, sisaSaved, verdictNumber, sisaRun, sisaInstruction, sisaWord, sisaWrite};
+ghost use Rattle.replies.specs.Sisa.{sisaLoad, sisaSaved, sisaAssembly, verdictNumber, sisaRun, sisaInstruction, sisaWord, sisaWrite};
+use assembler::Assembly;
 use image::Loaded;
 use image::Loading;
 use isa::Instruction;
@@ -71,6 +73,13 @@ pub struct SisaSaved {
     pub length: usize,
 }
 
+#[repr(C)]
+pub struct SisaAssembly {
+    pub refusal: u8,
+    pub line: u32,
+    pub words: u32,
+}
+
 pub fn load(loaded: Loaded) -> SisaLoad
     ensures { λ r. ⌜ r ≡ sisaLoad (shownLoading (loaded .reply)) (loaded .state) ⌝ }
 {
@@ -93,6 +102,23 @@ pub fn save(saving: Saving) -> SisaSaved
         Saving::Refused(refusal) => SisaSaved {
             refusal: refusal::number(refusal),
             length: 0,
+        },
+    }
+}
+
+pub fn assembly(assembly: Assembly) -> SisaAssembly
+    ensures { λ r. ⌜ r ≡ sisaAssembly (shownAssembly assembly) ⌝ }
+{
+    match assembly {
+        Assembly::Words(words) => SisaAssembly {
+            refusal: 0,
+            line: 0,
+            words,
+        },
+        Assembly::Refused { line, refusal } => SisaAssembly {
+            refusal: refusal::number(refusal),
+            line,
+            words: 0,
         },
     }
 }

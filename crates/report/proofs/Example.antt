@@ -7,7 +7,8 @@ use Rattle.machine.specs.Run.{noPlace, runFrom}
 use Rattle.image.specs.Image.{loaded, loadReply, loadLeft}
 use Rattle.control.specs.Control.{second, unit, result, next, storedData, stored, written, performed, assigned, controlStep, controlIn}
 use Rattle.run.specs.Runs.{verdict, runLeft}
-use Rattle.report.specs.Printed.{digit, digits, decimal, hex4, each, runLine, outLine, pcLine, registersLine, refusedLine, stoppedLines, ranLines, printed}
+use Rattle.printing.specs.Text.{digit, digits, decimal, hex4, each}
+use Rattle.report.specs.Printed.{runLine, outLine, pcLine, registersLine, refusedLine, stoppedLines, ranLines, printed}
 use Rattle.report.specs.Example.{Example}
 
 pub example : Example

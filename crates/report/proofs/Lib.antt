@@ -1,5 +1,3 @@
-pub mod Decimal
-pub mod Writing
 pub mod Runs
 pub mod Loads
 pub mod Entries

@@ -9,8 +9,9 @@ use Rattle.refusal.specs.Refusals.{Verdict, accepted, refused}
 use Rattle.image.specs.Image.{LoadLeft, loadLeft}
 use Rattle.control.specs.Control.{byTable}
 use Rattle.run.specs.Runs.{given, runLeft}
-use Rattle.report.specs.declared.Printed.{Printed}
-use Rattle.report.specs.Printed.{refusedLine, ranLines, loadedBy, printed, held}
+use Rattle.printing.specs.declared.Printed.{Printed}
+use Rattle.printing.specs.Text.{held}
+use Rattle.report.specs.Printed.{refusedLine, ranLines, loadedBy, printed}
 
 pub too-long : (file : List ℕ) {r : Printed} → 65536 < length file → r ≡ held (refusedLine 8) → r ≡ held (printed file)
 unfolding printed

@@ -10,8 +10,9 @@ use Rattle.refusal.specs.Refusals.{Verdict, accepted, refused as turned-away}
 use Rattle.word.proofs.Tests.{clash}
 use Rattle.machine.specs.Run.{Stepper, run}
 use Rattle.run.specs.Runs.{Given, RunReply, stopped, refused, Left, machineAt, verdictOn, leftBy, runLeft}
-use Rattle.report.specs.declared.Printed.{Printed}
-use Rattle.report.specs.Printed.{refusedLine, stoppedLines, linesBy, ranLines, held}
+use Rattle.printing.specs.declared.Printed.{Printed}
+use Rattle.printing.specs.Text.{held}
+use Rattle.report.specs.Printed.{refusedLine, stoppedLines, linesBy, ranLines}
 
 by-verdict : (v : Stepper) (g : Given) (x : Verdict) {stop steps entries : ℕ} → leftBy v x g .reply ≡ stopped stop steps entries → entries ≤ length (leftBy v x g .log)
 by-verdict v g accepted {stop} {steps} {entries} e =

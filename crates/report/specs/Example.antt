@@ -2,7 +2,8 @@
 use Prim.Native.Nat.{ℕ}
 use mathlib.Core.Path.{_≡_}
 use mathlib.Core.List.{List, [], _∷_}
-use Rattle.report.specs.Printed.{ascii, printed}
+use Rattle.token.specs.Ascii.{ascii}
+use Rattle.report.specs.Printed.{printed}
 
 -- A file with W 4, offset 16, C 0, offset 24 and words 0x9AF6, 0x9B3A, 0xAB03, 0xF000 (low byte first).
 abbrev pub exampleFile : List ℕ

@@ -1,49 +1,18 @@
 -- What the program `panelrun` prints for a file (01, "Marked cases and the printed run"). A text is the list of its bytes.
-use Prim.Native.Nat.{ℕ, zero, suc, _+_, _-_, _/_, _%_}
-use Prim.Native.Char.{code}
-use Prim.Native.String.{String, [] as none, _∷_ as _before_}
-use mathlib.Core.Bool.{true, false}
-use mathlib.Core.List.{List, [], _∷_, _++_}
-use lib.Dec.{ltb, leb}
+use Prim.Native.Nat.{ℕ, _/_, _%_}
+use mathlib.Core.List.{List, _++_}
+use lib.Dec.{leb}
 use lib.ListN.{length, take, replicate}
 use Rattle.refusal.specs.Refusals.{Verdict, accepted, refused as turned-away}
 use Rattle.word.specs.Word.{pick}
+use Rattle.token.specs.Ascii.{ascii}
 use Rattle.machine.specs.declared.State.{State}
 use Rattle.image.specs.Image.{LoadLeft, loadLeft}
 use Rattle.control.specs.Control.{byTable}
 use Rattle.run.specs.Runs.{given, RunReply, stopped, refused, Left, runLeft}
-use Rattle.report.specs.declared.Printed.{Printed}
-
--- ---- Words and numbers
-
--- the ASCII codes of a word
-abbrev pub ascii : String → List ℕ
-ascii none = []
-ascii (c before s) = code c ∷ ascii s
-
--- a digit, capitals: 0 to 9, then A to F
-unfoldable pub digit : ℕ → ℕ
-digit d = pick (ltb d 10) (48 + d) (55 + d)
-
--- n in decimal, in at most so many digits: one, or those of n / 10 and then the last. n + 1 digits are always enough (`same`
--- of proofs/Decimal.antt).
-unfoldable pub digits : ℕ → ℕ → List ℕ
-digits zero n = []
-digits (suc most) n = elim (ltb n 10) [ true ↦ digit n ∷ [] | false ↦ digits most (n / 10) ++ (digit (n % 10) ∷ []) ]
-
-unfoldable pub decimal : ℕ → List ℕ
-decimal n = digits (n + 1) n
-
--- Value, PC and registers are four hexadecimal digits, capitals.
-unfoldable pub hex4 : ℕ → List ℕ
-hex4 v = digit (v / 4096) ∷ digit (v / 256 % 16) ∷ digit (v / 16 % 16) ∷ digit (v % 16) ∷ []
+use Rattle.printing.specs.Text.{decimal, hex4, each}
 
 -- ---- Lines
-
--- the texts of the elements, one after another
-unfoldable pub each : (ℕ → List ℕ) → List ℕ → List ℕ
-each text [] = []
-each text (x ∷ xs) = text x ++ each text xs
 
 -- `run`: stop, steps, entries.
 unfoldable pub runLine : ℕ → ℕ → ℕ → List ℕ
@@ -101,8 +70,3 @@ unfoldable pub printed : List ℕ → List ℕ
 printed file =
     let l = loadLeft (record { file = file; P = replicate 65536 0; D = replicate 65536 0; I = replicate 256 0; O = replicate 256 0 }) in
     pick (leb (length file) 65536) (loadedBy (l .reply) l) (refusedLine 8)
-
--- ---- What `report` returns: the whole text, and zeros to the end of the array
-
-unfoldable pub held : List ℕ → Printed
-held text = record { bytes = text ++ replicate (4096 - length text) 0; count = length text }

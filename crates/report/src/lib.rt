@@ -3,23 +3,15 @@ ghost use mathlib.Core.Path.{_≡_};
 ghost use lib.ListN.{replicate};
 ghost use Rattle.control.specs.Control.{byTable};
 ghost use Rattle.run.specs.Runs.{given, runLeft};
-ghost use Rattle.report.specs.Printed.{ranLines, printed, held};
+ghost use Rattle.printing.specs.Text.{held};
+ghost use Rattle.report.specs.Printed.{ranLines, printed};
 use image::Loading;
 use machine::State;
+use printing::Printed;
 use refusal::Refusal;
 use run::Answer;
 
 mod lines;
-mod text;
-
-// More than the longest report has.
-pub const CAPACITY: usize = 4096;
-
-// A text: its bytes stand before count, zeros after them.
-pub struct Printed {
-    pub bytes: [u8; CAPACITY],
-    pub count: usize,
-}
 
 const FILE_BYTES: usize = 65536;
 

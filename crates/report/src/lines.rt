@@ -3,10 +3,11 @@ ghost use mathlib.Core.Path.{_≡_};
 ghost use Prim.Native.Nat.{_*_, _≤_};
 ghost use lib.ListN.{length};
 ghost use Rattle.refusal.specs.Refusals.{refusalNumber};
-ghost use Rattle.report.specs.Printed.{each, runLine, outLine, pcLine, register, registersLine, refusedLine, stoppedLines, held};
-ghost use Rattle.report.specs.Writing.{Wrote};
-use crate::Printed;
+ghost use Rattle.printing.specs.Text.{each, held};
+ghost use Rattle.printing.specs.Writing.{Wrote};
+ghost use Rattle.report.specs.Printed.{runLine, outLine, pcLine, register, registersLine, refusedLine, stoppedLines};
 use machine::State;
+use printing::Printed;
 use refusal::Refusal;
 use run::Report;
 

@@ -9,11 +9,13 @@ use Rattle.machine.specs.Run.{Stepper}
 use Rattle.panel.specs.Calls.{SetGiven, SetLeft, setLeft}
 use Rattle.image.specs.Image.{LoadGiven, LoadLeft, loadLeft}
 use Rattle.save.specs.Saved.{SaveReply, SaveGiven, SaveLeft, saveLeft}
+use Rattle.assembler.specs.Text.{Reply, AssembleLeft, assembleLeft}
 use Rattle.run.specs.Runs.{Given, left, RunReply, RunMeets}
 use Rattle.replies.specs.declared.SisaLoad.{SisaLoad}
 use Rattle.replies.specs.declared.SisaSaved.{SisaSaved}
+use Rattle.replies.specs.declared.SisaAssembly.{SisaAssembly}
 use Rattle.replies.specs.declared.SisaRun.{SisaRun}
-use Rattle.replies.specs.Sisa.{sisaLoad, SisaLoadLeft, loadInNumbers, sisaLoadLeft, sisaSaved, SisaSaveLeft, saveInNumbers, sisaSaveLeft, verdictNumber, SisaSetLeft, setInNumbers, sisaSetLeft, sisaRun, sisaLeft, runInNumbers, sisaRunLeft, SisaRunMeets}
+use Rattle.replies.specs.Sisa.{sisaLoad, SisaLoadLeft, loadInNumbers, sisaLoadLeft, sisaSaved, SisaSaveLeft, saveInNumbers, sisaSaveLeft, sisaAssembly, SisaAssembleLeft, assemblyInNumbers, sisaAssembleLeft, verdictNumber, SisaSetLeft, setInNumbers, sisaSetLeft, sisaRun, sisaLeft, runInNumbers, sisaRunLeft, SisaRunMeets}
 
 pub load-meets : (g : LoadGiven) {reply : Verdict} {state : State} {P D I O : List ℕ} {r : SisaLoad}
     → _≡_ {A = LoadLeft} (record { reply = reply; state = state; P = P; D = D; I = I; O = O }) (loadLeft g)
@@ -28,6 +30,13 @@ pub save-meets : (g : SaveGiven) {reply : SaveReply} {P D destination : List ℕ
     → _≡_ {A = SisaSaveLeft} (record { reply = r; P = P; D = D; destination = destination }) (sisaSaveLeft g)
 unfolding sisaSaveLeft
 save-meets g e h = rw h (ap saveInNumbers e)
+
+pub assembly-meets : (text program : List ℕ) {reply : Reply} {program′ : List ℕ} {r : SisaAssembly}
+    → _≡_ {A = AssembleLeft} (record { reply = reply; program = program′ }) (assembleLeft text program)
+    → r ≡ sisaAssembly reply
+    → _≡_ {A = SisaAssembleLeft} (record { reply = r; program = program′ }) (sisaAssembleLeft text program)
+unfolding sisaAssembleLeft
+assembly-meets text program e h = rw h (ap assemblyInNumbers e)
 
 pub set-meets : (g : SetGiven) {reply : Verdict} {I : List ℕ} {r : ℕ}
     → _≡_ {A = SetLeft} (record { reply = reply; I = I }) (setLeft g)

@@ -8,9 +8,10 @@ ghost use Rattle.panel.specs.Calls.{windowOf};
 ghost use Rattle.control.specs.Control.{byTable};
 ghost use Rattle.run.specs.Runs.{given};
 ghost use Rattle.isa.specs.Instructions.{readOf};
-ghost use Rattle.replies.specs.Sisa.{SisaLoadLeft, sisaLoadLeft, SisaSaveLeft, sisaSaveLeft, SisaSetLeft, sisaSetLeft, sisaLeft, SisaRunMeets, sisaInstruction, sisaWrite, chosen, sisaWindow, bytesOf};
+ghost use Rattle.replies.specs.Sisa.{SisaLoadLeft, sisaLoadLeft, SisaSaveLeft, sisaSaveLeft, SisaAssembleLeft, sisaAssembleLeft, SisaSetLeft, sisaSetLeft, sisaLeft, SisaRunMeets, sisaInstruction, sisaWrite, chosen, sisaWindow, bytesOf};
 use machine::Port;
 use machine::State;
+use replies::SisaAssembly;
 use replies::SisaInstruction;
 use replies::SisaLoad;
 use replies::SisaRun;
@@ -40,6 +41,14 @@ pub extern "C" fn sisa_save(program: &[u8], memory: &[u8], destination: &mut [u8
 {
     let saving = save::save(program, memory, destination);
     replies::save(saving)
+}
+
+#[no_mangle]
+pub extern "C" fn sisa_assemble(text: &[u8], program: &mut [u8]) -> SisaAssembly
+    ensures { λ r. ⌜ _≡_ {A = SisaAssembleLeft} (record { reply = r; program = now (program .exit) }) (sisaAssembleLeft (now (text .entry)) (now (program .entry))) ⌝ }
+{
+    let assembly = assembler::assemble(text, program);
+    replies::assembly(assembly)
 }
 
 #[no_mangle]

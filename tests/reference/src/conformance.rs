@@ -7,6 +7,7 @@ mod files;
 mod host;
 mod saves;
 mod tables;
+pub mod texts;
 
 pub use calls::lines;
 pub use files::file;

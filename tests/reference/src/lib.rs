@@ -1,10 +1,11 @@
 //! The SISA trim processor of paper 01, the SISA reference sheet (004) and
-//! request L1 of paper 02, written from those papers alone, to be compared with
-//! another build.
+//! requests L1 and L2 of paper 02, written from those papers alone, to be
+//! compared with another build.
 //!
 //! Sentences in quotation marks are paper 01's unless "sheet" is said.
 #![forbid(unsafe_code)]
 
+pub mod assemble;
 pub mod conformance;
 pub mod control;
 pub mod instruction;

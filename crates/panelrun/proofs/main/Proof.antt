@@ -3,7 +3,7 @@
 use mathlib.Core.Path.{sym}
 use lib.Seq.{length-take-le}
 use borrow.Author.Needs.{needs}
-use Rattle.report.proofs.Writing.{count-fits}
+use Rattle.printing.proofs.Writing.{count-fits}
 use Rattle.panelrun.proofs.main.Statement.{statement}
 use Rattle.panelrun.proofs.main.Tie as tie
 

@@ -2,6 +2,7 @@
 
 use crate::ffi::{self, Lent};
 use crate::world::{first, Lengths, World, GUARD};
+use reference::assemble::{assemble, Refused};
 use reference::load::load;
 use reference::machine::State;
 use reference::run::{host_step, run, Engine, Reply};
@@ -25,6 +26,18 @@ impl fmt::Debug for Bytes {
     }
 }
 
+/// A text to assemble, printed as it stands but for bytes that don't show.
+#[derive(Clone, PartialEq, Eq)]
+pub struct Text(pub Vec<u8>);
+
+impl fmt::Debug for Text {
+    fn fmt(&self, f: &mut fmt::Formatter) -> fmt::Result {
+        let shown = &self.0[..self.0.len().min(2_000)];
+        write!(f, "{} bytes \"{}\"", self.0.len(), shown.escape_ascii())?;
+        f.write_str(if self.0.len() > 2_000 { ".." } else { "" })
+    }
+}
+
 #[derive(Clone, Debug)]
 pub enum Call {
     Load(Bytes),
@@ -35,6 +48,15 @@ pub enum Call {
     Window(u8, usize, usize),
     /// Into these bytes, but for the guards before and after.
     Save(Bytes),
+    Assemble(Text),
+}
+
+/// The bytes that a call only reads, but for the memories and ports.
+fn read_by(call: &Call) -> &[u8] {
+    match call {
+        Call::Load(Bytes(bytes)) | Call::Assemble(Text(bytes)) => bytes,
+        _ => &[],
+    }
 }
 
 /// A reply in the header's types.
@@ -47,6 +69,7 @@ pub enum Answer {
     Window(ffi::Window),
     /// And all bytes as the call left them.
     Save(ffi::Saved, Bytes),
+    Assemble(ffi::Assembly),
 }
 
 impl Answer {
@@ -58,6 +81,7 @@ impl Answer {
             Answer::HostStep(_, answer) => answer.refusal,
             Answer::Window(_) => 0,
             Answer::Save(saved, _) => saved.refusal,
+            Answer::Assemble(assembly) => assembly.refusal,
         }
     }
 }
@@ -131,6 +155,18 @@ fn header_saved(saved: Result<usize, u8>) -> ffi::Saved {
     }
 }
 
+fn header_assembly(assembled: Result<u32, Refused>) -> ffi::Assembly {
+    let (refusal, line, words) = match assembled {
+        Ok(words) => (0, 0, words),
+        Err(Refused { line, number }) => (number, line, 0),
+    };
+    ffi::Assembly {
+        refusal,
+        line,
+        words,
+    }
+}
+
 pub fn of_reference(call: &Call, lent: &mut Lent) -> Answer {
     let (p, d, i, o) = (
         &mut *lent.program,
@@ -166,6 +202,7 @@ pub fn of_reference(call: &Call, lent: &mut Lent) -> Answer {
             Answer::Window(header_window(p, d, of_data, start, count))
         }
         Call::Save(ref bytes) => saved_into(bytes, |to| header_saved(save(p, d, to))),
+        Call::Assemble(ref text) => Answer::Assemble(header_assembly(assemble(&text.0, p))),
     }
 }
 
@@ -189,6 +226,7 @@ pub fn of_library(call: &Call, lent: &mut Lent) -> Answer {
             Answer::Window(ffi::window(program, memory, of_data, start, count))
         }
         Call::Save(ref bytes) => saved_into(bytes, |to| ffi::save(lent.program, lent.memory, to)),
+        Call::Assemble(ref text) => Answer::Assemble(ffi::assemble(&text.0, lent.program)),
     }
 }
 
@@ -242,10 +280,8 @@ impl Sides {
         if expected.refusal() != 0 && self.changed(call, &expected) {
             return Err("a refused call changed what was lent".to_string());
         }
-        if let (Call::Load(Bytes(ours)), Call::Load(Bytes(theirs))) = (call, &lent_to_library) {
-            if ours != theirs {
-                return Err("the library changed the file".to_string());
-            }
+        if read_by(call) != read_by(&lent_to_library) {
+            return Err("the library changed the file or the text".to_string());
         }
         Ok(expected)
     }

@@ -81,6 +81,15 @@ pub struct Saved {
     pub length: usize,
 }
 
+/// `SisaAssembly`
+#[repr(C)]
+#[derive(Clone, Copy, Debug, PartialEq, Eq)]
+pub struct Assembly {
+    pub refusal: u8,
+    pub line: u32,
+    pub words: u32,
+}
+
 /// What a call is lent.
 pub struct Lent<'a> {
     pub program: &'a mut [u8],
@@ -181,6 +190,12 @@ extern "C" {
         destination: *mut u8,
         destination_len: usize,
     ) -> Saved;
+    fn sisa_assemble(
+        text: *const u8,
+        text_len: usize,
+        program: *mut u8,
+        program_len: usize,
+    ) -> Assembly;
 }
 
 pub fn load(file: &[u8], lent: &mut Lent) -> Load {
@@ -290,6 +305,18 @@ pub fn save(program: &[u8], memory: &[u8], destination: &mut [u8]) -> Saved {
             memory.len(),
             destination.as_mut_ptr(),
             destination.len(),
+        )
+    }
+}
+
+pub fn assemble(text: &[u8], program: &mut [u8]) -> Assembly {
+    // SAFETY: pointers and lengths are those of slices that don't overlap.
+    unsafe {
+        sisa_assemble(
+            text.as_ptr(),
+            text.len(),
+            program.as_mut_ptr(),
+            program.len(),
         )
     }
 }

@@ -1,10 +1,11 @@
 //! Long lists of calls, every one compared.
 
-use crate::call::{of_reference, Answer, Bytes, Call, Sides};
+use crate::call::{of_reference, Answer, Bytes, Call, Sides, Text};
 use crate::ffi;
 use crate::make;
 use crate::random::Random;
 use crate::tally::Tally;
+use crate::texts;
 use crate::world::{Lengths, World};
 use crate::{case_to_replay, random_of, seed};
 use reference::machine::State;
@@ -98,6 +99,7 @@ impl List {
             5 | 6 => self.window(&lengths),
             7..=12 => Call::HostStep(self.handed(1)),
             13 => self.save(&lengths),
+            14 => Call::Assemble(Text(texts::any(random))),
             k => {
                 let engine = if k % 2 == 0 {
                     Engine::Rules

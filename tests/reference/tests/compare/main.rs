@@ -3,6 +3,7 @@
 //! SISA_SEED gives another seed; SISA_CASE plays one case of the lists alone,
 //! as a failure names it.
 
+mod assembly;
 mod call;
 mod ffi;
 mod lists;
@@ -12,6 +13,7 @@ mod random;
 mod saves;
 mod steps;
 mod tally;
+mod texts;
 mod windows;
 mod words;
 mod world;

@@ -24,6 +24,7 @@ impl Tally {
             Call::HostStep(_) => "host",
             Call::Window(..) => "window",
             Call::Save(_) => "save",
+            Call::Assemble(_) => "assemble",
         };
         let mut outcome = match answer.refusal() {
             0 => "accepted".to_string(),
@@ -65,6 +66,13 @@ impl Tally {
             "refused 3",
             "refused 4",
         ];
+        let of_assemble = [
+            "accepted",
+            "refused 1",
+            "refused 10",
+            "refused 11",
+            "refused 12",
+        ];
         for (export, outcomes) in [
             ("load", &of_load[..]),
             ("set", &["accepted", "refused 1"]),
@@ -73,6 +81,7 @@ impl Tally {
             ("host", &of_runs),
             ("window", &["part", "empty"]),
             ("save", &["accepted", "refused 1", "refused 9"]),
+            ("assemble", &of_assemble),
         ] {
             for outcome in outcomes {
                 let key = (export, outcome.to_string());

@@ -1,6 +1,7 @@
-//! Tests of the reference against paper 01 and the sheet.
+//! Tests of the reference against papers 01 and 02 and the sheet.
 #![allow(clippy::unusual_byte_groupings, clippy::identity_op)] // fields as the sheet groups them
 
+mod assembly;
 mod board;
 mod conformance;
 mod engines;
@@ -14,4 +15,5 @@ mod runs;
 mod saves;
 mod slips;
 mod tables;
+mod texts;
 mod words;

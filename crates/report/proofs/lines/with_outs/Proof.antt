@@ -4,7 +4,7 @@ use Prim.Native.Nat.{_-_}
 use lib.ListN.{length}
 use borrow.Author.Needs.{needs}
 use Rattle.report.specs.Printed.{outLine}
-use Rattle.report.proofs.Writing.{Going, start, turn, whole}
+use Rattle.printing.proofs.Writing.{Going, start, turn, whole}
 use Rattle.report.proofs.lines.with_outs.Statement.{statement}
 use Rattle.report.proofs.lines.with_outs.Tie as tie
 

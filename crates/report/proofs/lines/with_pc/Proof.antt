@@ -2,7 +2,7 @@
 -- Assumes nothing.
 use borrow.Author.Needs.{needs}
 use Rattle.report.specs.Printed.{pcLine}
-use Rattle.report.proofs.Writing.{_then_}
+use Rattle.printing.proofs.Writing.{_then_}
 use Rattle.report.proofs.lines.with_pc.Statement.{statement}
 use Rattle.report.proofs.lines.with_pc.Tie as tie
 

@@ -1,7 +1,7 @@
 -- A space and the register.
 -- Assumes nothing.
 use borrow.Author.Needs.{needs}
-use Rattle.report.proofs.Writing.{_then_}
+use Rattle.printing.proofs.Writing.{_then_}
 use Rattle.report.proofs.lines.with_register.Statement.{statement}
 use Rattle.report.proofs.lines.with_register.Tie as tie
 

@@ -5,7 +5,7 @@ use lib.ListN.{length}
 use mathlib.Core.Path.{_≡_}
 use borrow.Author.Needs.{needs}
 use Rattle.report.specs.Printed.{registersLine}
-use Rattle.report.proofs.Writing.{_then_, at-most}
+use Rattle.printing.proofs.Writing.{_then_, at-most}
 use Rattle.report.proofs.lines.with_registers.Statement.{statement}
 use Rattle.report.proofs.lines.with_registers.Tie as tie
 

@@ -1,0 +1,172 @@
+-- Writing trims as text: the theorem.
+-- Assumes nothing.
+use Prim.Native.Nat.{ℕ, suc, _+_, _<_}
+use mathlib.Core.Bool.{Bool, true, false}
+use mathlib.Core.Path.{_≡_, refl, sym, ap, _∙_, subst, subst₂}
+use mathlib.Core.Logic.{_⊎_, inl, inr}
+use mathlib.Core.List.{List}
+use native.Mathlib.Omega.{arith}
+use lib.Dec.{eqb, ltb}
+use lib.ListN.{length, getD}
+use borrow.Author.Tests.{ltb-true, ltb-false, eqb-true, eqb-false}
+use Rattle.word.proofs.Tests.{clash}
+use Rattle.encoding.specs.Words.{Judged, bad, nothing, gives}
+use Rattle.assembler.specs.Text.{textLines, start, namesFrom, textVerdicts, wordsOf, words, turned-away, AssembleLeft, stored, leftBy, assembleLeft}
+use Rattle.claims.specs.Assembly.{textParts, lineAt, Bad, First, Assembles, Assembly}
+use Rattle.claims.proofs.Readings.{found, readings-unique, readings-length, taken}
+use Rattle.claims.proofs.Judging.{Rightly, rightly-at}
+use Rattle.claims.proofs.Replies.{Fine, FirstBad, Turned, Counted, replied, verdict-at, verdicts-length}
+
+-- ---- Lines
+
+-- a number that is lowest is so alone
+one-least : (P : ℕ → Type 0) (m n : ℕ) → P m → P n → ((j : ℕ) → j < m → P j → ⊥) → ((j : ℕ) → j < n → P j → ⊥) → m ≡ n
+one-least P m n a b f g = go (ltb m n) refl (ltb n m) refl
+  where
+    go : (x : Bool) → ltb m n ≡ x → (y : Bool) → ltb n m ≡ y → m ≡ n
+    go true e y d = absurd (g m (ltb-true m n e) a)
+    go false e true d = absurd (f n (ltb-true n m d) b)
+    go false e false d = omega (arith, ltb-false m n e, ltb-false n m d)
+
+-- of a line that is not turned away no number holds
+fine-good : (Q : ℕ → Type 0) (j : Judged) → Fine j → Rightly Q j → (q : ℕ) → Q q → ⊥
+fine-good Q (bad r) f h = absurd f
+fine-good Q nothing f h = h
+fine-good Q (gives w) f h = h
+
+module _ (text : List ℕ) where
+  lines-length : length (textLines text) ≡ length (textParts text)
+  unfolding textLines
+  lines-length = readings-length (ltb 65536 (length text)) (textParts text)
+
+  rightly : (k : ℕ) → k < length (textParts text) → Rightly (Bad text k) (getD (textVerdicts text) k nothing)
+  unfolding textVerdicts
+  rightly k h =
+      subst (Rightly (Bad text k)) (sym (verdict-at (namesFrom start (textLines text)) start (textLines text) k (omega (arith, lines-length)))) (rightly-at text k h)
+
+  good : (k : ℕ) → k < length (textParts text) → Fine (getD (textVerdicts text) k nothing) → (q : ℕ) → Bad text k q → ⊥
+  good k h f = fine-good (Bad text k) (getD (textVerdicts text) k nothing) f (rightly k h)
+
+  -- the first line that is turned away is the first bad one, and that is the only one
+  first : (k r : ℕ) → FirstBad (textVerdicts text) k r → First text k r
+  unfolding textVerdicts
+  first k r b =
+      let e : length (textVerdicts text) ≡ length (textLines text) = verdicts-length (namesFrom start (textLines text)) start (textLines text) in
+      let h : k < length (textParts text) = omega (arith, lines-length, b .inside) in
+      let x : Rightly (Bad text k) (bad r) = subst (Rightly (Bad text k)) (b .there) (rightly k h) in
+      record { there = h; bad = x .0; lowest = x .1; before = λ j q l. good j (omega arith) (b .before j l) q }
+
+  one-first : (k i r q : ℕ) → First text k r → First text i q → (k ≡ i) × (r ≡ q)
+  one-first k i r q f g =
+      let e : k ≡ i = one-least (λ j. (s : ℕ) × Bad text j s) k i (r, f .bad) (q, g .bad) (λ j h b. f .before j (b .0) h (b .1)) (λ j h b. g .before j (b .0) h (b .1)) in
+      let f′ : First text i r = subst (λ (j : ℕ). First text j r) e f in
+      (e, one-least (Bad text i) r q (f′ .bad) (g .bad) (f′ .lowest) (g .lowest))
+
+  -- no number holds of any line
+  abbrev Good : Type 0
+  Good = (k r : ℕ) → k < length (textParts text) → Bad text k r → ⊥
+
+  abbrev count : ℕ
+  count = length (wordsOf (textVerdicts text))
+
+  -- ---- The call
+
+  module _ (program : List ℕ) where
+    abbrev left : AssembleLeft
+    left = assembleLeft text program
+
+    abbrev Memory : Type 0
+    Memory = length program ≡ 65536
+
+    -- what it comes to
+    data Outcome : Type 0 where
+      no-memory : (Memory → ⊥) → left .reply ≡ turned-away 0 1 → left .program ≡ program → Outcome
+      refused : Memory → (k r : ℕ) → First text k r → left .reply ≡ turned-away (suc k) r → left .program ≡ program → Outcome
+      accepted : Memory → Good → left .reply ≡ words count → left .program ≡ stored (wordsOf (textVerdicts text)) program → Outcome
+
+    outcome : Outcome
+    unfolding assembleLeft leftBy
+    outcome = go (eqb (length program) 65536) refl (replied 1 0 (textVerdicts text))
+      where
+        reply-of : {x y : AssembleLeft} → x ≡ y → x .reply ≡ y .reply
+        reply-of e = ap (λ (z : AssembleLeft). z .reply) e
+
+        program-of : {x y : AssembleLeft} → x ≡ y → x .program ≡ y .program
+        program-of e = ap (λ (z : AssembleLeft). z .program) e
+
+        go : (b : Bool) → eqb (length program) 65536 ≡ b → Turned 1 0 (textVerdicts text) ⊎ Counted 1 0 (textVerdicts text) → Outcome
+        go false e t =
+            let x : left ≡ record { reply = turned-away 0 1; program = program } = rw e in
+            no-memory (eqb-false _ _ e) (reply-of x) (program-of x)
+        go true e (inl t) =
+            let (i, r, b, q) = t in
+            let s : 1 + i ≡ suc i = omega arith in
+            let x : left ≡ record { reply = turned-away (suc i) r; program = program } = rw (e, q, s) in
+            refused (eqb-true _ _ e) i r (first i r b) (reply-of x) (program-of x)
+        go true e (inr t) =
+            let s : 0 + count ≡ count = omega arith in
+            let x : left ≡ record { reply = words count; program = stored (wordsOf (textVerdicts text)) program } = rw (e, t .1, s) in
+            accepted (eqb-true _ _ e) (λ k r h. good k h (t .0 k) r) (reply-of x) (program-of x)
+
+    -- each part of the claim, by what it comes to
+    memory-not-1 : left .reply ≡ turned-away 0 1 → Memory → Outcome → ⊥
+    memory-not-1 e m (no-memory n x y) = n m
+    memory-not-1 e m (refused h k r f x y) = let z : suc k ≡ 0 = cc in omega arith
+    memory-not-1 e m (accepted h g x y) = clash (cc)
+
+    no-memory-1 : (Memory → ⊥) → Outcome → left .reply ≡ turned-away 0 1
+    no-memory-1 m (no-memory n x y) = x
+    no-memory-1 m (refused h k r f x y) = absurd (m h)
+    no-memory-1 m (accepted h g x y) = absurd (m h)
+
+    refused-first : (k r : ℕ) → left .reply ≡ turned-away (suc k) r → Outcome → Memory × First text k r
+    refused-first k r e (no-memory n x y) = let z : 0 ≡ suc k = cc in absurd (omega arith)
+    refused-first k r e (refused h i q f x y) =
+        let z : suc i ≡ suc k = cc in
+        let a : i ≡ k = omega arith in
+        let b : q ≡ r = cc in
+        (h, subst₂ (λ (j s : ℕ). First text j s) a b f)
+    refused-first k r e (accepted h g x y) = clash (cc)
+
+    first-refused : (k r : ℕ) → Memory → First text k r → Outcome → left .reply ≡ turned-away (suc k) r
+    first-refused k r m f (no-memory n x y) = absurd (n m)
+    first-refused k r m f (refused h i q g x y) = let (a, b) = one-first i k q r g f in cc (x, a, b)
+    first-refused k r m f (accepted h g x y) = absurd (g k r (f .there) (f .bad))
+
+    accepted-good : (n : ℕ) → left .reply ≡ words n → Outcome → Memory × Good × (n ≡ count)
+    accepted-good n e (no-memory m x y) = clash (cc)
+    accepted-good n e (refused h k r f x y) = clash (cc)
+    accepted-good n e (accepted h g x y) = (h, g, cc)
+
+    good-accepted : (n : ℕ) → Memory → Good → n ≡ count → Outcome → left .reply ≡ words n
+    good-accepted n m g e (no-memory a x y) = absurd (a m)
+    good-accepted n m g e (refused h k r f x y) = absurd (g k r (f .there) (f .bad))
+    good-accepted n m g e (accepted h a x y) = x ∙ ap words (sym e)
+
+    accepted-stored : (n : ℕ) → left .reply ≡ words n → Outcome → left .program ≡ stored (wordsOf (textVerdicts text)) program
+    accepted-stored n e (no-memory m x y) = clash (cc)
+    accepted-stored n e (refused h k r f x y) = clash (cc)
+    accepted-stored n e (accepted h g x y) = y
+
+    refused-untouched : (k r : ℕ) → left .reply ≡ turned-away k r → Outcome → left .program ≡ program
+    refused-untouched k r e (no-memory n x y) = y
+    refused-untouched k r e (refused h i q f x y) = y
+    refused-untouched k r e (accepted h g x y) = clash (cc)
+
+    assembles : Assembles text program
+    assembles =
+        record {
+          number-1 = (λ e m. memory-not-1 e m outcome, λ m. no-memory-1 m outcome);
+          refuses = λ k r. (λ e. refused-first k r e outcome, λ p. first-refused k r (p .0) (p .1) outcome);
+          accepts = λ n. (λ e. accepted-good n e outcome, λ p. good-accepted n (p .0) (p .1) (p .2) outcome);
+          stores = λ n e. accepted-stored n e outcome;
+          untouched = λ k r e. refused-untouched k r e outcome;
+        }
+
+pub assembly : Assembly
+assembly =
+    record {
+      unique = readings-unique;
+      readings = λ text k l h n. (λ e. found (lineAt text k) l .0 (sym (taken text k h n) ∙ e), λ r. taken text k h n ∙ found (lineAt text k) l .1 r);
+      assembles = assembles;
+    }

@@ -1,0 +1,125 @@
+-- Writing trims as text (02, L2): the reading of a line is unique; words are returned exactly where every line has a reading and
+-- nothing turns it away, and they are those of the reading; and which line is turned away, with which number.
+use mathlib.Core.Bool.{true, false}
+use mathlib.Core.Path.{_≡_}
+use mathlib.Core.Logic.{_⊎_, _↔_}
+use mathlib.Core.List.{List, [], _∷_}
+use Prim.Native.Nat.{ℕ, zero, suc, _<_, _≤_}
+use lib.ListN.{length, take, getD}
+use Rattle.kinds.specs.declared.Kind.the-variants.{And}
+use Rattle.kinds.specs.Kinds.{kinds}
+use Rattle.isa.specs.Sheet.{sheet}
+use Rattle.isa.specs.Instructions.{inRange}
+use Rattle.token.specs.Tokens.{Token, digit, Divided}
+use Rattle.expression.specs.Operands.{Label, operandValue}
+use Rattle.expression.specs.Grammar.{Tree, operand, negation, operation, valueOf}
+use Rattle.statement.specs.Syntax.{rowAt, Parts, of-row, Line, IsLine}
+use Rattle.statement.specs.Reading.{ReadLine, outside, reads}
+use Rattle.encoding.specs.Words.{odd, numberOf}
+use Rattle.assembler.specs.Text.{lines, textLines, Place, start, admitted, after, namesFrom, textVerdicts, wordsOf, words, turned-away, stored, assembleLeft}
+
+-- ---- A line's reading, from its bytes
+
+pub record Reads (s : List ℕ) (l : Line Tree) : Type 0 where
+  pub tokens : List Token
+  pub divided : Divided s tokens
+  pub parsed : IsLine tokens l
+
+pub record Unique : Type 0 where
+  -- two divisions of a line into tokens are one,
+  pub one-division : (s : List ℕ) (ts us : List Token) → Divided s ts → Divided s us → ts ≡ us
+  -- two readings of the same tokens are one,
+  pub one-derivation : (ts : List Token) (l m : Line Tree) → IsLine ts l → IsLine ts m → l ≡ m
+  -- so the reading is unique from the line's bytes
+  pub one-reading : (s : List ℕ) (l m : Line Tree) → Reads s l → Reads s m → l ≡ m
+
+-- ---- Names
+
+-- w is among the names
+pub data Named : List Label → Token → Type 0 where
+  here : {l : Label} {ls : List Label} → Named (l ∷ ls) (l .name)
+  there : {l : Label} {ls : List Label} {w : Token} → Named ls w → Named (l ∷ ls) w
+
+-- w stands in the expression as a name: an operand that does not begin with a digit
+pub data Uses : Tree → Token → Type 0 where
+  the-name : {w : Token} → digit (getD w 0 0) ≡ false → Uses (operand w) w
+  negated : {t : Tree} {w : Token} → Uses t w → Uses (negation t) w
+  left : {o : ℕ} {t u : Tree} {w : Token} → Uses t w → Uses (operation o t u) w
+  right : {o : ℕ} {t u : Tree} {w : Token} → Uses u w → Uses (operation o t u) w
+
+-- ---- Values: `.word` takes any; an instruction's number has to be one that its bits can stand for, and a distance even
+
+abbrev pub Fits : ℕ → ℕ → ℕ → Type 0
+Fits k address v =
+    (k ≡ length kinds)
+    ⊎ ((odd (rowAt k .field) address v ≡ false)
+    × (inRange (sheet (getD kinds k And) .number) (sheet (getD kinds k And) .format .n) (numberOf (rowAt k .field) address v) ≡ true))
+
+-- ---- The lines of a text
+
+-- the place of line k, from 0, where the lines before it read as they do
+unfoldable pub placeOf : ℕ → Place → List (ReadLine Tree) → Place
+placeOf zero p ls = p
+placeOf (suc k) p [] = p
+placeOf (suc k) p (l ∷ ls) = placeOf k (after p (admitted p l)) ls
+
+-- A longer text is read up to the line holding its 65,537th byte.
+abbrev pub textParts : List ℕ → List (List ℕ)
+textParts text = lines (take 65536 text)
+
+module _ (text : List ℕ) (k : ℕ) where
+  -- line k, from 0, and its place
+  abbrev pub lineAt : List ℕ
+  lineAt = getD (textParts text) k []
+
+  abbrev pub placeAt : Place
+  placeAt = placeOf k start (textLines text)
+
+  -- number r holds of line k
+  pub data Bad : ℕ → Type 0 where
+    -- 10: the line holds the text's 65,537th byte,
+    too-long : 65536 < length text → suc k ≡ length (textParts text) → Bad 10
+    -- is outside the grammar,
+    no-reading : ((l : Line Tree) → Reads lineAt l → ⊥) → Bad 10
+    -- or would give a 65th name
+    crowded : (l : Line Tree) (w : Token) → Reads lineAt l → l .label ≡ w ∷ [] → (Named (placeAt .names) w → ⊥) → 64 ≤ length (placeAt .names) → Bad 10
+    -- 11: an earlier line gave its name,
+    repeated : (l : Line Tree) (w : Token) → Reads lineAt l → l .label ≡ w ∷ [] → Named (placeAt .names) w → Bad 11
+    -- or it uses a name that no line gives
+    unknown : (l : Line Tree) (q : ℕ) (p : Parts Tree) (w : Token)
+        → Reads lineAt l → l .statement ≡ of-row q p → Uses (p .n) w → (Named (namesFrom start (textLines text)) w → ⊥) → Bad 11
+    -- 12: its value does not fit its field
+    misfit : (l : Line Tree) (q : ℕ) (p : Parts Tree)
+        → Reads lineAt l → l .statement ≡ of-row q p
+        → (Fits q (placeAt .address) (valueOf (operandValue (namesFrom start (textLines text))) (p .n) .word) → ⊥) → Bad 12
+
+-- The first bad line wins, then the lowest number.
+pub record First (text : List ℕ) (k r : ℕ) : Type 0 where
+  pub there : k < length (textParts text)
+  pub bad : Bad text k r
+  pub lowest : (q : ℕ) → q < r → Bad text k q → ⊥
+  pub before : (j q : ℕ) → j < k → Bad text j q → ⊥
+
+-- ---- The claim
+
+pub record Assembles (text program : List ℕ) : Type 0 where
+  -- 1, with line 0: the destination is no program memory; it is tested first
+  pub number-1 : (assembleLeft text program .reply ≡ turned-away 0 1) ↔ (length program ≡ 65536 → ⊥)
+  -- Lines are numbered from 1.
+  pub refuses : (k r : ℕ) → (assembleLeft text program .reply ≡ turned-away (suc k) r) ↔ ((length program ≡ 65536) × First text k r)
+  -- Otherwise the words are returned, and their count,
+  pub accepts :
+      (n : ℕ) → (assembleLeft text program .reply ≡ words n)
+      ↔ ((length program ≡ 65536) × ((k r : ℕ) → k < length (textParts text) → Bad text k r → ⊥) × (n ≡ length (wordsOf (textVerdicts text))))
+  -- stored from address 0 on, and bytes past the words stay;
+  pub stores : (n : ℕ) → assembleLeft text program .reply ≡ words n → assembleLeft text program .program ≡ stored (wordsOf (textVerdicts text)) program
+  -- a refusal leaves the memory untouched.
+  pub untouched : (k r : ℕ) → assembleLeft text program .reply ≡ turned-away k r → assembleLeft text program .program ≡ program
+
+pub record Assembly : Type 0 where
+  pub unique : Unique
+  -- a line is taken as the grammar's reading of its bytes, where it has one, and else as outside the grammar
+  pub readings :
+      (text : List ℕ) (k : ℕ) (l : Line Tree) → k < length (textParts text) → ((65536 < length text) × (suc k ≡ length (textParts text)) → ⊥)
+      → (getD (textLines text) k outside ≡ reads l) ↔ Reads (lineAt text k) l
+  pub assembles : (text program : List ℕ) → Assembles text program

@@ -1,0 +1,45 @@
+-- The search for a mnemonic.
+-- Assumes nothing.
+use Prim.Native.Nat.{ℕ, suc, _+_, _<_, _≤_}
+use mathlib.Core.Bool.{Bool, true, false}
+use mathlib.Core.Path.{_≡_, sym, ap, _∙_}
+use mathlib.Core.List.{List}
+use native.Mathlib.Numerals.{add-one}
+use native.Mathlib.Omega.{arith}
+use lib.ListN.{drop}
+use lib.Seq.{drop-cons}
+use Rattle.word.specs.Word.{pick}
+use Rattle.token.specs.Tokens.{Token}
+use Rattle.token.specs.Scan.{alike}
+use Rattle.statement.specs.Syntax.{table, rowAt}
+use Rattle.statement.specs.Reading.{rowFrom, rowOf}
+use Rattle.statement.specs.Table.{rowText}
+use Rattle.statement.proofs.Tables.{mnemonicIn, mnemonic-row}
+
+-- m is none of the first k mnemonics
+pub record Searching (m : Token) (k : ℕ) : Type 0 where
+  pub left : rowOf m ≡ k + rowFrom (drop k table) m
+  pub within : k ≤ 26
+
+pub searching : {m : Token} → Searching m 0
+unfolding rowOf
+searching = record { left = omega arith; within = omega arith }
+
+pub searched : {m : Token} {k : ℕ} → Searching m k → 26 ≤ k → 26 ≡ rowOf m
+unfolding rowFrom
+searched {m} {k} s h =
+    let e : k ≡ 26 = omega arith in
+    sym (s .left ∙ ap (λ n. n + rowFrom (drop n table) m) e)
+
+-- t: whether m is the mnemonic that stands in row k of the text
+module _ {m : Token} {k : ℕ} (s : Searching m k) (l : k < 26) {rows : List ℕ} (e : rows ≡ rowText) {t : Bool}
+    (same : t ≡ alike m (mnemonicIn rows k)) where
+  turn : rowOf m ≡ k + pick t 0 (suc (rowFrom (drop (suc k) table) m))
+  unfolding rowFrom
+  turn = s .left ∙ rw (drop-cons table k (rowAt 26) l, ← (rw (e, mnemonic-row k l) at same))
+
+  pub found : t ≡ true → k ≡ rowOf m
+  found h = sym (turn ∙ rw h (omega arith))
+
+  pub passed-by : t ≡ false → Searching m (k + 1)
+  passed-by h = record { left = turn ∙ rw (h, add-one k) (omega arith); within = omega arith }

@@ -1,0 +1,4 @@
+pub mod Syntax
+pub mod Reading
+pub mod Table
+pub mod Parts

@@ -1,0 +1,4 @@
+pub mod Alike
+pub mod Scanning
+pub mod Symbols
+pub mod Division

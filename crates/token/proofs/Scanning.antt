@@ -1,0 +1,137 @@
+-- Tokens, one byte at a time; parts of a text.
+-- Assumes nothing.
+use Prim.Native.Nat.{ℕ, suc, _+_, _-_, _<_, _≤_, min}
+use mathlib.Core.Bool.{Bool, true, false}
+use mathlib.Core.Path.{_≡_, refl, sym, ap, _∙_, subst}
+use mathlib.Core.List.{List, [], _∷_, _++_}
+use native.Mathlib.Omega.{arith}
+use native.Mathlib.Numerals.{add-one}
+use lib.Dec.{eqb}
+use lib.ListN.{length, drop, getD, length-take, length-drop, drop-of-length-le}
+use lib.Seq.{drop-cons, take-suc, getD-drop}
+use borrow.Author.Tests.{ne-eqb, eqb-true}
+use Rattle.word.proofs.Tests.{never, either}
+use Rattle.token.specs.Tokens.{Token, between, digit, letter, letterOrDigit}
+use Rattle.token.specs.Scan.{goesOn, joins, ended, begun, scan, tokens, firstLine, tokensAt, part, Ended}
+
+-- ---- Lists of bytes
+
+-- the token t ends at the end of s, and before a byte that does not go on it
+abbrev pub Over : Token → List ℕ → Type 0
+Over t [] = Unit {0}
+Over t (b ∷ s) = joins t b ≡ false
+
+pub over : (t s : List ℕ) → 0 < length t → Over t s → scan t s ≡ t ∷ tokens s
+unfolding scan tokens joins ended
+over [] s h o = absurd (omega arith)
+over (c ∷ t) [] h o = refl
+over (c ∷ t) (b ∷ s) h o = rw o
+
+line-over : (t : Token) (s : List ℕ) → Over t s → Over t (firstLine s)
+unfolding firstLine
+line-over t [] o = tt
+line-over t (b ∷ s) o = either (Over t) (eqb b 10) tt o
+
+no-newline : (c n b : ℕ) → goesOn c n b ≡ true → eqb b 10 ≡ false
+unfolding goesOn letterOrDigit digit letter between
+no-newline c n b e = go (eqb b 10) refl
+  where
+    go : (t : Bool) → eqb b 10 ≡ t → t ≡ false
+    go true f = never (sym (ap (goesOn c n) (eqb-true b 10 f)) ∙ e)
+    go false f = refl
+
+goes-on :
+    (t : Token) (b : ℕ) (s : List ℕ) → joins t b ≡ true → eqb b 10 ≡ false
+    → scan t (firstLine (b ∷ s)) ≡ scan (t ++ (b ∷ [])) (firstLine s)
+unfolding scan firstLine
+goes-on t b s j e = rw (e, j)
+
+-- ---- Positions of a text
+
+module _ (s : List ℕ) where
+  byte-at : (i : ℕ) → i < length s → drop i s ≡ getD s i 0 ∷ drop (i + 1) s
+  byte-at i h = rw (add-one, drop-cons s i 0)
+
+  pub part-next : (start end : ℕ) → start < end → start < length s → part start end s ≡ getD s start 0 ∷ part (start + 1) end s
+  part-next start end h k =
+      let e : end - start ≡ suc (end - (start + 1)) = omega arith in
+      rw (e, byte-at start k)
+
+  pub part-cons : (start end : ℕ) → start < end → end ≤ length s → part start end s ≡ getD s start 0 ∷ part (start + 1) end s
+  part-cons start end h l = part-next start end h (omega arith)
+
+  -- the end may lie past the text
+  pub part-reach : (start end : ℕ) → length (part start end s) ≡ min end (length s) - start
+  part-reach start end = simp (length-take, length-drop) (omega arith)
+
+  pub part-length : (start end : ℕ) → end ≤ length s → length (part start end s) ≡ end - start
+  part-length start end l = rw (part-reach start end) (omega arith)
+
+  part-snoc : (start i : ℕ) → start < i → i < length s → part start i s ++ (getD s i 0 ∷ []) ≡ part start (i + 1) s
+  part-snoc start i h l =
+      let e : i + 1 - start ≡ suc (i - start) = omega arith in
+      let k : i - start < length (drop start s) = simp length-drop (omega arith) in
+      let q : start + (i - start) ≡ i = omega arith in
+      sym (rw (e, take-suc (drop start s) (i - start) 0 k, getD-drop start s (i - start) 0, q))
+
+  pub line-end : (i : ℕ) → length s ≤ i → tokensAt s i ≡ []
+  unfolding tokensAt tokens scan ended firstLine
+  line-end i h = rw (drop-of-length-le s h)
+
+  pub newline : (i : ℕ) → i < length s → getD s i 0 ≡ 10 → tokensAt s i ≡ []
+  unfolding tokensAt tokens scan ended firstLine
+  newline i h e = rw (byte-at i h, e)
+
+  pub skip : (i : ℕ) → i < length s → getD s i 0 ≡ 32 → tokensAt s i ≡ tokensAt s (i + 1)
+  unfolding tokensAt tokens scan joins ended begun firstLine
+  skip i h e = rw (byte-at i h, e)
+
+-- the token that begins at start is read up to i
+pub record Reading (s : List ℕ) (start i : ℕ) : Type 0 where
+  pub so-far : tokensAt s start ≡ scan (part start i s) (firstLine (drop i s))
+  pub order : start < i
+  pub inside : i ≤ length s
+
+pub begin :
+    {s : List ℕ} {i : ℕ} → i < length s → (getD s i 0 ≡ 32 → ⊥) → (getD s i 0 ≡ 10 → ⊥)
+    → Reading s i (i + 1)
+unfolding tokensAt tokens scan joins ended begun firstLine
+begin {s} {i} h e f =
+    let q : i + 1 - i ≡ 1 = omega arith in
+    record { so-far = rw (byte-at s i h, ne-eqb _ _ f, ne-eqb _ _ e, q); order = omega arith; inside = omega arith }
+
+module _ {s : List ℕ} {start i : ℕ} (r : Reading s start i) where
+  joins-part : (b : ℕ) → joins (part start i s) b ≡ goesOn (getD s start 0) (i - start) b
+  unfolding joins
+  joins-part b =
+      let e = part-cons s start i (r .order) (r .inside) in
+      rw e (ap (λ (n : ℕ). goesOn (getD s start 0) n b) (sym (ap length e) ∙ part-length s start i (r .inside)))
+
+  closed : Over (part start i s) (drop i s) → Ended s start i
+  unfolding tokensAt
+  closed o =
+      let n : 0 < length (part start i s) = rw (part-length s start i (r .inside)) (omega arith) in
+      record {
+        split = r .so-far ∙ over (part start i s) (firstLine (drop i s)) n (line-over (part start i s) (drop i s) o);
+        order = r .order;
+        inside = r .inside;
+      }
+
+  pub past : length s ≤ i → Ended s start i
+  past k = closed (subst (Over (part start i s)) (sym (drop-of-length-le s k)) tt)
+
+  module _ (k : i < length s) where
+    pub off : goesOn (getD s start 0) (i - start) (getD s i 0) ≡ false → Ended s start i
+    off e = closed (subst (Over (part start i s)) (sym (byte-at s i k)) (joins-part (getD s i 0) ∙ e))
+
+    pub on : goesOn (getD s start 0) (i - start) (getD s i 0) ≡ true → Reading s start (i + 1)
+    on e =
+        record {
+          so-far =
+              r .so-far
+              ∙ ap (λ x. scan (part start i s) (firstLine x)) (byte-at s i k)
+              ∙ goes-on (part start i s) (getD s i 0) (drop (i + 1) s) (joins-part (getD s i 0) ∙ e) (no-newline _ _ _ e)
+              ∙ ap (λ t. scan t (firstLine (drop (i + 1) s))) (part-snoc s start i (r .order) k);
+          order = omega arith;
+          inside = omega arith;
+        }

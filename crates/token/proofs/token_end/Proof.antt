@@ -1,0 +1,46 @@
+-- The loop reads the token byte after byte; the measure is what is left of the text.
+-- Assumes nothing.
+use Prim.Native.Nat.{_-_}
+use mathlib.Core.Path.{sym, _∙_}
+use borrow.Author.Needs.{needs}
+use lib.ListN.{length}
+use Rattle.token.proofs.Scanning.{Reading, begin, on, off, past}
+use Rattle.token.proofs.token_end.Statement.{statement}
+use Rattle.token.proofs.token_end.Tie as tie
+
+abbrev Inv-loop : tie.InvT-loop
+Inv-loop text start first i₀ i = Reading text start i
+
+abbrev μ-loop : tie.MeasureT-loop
+μ-loop text start first i₀ i = length text - i
+
+loop-holds : tie.Need-loop-holds Inv-loop μ-loop
+loop-holds c = let p = c .before .before .pre in begin (p .0) (p .1) (p .2)
+
+loop-again : tie.Need-loop-again Inv-loop μ-loop
+loop-again c =
+    on (c .before .before .before .before .loop .inv) (c .before .before .before .loop-test .taken)
+    (sym (c .before .goes-on .ensures) ∙ c .if1 .taken)
+
+returns : tie.Need-returns Inv-loop μ-loop
+returns c =
+    off (c .before .before .before .before .loop .inv) (c .before .before .before .loop-test .taken)
+    (sym (c .before .goes-on .ensures) ∙ c .if1 .left)
+
+pub token-end-spec : {M : Type 1} → statement M
+token-end-spec =
+    tie.close
+    (tie.spec
+    Inv-loop
+    μ-loop
+    (λ c. search needs)
+    (λ c. search needs)
+    loop-holds
+    (λ c. search needs)
+    (λ c. search needs)
+    (λ c κs. search needs)
+    (λ c. search needs)
+    (λ c. search needs)
+    loop-again
+    returns
+    (λ c. past (c .before .loop .inv) (c .loop-test .left)))

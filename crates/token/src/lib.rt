@@ -1,0 +1,159 @@
+// The tokens of a line of text, found one by one from a position on.
+ghost use mathlib.Core.Path.{_≡_};
+ghost use Prim.Native.Nat.{_<_, _≤_, min};
+ghost use lib.ListN.{length, getD};
+ghost use Rattle.token.specs.Tokens.{between, digit, letter, letterOrDigit};
+ghost use Rattle.token.specs.Scan.{goesOn, symbolOf, part, alike, Skipped, Ended, TokenAt};
+
+// The token at or after a position, if its line has one: its symbol is its byte, if it has one byte only, 256 if it is `<<`, and
+// else 257; its bytes stand from start to end.
+pub enum Token {
+    End,
+    Here {
+        symbol: u16,
+        start: usize,
+        end: usize,
+    },
+}
+
+fn between(low: u8, high: u8, b: u8) -> bool
+    ensures { λ r. ⌜ r ≡ between low high b ⌝ }
+{
+    if low <= b {
+        return b <= high;
+    }
+    false
+}
+
+pub fn is_digit(b: u8) -> bool
+    ensures { λ r. ⌜ r ≡ digit b ⌝ }
+{
+    between(b'0', b'9', b)
+}
+
+pub fn is_letter(b: u8) -> bool
+    ensures { λ r. ⌜ r ≡ letter b ⌝ }
+{
+    if between(b'A', b'Z', b) {
+        return true;
+    }
+    between(b'a', b'z', b)
+}
+
+fn letter_or_digit(b: u8) -> bool
+    ensures { λ r. ⌜ r ≡ letterOrDigit b ⌝ }
+{
+    if is_digit(b) {
+        return true;
+    }
+    is_letter(b)
+}
+
+// Whether b goes on the token that begins with `first` and has so many bytes so far.
+fn goes_on(first: u8, count: usize, b: u8) -> bool
+    ensures { λ r. ⌜ r ≡ goesOn first count b ⌝ }
+{
+    if letter_or_digit(b) {
+        if letter_or_digit(first) {
+            return true;
+        }
+        return first == b'.';
+    }
+    if b == b'<' {
+        if first == b'<' {
+            return count == 1;
+        }
+        return false;
+    }
+    false
+}
+
+fn after_spaces(text: &[u8], at: usize) -> usize
+    ensures { λ r. ⌜ Skipped (now (text .entry)) at r ⌝ }
+{
+    let mut i = at;
+    while i < text.len() {
+        if text[i] != b' ' {
+            return i;
+        }
+        i += 1;
+    }
+    i
+}
+
+fn token_end(text: &[u8], start: usize) -> usize
+    requires { ⌜ (start < length (now text)) × (getD (now text) start 0 ≡ 32 → ⊥) × (getD (now text) start 0 ≡ 10 → ⊥) ⌝ }
+    ensures { λ r. ⌜ Ended (now (text .entry)) start r ⌝ }
+{
+    let first = text[start];
+    let mut i = start + 1;
+    while i < text.len() {
+        if goes_on(first, i - start, text[i]) {
+            i += 1;
+        } else {
+            return i;
+        }
+    }
+    i
+}
+
+fn symbol_of(text: &[u8], start: usize, end: usize) -> u16
+    requires { ⌜ (start < end) × (end ≤ length (now text)) ⌝ }
+    ensures { λ r. ⌜ r ≡ symbolOf (part start end (now (text .entry))) ⌝ }
+{
+    let b = text[start];
+    if end - start == 1 {
+        return b as u16;
+    }
+    if b == b'<' {
+        return 256;
+    }
+    257
+}
+
+pub fn token_at(text: &[u8], at: usize) -> Token
+    ensures { λ r. ⌜ TokenAt (now (text .entry)) at r ⌝ }
+{
+    let start = after_spaces(text, at);
+    if text.len() <= start {
+        return Token::End;
+    }
+    if text[start] == b'\n' {
+        return Token::End;
+    }
+    let end = token_end(text, start);
+    Token::Here {
+        symbol: symbol_of(text, start, end),
+        start,
+        end,
+    }
+}
+
+fn lesser(x: usize, y: usize) -> usize
+    ensures { λ r. ⌜ r ≡ min x y ⌝ }
+{
+    if x < y { x } else { y }
+}
+
+// Whether a part of one text and a part of another, which may reach past its end, have the same bytes.
+pub fn same_bytes(a: &[u8], start: usize, end: usize, b: &[u8], from: usize, to: usize) -> bool
+    requires { ⌜ (start < end) × (end ≤ length (now a)) ⌝ }
+    ensures { λ r. ⌜ r ≡ alike (part start end (now (a .entry))) (part from to (now (b .entry))) ⌝ }
+{
+    let last = lesser(to, b.len());
+    if last <= from {
+        return false;
+    }
+    if last - from != end - start {
+        return false;
+    }
+    let count = end - start;
+    let mut i = 0;
+    while i < count {
+        if a[start + i] != b[from + i] {
+            return false;
+        }
+        i += 1;
+    }
+    true
+}
