@@ -1,4 +1,5 @@
--- What the passes over a text's lines say. Nothing here is promised to a caller.
+-- What the passes over a text's lines say. Of this only `shownAssembly`, the reply in numbers, is in the promise of `assemble`; the
+-- rest serves inner contracts.
 use Prim.Native.Nat.{ℕ, _+_, _*_, _/_, _%_, _<_, _≤_}
 use mathlib.Core.Bool.{Bool, false, _&&_}
 use mathlib.Core.Path.{_≡_}

@@ -1,5 +1,5 @@
--- The reading of a line as a function on its tokens. Nothing here is promised to a caller: proofs/Grammar.antt shows that `lineOf`
--- finds the reading of the grammar, where there is one.
+-- The reading of a line as a function on its tokens: proofs/Grammar.antt shows that `lineOf` finds the reading of the grammar,
+-- where there is one. What a text gives is defined with `lineOf` and `valued`; the rest serves inner contracts.
 use Prim.Native.Nat.{ℕ, suc}
 use mathlib.Core.List.{List, [], _∷_}
 use lib.Dec.{eqb, ltb}

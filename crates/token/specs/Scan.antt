@@ -1,5 +1,6 @@
--- The division into tokens as a function, and what the code's parts say of it. Nothing here is promised to a caller:
--- proofs/Division.antt shows that `tokens` is the one division by the rule of Tokens.
+-- The division into tokens as a function, and what the code's parts say of it: proofs/Division.antt shows that `tokens` is the
+-- one division by the rule of Tokens. Definitions of the crates above use `tokens`, `symbolOf` and `alike`; the rest serves inner
+-- contracts.
 use Prim.Native.Nat.{ℕ, _-_, _<_, _≤_}
 use mathlib.Core.Bool.{Bool, true, false}
 use mathlib.Core.Path.{_≡_}
