@@ -143,10 +143,12 @@ module _ (long : Bool) (text : List ℕ) where
     pub numbered : (r .first ≡ 0 → ⊥) → Numbered (r .number)
     numbered n = turned-away-numbered names all start 1 0 (r .first) (r .number) (refused-reply n)
 
-    pub left-refused : (program : List ℕ) (f : Refusal) → (r .first ≡ 0 → ⊥) → refusalNumber f ≡ r .number → AssembledBy long text program program (Refused (r .first) f)
+    pub left-refused : (program program′ : List ℕ) (f : Refusal) → (r .first ≡ 0 → ⊥) → refusalNumber f ≡ r .number → program′ ≡ program
+        → AssembledBy long text program program′ (Refused (r .first) f)
     unfolding leftBy
-    left-refused program f n e =
-        ap (λ (k : ℕ). record { reply = turned-away (r .first) k; program = program }) e
+    left-refused program program′ f n e q =
+        ap (λ (k : ℕ). record { reply = turned-away (r .first) k; program = program′ }) e
+        ∙ ap (λ (x : List ℕ). record { reply = turned-away (r .first) (r .number); program = x }) q
         ∙ sym (ap (λ (x : Reply). leftBy x come-to program) (refused-reply n))
 
     short : r .first ≡ 0 → long ≡ false
@@ -162,7 +164,7 @@ module _ (long : Bool) (text : List ℕ) where
     by-table : verdicts (labels text (part 0 (3 * p .labels) table)) start all ≡ come-to
     by-table = ap (λ (ns : List Label). verdicts ns start all) given
 
-    pub can-write : (program : List ℕ) → r .first ≡ 0 → length text ≤ 65536 → length program ≡ 65536 → Fine text (part 0 (3 * p .labels) table) program
+    can-write : (program : List ℕ) → r .first ≡ 0 → length text ≤ 65536 → length program ≡ 65536 → Fine text (part 0 (3 * p .labels) table) program
     can-write program e h k =
         record {
           short = h;
@@ -174,11 +176,13 @@ module _ (long : Bool) (text : List ℕ) where
               ∙ words-reply e;
         }
 
-    pub left-words : (program program′ : List ℕ) → r .first ≡ 0 → WrittenBy text (part 0 (3 * p .labels) table) program program′ → AssembledBy long text program program′ (Words (r .words))
+    pub left-words : (program program′ : List ℕ) → r .first ≡ 0 → length text ≤ 65536 → length program ≡ 65536
+        → (long ≡ false → Fine text (part 0 (3 * p .labels) table) program → WrittenBy text (part 0 (3 * p .labels) table) program program′)
+        → AssembledBy long text program program′ (Words (r .words))
     unfolding leftBy
-    left-words program program′ e w =
+    left-words program program′ e h k w =
         ap (λ (x : List ℕ). record { reply = words (r .words); program = x })
-        (w
+        (w (short e) (can-write program e h k)
         ∙ ap (λ (b : Bool). stored (wordsOf (verdicts (labels text (part 0 (3 * p .labels) table)) start (linesFrom b text 0))) program) (sym (short e))
         ∙ ap (λ (x : List Judged). stored (wordsOf x) program) by-table)
         ∙ sym (ap (λ (x : Reply). leftBy x come-to program) (words-reply e))

@@ -20,13 +20,13 @@ use Rattle.statement.specs.declared.line.Line.{Line as Found}
 use Rattle.statement.specs.declared.line.Line.the-variants.{Outside, Reads}
 use Rattle.encoding.specs.declared.Judged.{Judged as Outcome}
 use Rattle.statement.specs.Syntax.{Line, line}
-use Rattle.statement.specs.Reading.{ReadLine, outside, reads, lineBy, lineOf, valued}
+use Rattle.statement.specs.Reading.{ReadLine, outside, reads, lineOf, valued}
 use Rattle.assembler.specs.Text.{Place, start, crowded, repeated, admitted, after, judged, verdicts, words, replyFrom, wordsOf, bytesOf, stored}
 use Rattle.encoding.specs.Words.{wordsIn, stated, Judged, bad, nothing, gives}
-use Rattle.statement.specs.Parts.{shownParts, shownStatement, shownContent, shownLine, labelOf, LineMeets, expressionOf, blankValue}
+use Rattle.statement.specs.Parts.{shownParts, shownStatement, shownContent, shownLine, labelOf, expressionOf, blankValue}
 use Rattle.encoding.specs.Numbers.{shownJudged}
 use Rattle.encoding.specs.Numbers.{OneWord}
-use Rattle.assembler.specs.Passes.{LineEnd, lineBytes, linesFrom, Wrote, no-line, no-word, one-word, WordRoom, WroteLine, WrittenBy}
+use Rattle.assembler.specs.Passes.{LineEnd, LineRead, lineBytes, linesFrom, Wrote, no-line, no-word, one-word, WordRoom, WroteLine, WrittenBy}
 use Rattle.assembler.proofs.LineEnds.{line-bytes, next-line, last-line}
 use Rattle.assembler.proofs.Lines.{words-few}
 use Rattle.statement.proofs.Valued.{read-valued}
@@ -121,9 +121,9 @@ module _ (program done : List ℕ) (address w : ℕ) (e : length (bytesOf done) 
 
 -- ---- One line, as the code hands it on
 
-module _ (text names : List ℕ) (at address : ℕ) (program : List ℕ) (f : Found) (m : LineMeets text (lineBy (expressionOf text names) blankValue (tokensAt text at)) f) where
+module _ (text names : List ℕ) (at address : ℕ) (program : List ℕ) (f : Found) (end : ℕ) (q : LineRead false text names at end f) where
   told-line : valued (valueOf (operandValue (labels text names))) (lineOf (tokensAt text at)) ≡ shownLine text f
-  told-line = sym (read-valued text names (tokensAt text at)) ∙ sym (m .same)
+  told-line = sym (q .same)
 
   pub wrote-nothing : f ≡ Outside → WroteLine text names at address program program address
   unfolding shownLine

@@ -108,11 +108,11 @@ pub record Scanned (long : Bool) (text names table′ : List ℕ) (r : Progress)
 abbrev pub lineBytes : List ℕ → ℕ → ℕ
 lineBytes text at = length (firstLine (drop at text))
 
--- what `write_line` asks: room for a word, where the line is long enough to give one
+-- room for a word, where the line is long enough to give one
 abbrev pub WordRoom : List ℕ → ℕ → ℕ → List ℕ → Type 0
 WordRoom text at address program = (2 ≤ lineBytes text at → address + 2 ≤ length program) × (address ≤ 65536)
 
--- what `write_line` says of the line L of so many bytes: it leaves the program and the next word's address
+-- what `write_line` says of the line L of so many bytes, where it has that room: it leaves the program and the next word's address
 pub data Wrote (L : ReadLine Value) (bytes address : ℕ) (program : List ℕ) : List ℕ → ℕ → Type 0 where
   no-line : L ≡ outside → Wrote L bytes address program program address
   no-word : (l : Line Value) (j : Outcome) → L ≡ reads l → shownJudged j ≡ stated address (l .statement) → j .words ≡ wordsIn (l .statement)
@@ -125,14 +125,14 @@ abbrev pub WroteLine : List ℕ → List ℕ → ℕ → ℕ → List ℕ → Li
 WroteLine text names at address program program′ r =
     Wrote (valued (valueOf (operandValue (labels text names))) (lineOf (tokensAt text at))) (lineBytes text at) address program program′ r
 
--- what `write` asks: no line is turned away
+-- no line is turned away
 pub record Fine (text names program : List ℕ) : Type 0 where
   pub short : length text ≤ 65536
   pub room : length program ≡ 65536
   pub count : ℕ
   pub fine : replyFrom 1 0 (verdicts (labels text names) start (linesFrom false text 0)) ≡ words count
 
--- what `write` says: where no line is turned away, the words stand in the program
+-- what `write` says where no line is turned away: the words stand in the program
 abbrev pub WrittenBy : List ℕ → List ℕ → List ℕ → List ℕ → Type 0
 WrittenBy text names program program′ = program′ ≡ stored (wordsOf (verdicts (labels text names) start (linesFrom false text 0))) program
 

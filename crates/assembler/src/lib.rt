@@ -41,14 +41,16 @@ fn assembled(text: &[u8], long: bool, program: &mut [u8]) -> Assembly
     let mut again = [0; passes::TABLE];
     let first = passes::scan(text, &again[0..0], &mut table, long);
     let end = 3 * first.labels;
-    let second = passes::scan(text, &table[0..end], &mut again, long);
+    let mut kept = [0; PROGRAM_BYTES];
+    block::copy(program, &mut kept);
+    let second = passes::write(text, &table[0..end], &mut again, program, long);
     if second.first != 0 {
+        block::copy(&kept, program);
         return Assembly::Refused {
             line: second.first,
             refusal: refusal_of(second.number),
         };
     }
-    passes::write(text, &table[0..end], program);
     Assembly::Words(second.words)
 }
 

@@ -1,7 +1,8 @@
 // The passes over a text's lines.
 ghost use mathlib.Core.Path.{_≡_};
-ghost use mathlib.Core.List.{_∷_, _++_};
-ghost use Prim.Native.Nat.{_+_, _*_, _/_, _%_, _<_, _≤_};
+ghost use mathlib.Core.Bool.{false};
+ghost use mathlib.Core.List.{List, _∷_, _++_};
+ghost use Prim.Native.Nat.{ℕ, _+_, _*_, _/_, _%_, _<_, _≤_};
 ghost use lib.ListN.{length, take, drop};
 ghost use Rattle.statement.specs.Parts.{shownLine};
 ghost use Rattle.assembler.specs.Passes.{LineEnd, Labelled, Ready, Taken, moved, LineRead, Scanned, WordRoom, WroteLine, Fine, WrittenBy};
@@ -194,12 +195,11 @@ pub fn scan(text: &[u8], names: &[usize], table: &mut [usize], long: bool) -> Pr
     }
 }
 
-// Writes the word of the line at a position, if it gives one, and hands back the next word's address.
-fn write_line(text: &[u8], names: &[usize], program: &mut [u8], at: usize, address: usize) -> usize
-    requires { ⌜ WordRoom (now text) at address (now program) ⌝ }
-    ensures { λ r. ⌜ WroteLine (now (text .entry)) (now (names .entry)) at address (now (program .entry)) (now (program .exit)) r ⌝ }
+// Writes the word of a line, if it gives one that has room, and hands back the next word's address.
+fn write_line(program: &mut [u8], l: Line, address: usize) -> usize
+    requires { ⌜ (address ≤ 65536) × (length (now program) ≡ 65536) ⌝ }
+    ensures { λ r. ⌜ ((text names : List ℕ) (at end : ℕ) → LineRead false text names at end l → WordRoom text at address (now (program .entry)) → WroteLine text names at address (now (program .entry)) (now (program .exit)) r) × (r ≤ 65536) ⌝ }
 {
-    let l = statement::line::line_at(text, names, at);
     let Line::Reads(c) = l else {
         return address;
     };
@@ -208,22 +208,35 @@ fn write_line(text: &[u8], names: &[usize], program: &mut [u8], at: usize, addre
     if j.words == 0 {
         return address;
     }
+    let next = address + 2;
+    if program.len() < next {
+        return address;
+    }
     put_word(program, address, j.word);
-    address + 2
+    next
 }
 
-// Writes the words of a text of which no line is turned away.
-pub fn write(text: &[u8], names: &[usize], program: &mut [u8])
-    requires { ⌜ Fine (now text) (now names) (now program) ⌝ }
-    ensures { λ _. ⌜ WrittenBy (now (text .entry)) (now (names .entry)) (now (program .entry)) (now (program .exit)) ⌝ }
+// Goes over the lines as `scan` does, and writes their words: all of them, where no line is turned away.
+pub fn write(
+    text: &[u8],
+    names: &[usize],
+    table: &mut [usize],
+    program: &mut [u8],
+    long: bool,
+) -> Progress
+    requires { ⌜ (length (now table) ≡ 192) × (length (now text) ≤ 65536) × (length (now program) ≡ 65536) ⌝ }
+    ensures { λ r. ⌜ Scanned long (now (text .entry)) (now (names .entry)) (now (table .exit)) r × (long ≡ false → Fine (now (text .entry)) (now (names .entry)) (now (program .entry)) → WrittenBy (now (text .entry)) (now (names .entry)) (now (program .entry)) (now (program .exit))) ⌝ }
 {
+    let mut p = Progress::start();
     let mut address = 0;
     let mut at = 0;
     loop {
         let end = line_end(text, at);
-        address = write_line(text, names, program, at, address);
+        let l = read_line(text, names, long, at, end);
+        p = take_line(text, table, l, p);
+        address = write_line(program, l, address);
         if end == text.len() {
-            return;
+            return p;
         }
         at = end + 1;
     }

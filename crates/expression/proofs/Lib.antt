@@ -6,5 +6,6 @@ pub mod Leads
 pub mod After
 pub mod Laws
 pub mod Steps
+pub mod Climb
 pub mod Unique
 pub mod Sound

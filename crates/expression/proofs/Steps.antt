@@ -48,7 +48,7 @@ pub record Running (mean : Token → Value) (s : List ℕ) (d k : ℕ) (ts : Lis
   pub same : parse d k ts ≡ bind tree (follow (parse d (k - 1)) k)
   pub value : told s a ≡ mapped (valueOf mean) tree
 
-chain-at : (d k : ℕ) → 1 ≤ k → (ts : List Token) → parse d k ts ≡ bind (parse d (k - 1) ts) (follow (parse d (k - 1)) k)
+pub chain-at : (d k : ℕ) → 1 ≤ k → (ts : List Token) → parse d k ts ≡ bind (parse d (k - 1) ts) (follow (parse d (k - 1)) k)
 unfolding parse ranked chain
 chain-at d zero n ts = absurd (omega arith)
 chain-at d (suc k) n ts = let e : suc k - 1 ≡ k = omega arith in rw e
@@ -63,7 +63,7 @@ unfolding bind mapped
 bind-mapped f refused g = refl
 bind-mapped f (read t r) g = refl
 
-more :
+pub more :
     {s : List ℕ} {here k symbol end : ℕ} → JoinedBy s here k symbol end → (d : ℕ) (t : Tree)
     → bind (read t (tokensAt s here)) (follow (parse d (k - 1)) k)
     ≡ bind (mapped (operation symbol t) (parse d (k - 1) (tokensAt s end))) (follow (parse d (k - 1)) k)
@@ -72,7 +72,7 @@ more {k = k} {end = end} j d t =
     rw (j .number, j .split, bind-mapped)
     (follow-more (parse d (k - 1)) k (within-parse d (k - 1)) t (j .mark) (tokensAt _ end) (j .ranks))
 
-map-operation :
+pub map-operation :
     (mean : Token → Value) (symbol : ℕ) (t : Tree) {v : Value} → valueOf mean t ≡ v → (o : Out Tree)
     → mapped (operated symbol v) (mapped (valueOf mean) o) ≡ mapped (valueOf mean) (mapped (operation symbol t) o)
 unfolding mapped valueOf
@@ -123,11 +123,15 @@ module _ {mean : Token → Value} {s : List ℕ} {d k : ℕ} {ts : List Token} {
             value = m s ∙ rw g (map-operation mean symbol t q (parse d (k - 1) (tokensAt s end)));
           }
 
-      pub less : left (told s r) < left (told s a)
-      unfolding told
-      less =
-          let w = left-within (length (tokensAt s end)) (parse d (k - 1) (tokensAt s end)) (within-parse d (k - 1) (tokensAt s end)) in
-          rw (m s, g, left-mapped, left-mapped, f, by .split) (omega arith)
+-- an operator and its right operand take tokens
+pub less :
+    (mean : Token → Value) (d : ℕ) {s : List ℕ} {k : ℕ} {a : Answer} {v : Value} {here symbol end : ℕ} → a ≡ Read v here → JoinedBy s here k symbol end
+    → (b : Answer) → told s b ≡ mapped (valueOf mean) (parse d (k - 1) (tokensAt s end))
+    → (r : Answer) → ((text : List ℕ) → told text r ≡ mapped (operated symbol v) (told text b)) → left (told s r) < left (told s a)
+unfolding told
+less mean d {s = s} {k = k} {end = end} f j b g r m =
+    let w = left-within (length (tokensAt s end)) (parse d (k - 1) (tokensAt s end)) (within-parse d (k - 1) (tokensAt s end)) in
+    rw (m s, g, left-mapped, left-mapped, f, j .split) (omega arith)
 
 -- ---- `operand`
 

@@ -6,7 +6,8 @@ ghost use mathlib.Core.List.{List};
 ghost use lib.ListN.{length};
 ghost use Rattle.token.specs.Scan.{part, tokensAt};
 ghost use Rattle.expression.specs.Grammar.{valueOf};
-ghost use Rattle.expression.specs.Operands.{operandValue, operated};
+ghost use Rattle.expression.specs.declared.Join.the-variants.{NoJoin, By};
+ghost use Rattle.expression.specs.Operands.{operandValue, operated, rankOf};
 ghost use Rattle.expression.specs.Reading.{labels, leaf, mapped, bind, closed, told, Answers, Joined};
 use token::Token;
 
@@ -66,9 +67,10 @@ fn leaf_answer(text: &[u8], names: &[usize], start: usize, end: usize) -> Answer
     }
 }
 
-fn operator_at(text: &[u8], at: usize, rank: usize) -> Join
-    requires { ⌜ 1 ≤ rank ⌝ }
-    ensures { λ r. ⌜ Joined (now (text .entry)) at rank r ⌝ }
+// The operator at a position, if its rank is one from low to high.
+fn operator_at(text: &[u8], at: usize, low: usize, high: usize) -> Join
+    requires { ⌜ 1 ≤ low ⌝ }
+    ensures { λ r. ⌜ ((k : ℕ) → low ≤ k → k ≤ high → r ≡ NoJoin → Joined (now (text .entry)) at k NoJoin) × ((symbol end : ℕ) → r ≡ By symbol end → Joined (now (text .entry)) at (rankOf symbol) (By symbol end) × (low ≤ rankOf symbol) × (rankOf symbol ≤ high)) ⌝ }
 {
     let t = token::token_at(text, at);
     let Token::Here {
@@ -79,10 +81,14 @@ fn operator_at(text: &[u8], at: usize, rank: usize) -> Join
     else {
         return Join::NoJoin;
     };
-    if arithmetic::rank_of(symbol) == rank {
-        return Join::By { symbol, end };
+    let rank = arithmetic::rank_of(symbol);
+    if rank < low {
+        return Join::NoJoin;
     }
-    Join::NoJoin
+    if high < rank {
+        return Join::NoJoin;
+    }
+    Join::By { symbol, end }
 }
 
 // A value, an operator and its right operand.
@@ -130,7 +136,7 @@ fn product(text: &[u8], names: &[usize], at: usize, depth: usize) -> Answer
         let Answer::Read { value, next } = total else {
             return Answer::Refused;
         };
-        let j = operator_at(text, next, 1);
+        let j = operator_at(text, next, 1, 1);
         let Join::By { symbol, end } = j else {
             return Answer::Read { value, next };
         };
@@ -138,24 +144,26 @@ fn product(text: &[u8], names: &[usize], at: usize, depth: usize) -> Answer
     }
 }
 
-// The operators of a rank, 2 to 5, over those of the next tighter one. Rank 1 is a product.
+// Products and the operators of the ranks 2 to `rank`, at most 5. After one of rank `low` no tighter one comes.
 fn sum(text: &[u8], names: &[usize], at: usize, rank: usize, depth: usize) -> Answer
     requires { ⌜ (1 ≤ rank) × (rank ≤ 5) ⌝ }
     ensures { λ r. ⌜ Answers (now (text .entry)) (now (names .entry)) at depth rank r ⌝ }
 {
+    let mut total = product(text, names, at, depth);
     if rank == 1 {
-        return product(text, names, at, depth);
+        return total;
     }
-    let mut total = sum(text, names, at, rank - 1, depth);
+    let mut low = 2;
     loop {
         let Answer::Read { value, next } = total else {
             return Answer::Refused;
         };
-        let j = operator_at(text, next, rank);
+        let j = operator_at(text, next, low, rank);
         let Join::By { symbol, end } = j else {
             return Answer::Read { value, next };
         };
-        total = joined(symbol, value, sum(text, names, end, rank - 1, depth));
+        low = arithmetic::rank_of(symbol);
+        total = joined(symbol, value, sum(text, names, end, low - 1, depth));
     }
 }
 

@@ -1,20 +1,22 @@
 -- The search for a mnemonic.
 -- Assumes nothing.
-use Prim.Native.Nat.{ℕ, suc, _+_, _<_, _≤_}
+use Prim.Native.Nat.{ℕ, suc, _+_, _*_, _<_, _≤_}
 use mathlib.Core.Bool.{Bool, true, false}
 use mathlib.Core.Path.{_≡_, sym, ap, _∙_}
 use mathlib.Core.List.{List}
 use native.Mathlib.Numerals.{add-one}
 use native.Mathlib.Omega.{arith}
-use lib.ListN.{drop}
+use lib.ListN.{length, drop, getD}
 use lib.Seq.{drop-cons}
+use borrow.Author.Tests.{ne-eqb}
 use Rattle.word.specs.Word.{pick}
 use Rattle.token.specs.Tokens.{Token}
-use Rattle.token.specs.Scan.{alike}
+use Rattle.token.specs.Scan.{part, alike}
+use Rattle.token.proofs.Scanning.{part-cons, part-next}
 use Rattle.statement.specs.Syntax.{table, rowAt}
 use Rattle.statement.specs.Reading.{rowFrom, rowOf}
-use Rattle.statement.specs.Table.{rowText}
-use Rattle.statement.proofs.Tables.{mnemonicIn, mnemonic-row}
+use Rattle.statement.specs.Table.{rowText, mnemonicLengths}
+use Rattle.statement.proofs.Tables.{mnemonicIn, mnemonic-row, some-row}
 
 -- m is none of the first k mnemonics
 pub record Searching (m : Token) (k : ℕ) : Type 0 where
@@ -43,3 +45,13 @@ module _ {m : Token} {k : ℕ} (s : Searching m k) (l : k < 26) {rows : List ℕ
 
   pub passed-by : t ≡ false → Searching m (k + 1)
   passed-by h = record { left = turn ∙ rw (h, add-one k) (omega arith); within = omega arith }
+
+-- a part of a text whose first byte is not that of row k
+pub other-first :
+    (text rows : List ℕ) (start end k : ℕ) → start < end → end ≤ length text → k < 26 → rows ≡ rowText
+    → (getD rows (12 * k) 0 ≡ getD text start 0 → ⊥) → false ≡ alike (part start end text) (mnemonicIn rows k)
+unfolding alike
+other-first text rows start end k h i l e n =
+    let q : length rows ≡ 312 = ap length e in
+    let m : 12 * k < 12 * k + getD mnemonicLengths k 0 = omega (arith, some-row k l) in
+    sym (rw (part-cons text start end h i, part-next rows (12 * k) (12 * k + getD mnemonicLengths k 0) m (omega arith), ne-eqb (getD text start 0) (getD rows (12 * k) 0) (λ z. n (sym z))))

@@ -38,7 +38,11 @@ mnemonicIn rows k = part (12 * k) (12 * k + getD mnemonicLengths k 0) rows
 pub mnemonic-row : (k : ℕ) → k < 26 → mnemonicIn rowText k ≡ rowAt k .mnemonic
 mnemonic-row = column (mnemonicIn rowText) (λ r. r .mnemonic) refl
 
--- a mnemonic has at most six bytes
+-- a mnemonic has at least one byte, and at most six
+pub some-row : (k : ℕ) → k < 26 → 1 ≤ getD mnemonicLengths k 0
+unfolding all
+some-row k h = leb-true _ _ (is-true _ (all-at 26 (λ n. leb 1 (getD mnemonicLengths n 0)) tt k h))
+
 pub short-row : (k : ℕ) → k < 26 → getD mnemonicLengths k 0 ≤ 6
 unfolding all
 short-row k h = leb-true _ _ (is-true _ (all-at 26 (λ n. leb (getD mnemonicLengths n 0) 6) tt k h))

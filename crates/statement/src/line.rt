@@ -87,7 +87,12 @@ pub fn line_at(text: &[u8], names: &[usize], at: usize) -> Line
         end,
     } = first
     else {
-        return statement_at(text, names, at, 0, 0);
+        return Line::Reads(Content {
+            label: 0,
+            until: 0,
+            row: rows::ROWS,
+            parts: Parts::blank(),
+        });
     };
     let second = token::token_at(text, end);
     let Token::Here {

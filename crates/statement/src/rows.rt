@@ -14,7 +14,7 @@ pub const ROW_BYTES: usize = 12;
 pub const OPERANDS_AT: usize = 6;
 
 // The bytes of each mnemonic.
-const LENGTHS: [usize; ROWS] = [
+const LENGTHS: [u8; ROWS] = [
     3,
     2,
     3,
@@ -49,12 +49,15 @@ pub fn row_of(text: &[u8], rows: &[u8], start: usize, end: usize) -> usize
     ensures { λ r. ⌜ r ≡ rowOf (part start end (now (text .entry))) ⌝ }
 {
     let lengths = LENGTHS;
+    let first = text[start];
     let mut k = 0;
     while k < ROWS {
         let from = ROW_BYTES * k;
-        let to = from + lengths[k];
-        if token::same_bytes(text, start, end, rows, from, to) {
-            return k;
+        if rows[from] == first {
+            let to = from + (lengths[k] as usize);
+            if token::same_bytes(text, start, end, rows, from, to) {
+                return k;
+            }
         }
         k += 1;
     }

@@ -8,6 +8,7 @@ use native.Mathlib.Omega.{arith}
 use native.Mathlib.Numerals.{unary-clauses}
 use lib.Dec.{eqb}
 use lib.ListN.{length, getD}
+use lib.Seq.{getD-drop, getD-take}
 use borrow.Author.Tests.{eq-eqb, ne-eqb, eqb-true}
 use Rattle.word.proofs.Tests.{never, passed}
 use Rattle.token.specs.Scan.{part, alike}
@@ -42,11 +43,33 @@ alike-none (b ∷ t) u e f = absurd (omega arith)
 
 -- ---- Parts of two texts, byte after byte; the second may reach past its text
 
+part-at : (s : List ℕ) (start end i : ℕ) → start + i < end → getD (part start end s) i 0 ≡ getD s (start + i) 0
+part-at s start end i h = let k : i < end - start = omega arith in rw (getD-take, getD-drop)
+
 pub unlike :
     (a b : List ℕ) (start end from to : ℕ) → end ≤ length a → (min to (length b) - from ≡ end - start → ⊥)
     → alike (part start end a) (part from to b) ≡ false
 unlike a b start end from to l n =
     alike-length _ _ (λ e. n (sym (part-reach b from to) ∙ sym e ∙ part-length a start end l))
+
+-- they are not alike where one byte differs
+other-byte :
+    (a b : List ℕ) (start end from to i : ℕ) → start + i < end → from + i < to
+    → (getD a (start + i) 0 ≡ getD b (from + i) 0 → ⊥) → alike (part start end a) (part from to b) ≡ false
+other-byte a b start end from to i h k n = go (alike (part start end a) (part from to b)) refl
+  where
+    go : (t : Bool) → alike (part start end a) (part from to b) ≡ t → t ≡ false
+    go true e = absurd (n (sym (part-at a start end i h) ∙ ap (λ (l : List ℕ). getD l i 0) (alike-same _ _ e) ∙ part-at b from to i k))
+    go false e = refl
+
+pub other-last :
+    (a b : List ℕ) (start end from to last : ℕ) → start < end → last ≤ to → from < last → last - from ≡ end - start
+    → (getD a (end - 1) 0 ≡ getD b (last - 1) 0 → ⊥) → alike (part start end a) (part from to b) ≡ false
+other-last a b start end from to last h l k e n =
+    let p : start + (end - start - 1) ≡ end - 1 = omega arith in
+    let q : from + (end - start - 1) ≡ last - 1 = omega arith in
+    other-byte a b start end from to (end - start - 1) (omega arith) (omega arith)
+    (λ z. n (sym (ap (λ (i : ℕ). getD a i 0) p) ∙ z ∙ ap (λ (i : ℕ). getD b i 0) q))
 
 -- the first i bytes have been found alike
 pub record Comparing (a b : List ℕ) (start end from to i : ℕ) : Type 0 where

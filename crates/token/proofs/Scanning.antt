@@ -3,13 +3,15 @@
 use Prim.Native.Nat.{ℕ, suc, _+_, _-_, _<_, _≤_, min}
 use mathlib.Core.Bool.{Bool, true, false}
 use mathlib.Core.Path.{_≡_, refl, sym, ap, _∙_, subst}
+use mathlib.Core.Logic.{_⊎_, inl, inr}
 use mathlib.Core.List.{List, [], _∷_, _++_}
 use native.Mathlib.Omega.{arith}
 use native.Mathlib.Numerals.{add-one}
-use lib.Dec.{eqb}
+use lib.Dec.{eqb, ltb}
 use lib.ListN.{length, drop, getD, length-take, length-drop, drop-of-length-le}
 use lib.Seq.{drop-cons, take-suc, getD-drop}
-use borrow.Author.Tests.{ne-eqb, eqb-true}
+use borrow.Author.Tests.{eq-eqb, ne-eqb, eqb-true, ltb-true, ltb-false}
+use Rattle.word.specs.Word.{pick}
 use Rattle.word.proofs.Tests.{never, either}
 use Rattle.token.specs.Tokens.{Token, between, digit, letter, letterOrDigit}
 use Rattle.token.specs.Scan.{goesOn, joins, ended, begun, scan, tokens, firstLine, tokensAt, part, Ended}
@@ -135,3 +137,84 @@ module _ {s : List ℕ} {start i : ℕ} (r : Reading s start i) where
           order = omega arith;
           inside = omega arith;
         }
+
+-- ---- The token that begins with a byte
+
+-- a letter, a digit or a point
+abbrev pub RowStart : ℕ → Type 0
+RowStart c = (letterOrDigit c ≡ true) ⊎ (c ≡ 46)
+
+row-start-not : (c k : ℕ) → RowStart c → letterOrDigit k ≡ false → eqb k 46 ≡ false → c ≡ k → ⊥
+row-start-not c k (inl e) n m q = never (sym n ∙ ap letterOrDigit (sym q) ∙ e)
+row-start-not c k (inr e) n m q = never (sym m ∙ eq-eqb k 46 (sym q ∙ e))
+
+module _ (c : ℕ) (r : RowStart c) where
+  no-less : c ≡ 60 → ⊥
+  unfolding letterOrDigit digit letter between
+  no-less = row-start-not c 60 r refl refl
+
+  no-space : c ≡ 32 → ⊥
+  unfolding letterOrDigit digit letter between
+  no-space = row-start-not c 32 r refl refl
+
+  no-line-end : c ≡ 10 → ⊥
+  unfolding letterOrDigit digit letter between
+  no-line-end = row-start-not c 10 r refl refl
+
+  -- is gone on by letters and digits alone
+  pub row-on : (n b : ℕ) → goesOn c n b ≡ letterOrDigit b
+  unfolding goesOn
+  row-on n b = go (letterOrDigit b) r
+    where
+      go : (t : Bool) → RowStart c → pick t (pick (letterOrDigit c) true (eqb c 46)) (pick (eqb b 60) (pick (eqb c 60) (eqb n 1) false) false) ≡ t
+      go true (inl e) = rw e
+      go true (inr e) = either (λ (x : Bool). x ≡ true) (letterOrDigit c) refl (eq-eqb c 46 e)
+      go false s = rw (ne-eqb c 60 no-less) (either (λ (x : Bool). x ≡ false) (eqb b 60) refl refl)
+
+pub row-begin : {s : List ℕ} {i : ℕ} → i < length s → RowStart (getD s i 0) → Reading s i (i + 1)
+row-begin h r = begin h (no-space _ r) (no-line-end _ r)
+
+-- any other byte is a token of its own, but `<` before another
+pub alone : (c n b : ℕ) → letterOrDigit c ≡ false → (c ≡ 46 → ⊥) → (c ≡ 60 → ⊥) ⊎ ((b ≡ 60 → ⊥) ⊎ (n ≡ 1 → ⊥)) → goesOn c n b ≡ false
+unfolding goesOn
+alone c n b e f g = rw (e, ne-eqb c 46 f) (either Off (letterOrDigit b) refl (go g))
+  where
+    Off : Bool → Type 0
+    Off x = x ≡ false
+
+    go : (c ≡ 60 → ⊥) ⊎ ((b ≡ 60 → ⊥) ⊎ (n ≡ 1 → ⊥)) → pick (eqb b 60) (pick (eqb c 60) (eqb n 1) false) false ≡ false
+    go (inl h) = rw (ne-eqb c 60 h) (either Off (eqb b 60) refl refl)
+    go (inr (inl h)) = rw (ne-eqb b 60 h)
+    go (inr (inr h)) = rw (ne-eqb n 1 h) (either Off (eqb b 60) (either Off (eqb c 60) refl refl) refl)
+
+pub shift-on : (c n b : ℕ) → c ≡ 60 → n ≡ 1 → b ≡ 60 → goesOn c n b ≡ true
+unfolding goesOn letterOrDigit digit letter between
+shift-on c n b e f g = rw (e, f, g)
+
+-- a token that no byte goes on ends
+pub stop : {s : List ℕ} {start i : ℕ} → Reading s start i → ((b : ℕ) → goesOn (getD s start 0) (i - start) b ≡ false) → Ended s start i
+stop {s} {start} {i} r f = go (ltb i (length s)) refl
+  where
+    go : (t : Bool) → ltb i (length s) ≡ t → Ended s start i
+    go true e = off r (ltb-true _ _ e) (f _)
+    go false e = past r (ltb-false _ _ e)
+
+module _ {s : List ℕ} {start : ℕ} (h : start < length s) (no-space : getD s start 0 ≡ 32 → ⊥) (no-newline : getD s start 0 ≡ 10 → ⊥)
+    (e : letterOrDigit (getD s start 0) ≡ false) (f : getD s start 0 ≡ 46 → ⊥) where
+  begun-there : Reading s start (start + 1)
+  begun-there = begin h no-space no-newline
+
+  pub lone : (getD s start 0 ≡ 60 → ⊥) → Ended s start (start + 1)
+  lone n = stop begun-there (λ b. alone _ _ b e f (inl n))
+
+  pub last-byte : length s ≤ start + 1 → Ended s start (start + 1)
+  last-byte l = past begun-there l
+
+  module _ (k : start + 1 < length s) where
+    pub less : (getD s (start + 1) 0 ≡ 60 → ⊥) → Ended s start (start + 1)
+    less n = off begun-there k (alone _ _ _ e f (inr (inl n)))
+
+    pub less-less : getD s start 0 ≡ 60 → getD s (start + 1) 0 ≡ 60 → Ended s start (start + 1 + 1)
+    less-less q r =
+        stop (on begun-there k (shift-on _ (start + 1 - start) _ q (omega arith) r))
+        (λ b. alone _ (start + 1 + 1 - start) b e f (inr (inr (λ z. omega arith))))

@@ -1,9 +1,11 @@
 // The tokens of a line of text, found one by one from a position on.
 ghost use mathlib.Core.Path.{_≡_};
+ghost use mathlib.Core.Bool.{true};
+ghost use mathlib.Core.Logic.{_⊎_};
 ghost use Prim.Native.Nat.{_<_, _≤_, min};
 ghost use lib.ListN.{length, getD};
 ghost use Rattle.token.specs.Tokens.{between, digit, letter, letterOrDigit};
-ghost use Rattle.token.specs.Scan.{goesOn, symbolOf, part, alike, Skipped, Ended, TokenAt};
+ghost use Rattle.token.specs.Scan.{symbolOf, part, alike, Skipped, Ended, TokenAt};
 
 // The token at or after a position, if its line has one: its symbol is its byte, if it has one byte only, 256 if it is `<<`, and
 // else 257; its bytes stand from start to end.
@@ -49,25 +51,6 @@ fn letter_or_digit(b: u8) -> bool
     is_letter(b)
 }
 
-// Whether b goes on the token that begins with `first` and has so many bytes so far.
-fn goes_on(first: u8, count: usize, b: u8) -> bool
-    ensures { λ r. ⌜ r ≡ goesOn first count b ⌝ }
-{
-    if letter_or_digit(b) {
-        if letter_or_digit(first) {
-            return true;
-        }
-        return first == b'.';
-    }
-    if b == b'<' {
-        if first == b'<' {
-            return count == 1;
-        }
-        return false;
-    }
-    false
-}
-
 fn after_spaces(text: &[u8], at: usize) -> usize
     ensures { λ r. ⌜ Skipped (now (text .entry)) at r ⌝ }
 {
@@ -81,20 +64,44 @@ fn after_spaces(text: &[u8], at: usize) -> usize
     i
 }
 
-fn token_end(text: &[u8], start: usize) -> usize
-    requires { ⌜ (start < length (now text)) × (getD (now text) start 0 ≡ 32 → ⊥) × (getD (now text) start 0 ≡ 10 → ⊥) ⌝ }
+// The end of the token that begins at start with a letter, a digit or a point: after the letters and digits that follow.
+fn row_end(text: &[u8], start: usize) -> usize
+    requires { ⌜ (start < length (now text)) × ((letterOrDigit (getD (now text) start 0) ≡ true) ⊎ (getD (now text) start 0 ≡ 46)) ⌝ }
     ensures { λ r. ⌜ Ended (now (text .entry)) start r ⌝ }
 {
-    let first = text[start];
     let mut i = start + 1;
     while i < text.len() {
-        if goes_on(first, i - start, text[i]) {
+        if letter_or_digit(text[i]) {
             i += 1;
         } else {
             return i;
         }
     }
     i
+}
+
+fn token_end(text: &[u8], start: usize) -> usize
+    requires { ⌜ (start < length (now text)) × (getD (now text) start 0 ≡ 32 → ⊥) × (getD (now text) start 0 ≡ 10 → ⊥) ⌝ }
+    ensures { λ r. ⌜ Ended (now (text .entry)) start r ⌝ }
+{
+    let first = text[start];
+    if letter_or_digit(first) {
+        return row_end(text, start);
+    }
+    if first == b'.' {
+        return row_end(text, start);
+    }
+    let next = start + 1;
+    if first != b'<' {
+        return next;
+    }
+    if text.len() <= next {
+        return next;
+    }
+    if text[next] != b'<' {
+        return next;
+    }
+    next + 1
 }
 
 fn symbol_of(text: &[u8], start: usize, end: usize) -> u16
@@ -135,7 +142,8 @@ fn lesser(x: usize, y: usize) -> usize
     if x < y { x } else { y }
 }
 
-// Whether a part of one text and a part of another, which may reach past its end, have the same bytes.
+// Whether a part of one text and a part of another, which may reach past its end, have the same bytes. The last ones are compared
+// first: many names differ only there.
 pub fn same_bytes(a: &[u8], start: usize, end: usize, b: &[u8], from: usize, to: usize) -> bool
     requires { ⌜ (start < end) × (end ≤ length (now a)) ⌝ }
     ensures { λ r. ⌜ r ≡ alike (part start end (now (a .entry))) (part from to (now (b .entry))) ⌝ }
@@ -145,6 +153,9 @@ pub fn same_bytes(a: &[u8], start: usize, end: usize, b: &[u8], from: usize, to:
         return false;
     }
     if last - from != end - start {
+        return false;
+    }
+    if a[end - 1] != b[last - 1] {
         return false;
     }
     let count = end - start;

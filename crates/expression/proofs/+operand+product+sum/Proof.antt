@@ -1,15 +1,17 @@
 -- Depth first, then rank: each call has a smaller depth, or the same depth and a tighter rank. The loops of `product` and `sum`
 -- read operator after operator; their measure is how many tokens are left.
 -- Assumes nothing.
-use Prim.Native.Nat.{ℕ, _+_, _*_, _<_}
+use Prim.Native.Nat.{ℕ, _+_, _*_, _<_, _≤_}
+use mathlib.Core.Path.{subst}
 use native.Mathlib.Omega.{arith}
 use borrow.Author.Needs.{needs}
 use borrow.Fn.Kinds.{In}
 use borrow.Fn.PlainCycle.{Measures, is, falls, and}
 use Rattle.token.specs.Scan.{tokensAt}
 use Rattle.expression.specs.Operands.{operandValue}
-use Rattle.expression.specs.Reading.{labels, told}
+use Rattle.expression.specs.Reading.{labels, told, Joined}
 use Rattle.expression.proofs.Steps.{Running, left, begins, refuses, stops, goes-on, less, lead-nothing, lead-deep, lead-bracket, lead-operand}
+use Rattle.expression.proofs.Climb.{Climbing, starts, one-rank, climb-refuses, climb-stops, climb-by, climbs}
 use Rattle.expression.proofs.operand.Reads as operand
 use Rattle.expression.proofs.operand.Kinds as operand-kinds
 use Rattle.expression.proofs.+operand+product+sum.Lts-operand as operand-lts
@@ -19,6 +21,7 @@ use Rattle.expression.proofs.+operand+product+sum.Lts-product as produc
 use Rattle.expression.proofs.sum.Reads as sum
 use Rattle.expression.proofs.sum.Kinds as sum-kinds
 use Rattle.expression.proofs.+operand+product+sum.Lts-sum as sum-lts
+use Rattle.expression.proofs.arithmetic.rank_of.Reads as rank-of-reads
 use Rattle.expression.proofs.close_bracket.Reads as close-bracket-reads
 use Rattle.expression.proofs.joined.Reads as joined-reads
 use Rattle.expression.proofs.leaf_answer.Reads as leaf-answer-reads
@@ -83,10 +86,12 @@ abbrev sum-claims : ℕ → sum-lts.Claims
 sum-claims t = (
   product-below t,
   product.Post,
-  sum-below t,
-  sum.Post,
   operator-at-reads.Asked,
   operator-at-reads.Learnt,
+  rank-of-reads.Asked,
+  rank-of-reads.Learnt,
+  sum-below t,
+  sum.Post,
   joined-reads.Asked,
   joined-reads.Learnt,
 )
@@ -126,46 +131,70 @@ product-returns-2 : (t : ℕ) → product-lts.Need-returns-2 (product-claims t) 
 unfolding told
 product-returns-2 t c =
     let e = c .before .before in
-    stops (e .before .before .before .before .loop .inv) (e .before .before .total .given .1) _ (e .operator-at .ensures) (c .enum-told2 .given .1)
+    stops (e .before .before .before .before .loop .inv) (e .before .before .total .given .1) (e .operator-at .result) (one-rank _ _ 1 _ (e .operator-at .ensures)) (c .enum-told2 .given .1)
 
 product-loop-less : (t : ℕ) → product-lts.Need-loop-less (product-claims t) (product-at t) product.Post product-Inv-loop product-μ-loop
 product-loop-less t c =
-    let e = c .before .before .before .before .before in
-    less (e .before .before .before .before .loop .inv) (e .before .before .total .given .1) _ (e .operator-at .ensures) (c .before .before .before .j .given .1) _ (c .before .operand2 .ensures) _ (c .joined .ensures)
+    let j = c .before .before .before in
+    let e = j .before .before in
+    less _ _ (e .before .before .total .given .1) (subst (Joined _ _ 1) (j .j .given .1) (one-rank _ _ 1 _ (e .operator-at .ensures))) _ (c .before .operand2 .ensures) _ (c .joined .ensures)
 
 product-loop-again : (t : ℕ) → product-lts.Need-loop-again (product-claims t) (product-at t) product.Post product-Inv-loop product-μ-loop
 product-loop-again t c =
     let e = c .before .before .before .before .before in
-    goes-on (e .before .before .before .before .loop .inv) (e .before .before .total .given .1) _ (e .operator-at .ensures) (c .before .before .before .j .given .1) _ (c .before .operand2 .ensures) _ (c .joined .ensures)
+    goes-on (e .before .before .before .before .loop .inv) (e .before .before .total .given .1) (e .operator-at .result) (one-rank _ _ 1 _ (e .operator-at .ensures)) (c .before .before .before .j .given .1) _ (c .before .operand2 .ensures) _ (c .joined .ensures)
 
 abbrev sum-Inv-loop : sum-lts.InvT-loop
-sum-Inv-loop text names at rank depth total₀ total = Running (operandValue (labels text names)) text depth rank (tokensAt text at) total
+sum-Inv-loop text names at rank depth total₀ low₀ total low = Climbing (operandValue (labels text names)) text depth rank low (tokensAt text at) total × (2 ≤ low)
 
 abbrev sum-μ-loop : sum-lts.MeasureT-loop
-sum-μ-loop text names at rank depth total₀ total = left (told text total)
+sum-μ-loop text names at rank depth total₀ low₀ total low = left (told text total)
 
 sum-returns : (t : ℕ) → sum-lts.Need-returns (sum-claims t) (sum-at t) sum.Post sum-Inv-loop sum-μ-loop
-sum-returns t c = rw (c .before .if1 .taken) (c .product .ensures)
+sum-returns t c = rw (c .if1 .taken) (c .before .product .ensures)
 
 sum-returns-2 : (t : ℕ) → sum-lts.Need-returns-2 (sum-claims t) (sum-at t) sum.Post sum-Inv-loop sum-μ-loop
 unfolding told
-sum-returns-2 t c = refuses (c .before .before .loop .inv) (c .enum-told .given .1)
+sum-returns-2 t c = climb-refuses (c .before .before .loop .inv .0) (c .enum-told .given .1)
 
 sum-returns-3 : (t : ℕ) → sum-lts.Need-returns-3 (sum-claims t) (sum-at t) sum.Post sum-Inv-loop sum-μ-loop
 unfolding told
 sum-returns-3 t c =
     let e = c .before .before in
-    stops (e .before .before .before .before .loop .inv) (e .before .before .total .given .1) _ (e .operator-at .ensures) (c .enum-told2 .given .1)
+    climb-stops (e .before .before .before .before .loop .inv .0) (e .before .before .total .given .1) _ (e .operator-at .ensures) (c .enum-told2 .given .1)
+
+sum-sub-sum : (t : ℕ) → sum-lts.Need-sub-sum (sum-claims t) (sum-at t) sum.Post sum-Inv-loop sum-μ-loop
+sum-sub-sum t c =
+    let j = c .before .before in
+    let e = j .before .before in
+    omega (arith, e .operator-at .ensures .1 _ _ (j .j .given .1) .1, c .rank-of .ensures, e .before .before .before .before .loop .inv .1)
+
+sum-sum-requires : (t : ℕ) → sum-lts.Need-sum-requires (sum-claims t) (sum-at t) sum.Post sum-Inv-loop sum-μ-loop
+sum-sum-requires t c κs =
+    let j = c .before .before in
+    let e = j .before .before in
+    let f = e .operator-at .ensures .1 _ _ (j .j .given .1) in
+    let l = e .before .before .before .before in
+    let p = l .before .before .before .before .before .pre in
+    (omega (arith, f .1, f .2, c .rank-of .ensures, l .loop .inv .1, p .0), omega (arith, f .1, f .2, c .rank-of .ensures, l .loop .inv .1, p .1))
 
 sum-loop-less : (t : ℕ) → sum-lts.Need-loop-less (sum-claims t) (sum-at t) sum.Post sum-Inv-loop sum-μ-loop
 sum-loop-less t c =
-    let e = c .before .before .before .before .before in
-    less (e .before .before .before .before .loop .inv) (e .before .before .total .given .1) _ (e .operator-at .ensures) (c .before .before .before .j .given .1) _ (c .before .sum2 .ensures) _ (c .joined .ensures)
+    let r = c .before .before in
+    let j = r .before .before in
+    let e = j .before .before in
+    let f = e .before .before in
+    less _ _ (f .total .given .1) (climb-by (f .before .before .loop .inv .0) (f .total .given .1) _ (e .operator-at .ensures) (j .j .given .1) (r .rank-of .ensures)) _ (c .before .sum .ensures) _ (c .joined .ensures)
 
 sum-loop-again : (t : ℕ) → sum-lts.Need-loop-again (sum-claims t) (sum-at t) sum.Post sum-Inv-loop sum-μ-loop
 sum-loop-again t c =
-    let e = c .before .before .before .before .before in
-    goes-on (e .before .before .before .before .loop .inv) (e .before .before .total .given .1) _ (e .operator-at .ensures) (c .before .before .before .j .given .1) _ (c .before .sum2 .ensures) _ (c .joined .ensures)
+    let r = c .before .before in
+    let j = r .before .before in
+    let e = j .before .before in
+    let f = e .before .before in (
+      climbs (f .before .before .loop .inv .0) (f .total .given .1) _ (e .operator-at .ensures) (j .j .given .1) (r .rank-of .ensures) _ (c .before .sum .ensures) _ (c .joined .ensures),
+      omega (arith, e .operator-at .ensures .1 _ _ (j .j .given .1) .1, r .rank-of .ensures, f .before .before .loop .inv .1),
+    )
 
 pub +operand+product+sum-spec : {M : Type 1} → statement M
 +operand+product+sum-spec =
@@ -212,18 +241,17 @@ pub +operand+product+sum-spec : {M : Type 1} → statement M
     sum-μ-loop
     (λ c κs. (omega arith, tt))
     (sum-returns t)
-    (λ c. search needs)
-    (λ c κs. (omega arith, omega arith))
-    (λ c. begins _ _ _ _ (omega arith) _ (c .sum .ensures))
+    (λ c. (starts _ _ _ _ (omega arith) _ (c .before .product .ensures), omega arith))
     (λ c. search needs)
     (λ c. search needs)
     (sum-returns-2 t)
-    (λ c κs. search needs)
+    (λ c κs. omega (arith, c .before .before .before .loop .inv .1))
     (λ c. search needs)
     (λ c. search needs)
     (sum-returns-3 t)
-    (λ c. search needs)
-    (λ c κs. (omega arith, omega arith))
+    (λ c κs. search needs)
+    (sum-sub-sum t)
+    (sum-sum-requires t)
     (λ c κs. search needs)
     (sum-loop-less t)
     (sum-loop-again t))

@@ -1,22 +1,43 @@
 -- By the rank of the token at the position.
 -- Assumes nothing.
+use mathlib.Core.Path.{sym}
+use Prim.Native.Nat.{ℕ, _≤_}
+use native.Mathlib.Omega.{arith}
 use borrow.Author.Needs.{needs}
+use Rattle.expression.specs.Operands.{rankOf}
+use Rattle.expression.specs.Reading.{JoinedBy}
 use Rattle.expression.proofs.After.{no-operator, operator, other-operator}
+use Rattle.expression.proofs.Climb.{no-join, join-is}
 use Rattle.expression.proofs.operator_at.Statement.{statement}
 use Rattle.expression.proofs.operator_at.Tie as tie
 
 returns : tie.Need-returns
-returns c = no-operator _ _ _ (c .before .before .token-at .ensures) (c .enum-told .given .1) _ (c .before .before .before .before .pre)
+returns c =
+    let t = c .before .before in
+    (λ k l h e. no-operator _ _ _ (t .token-at .ensures) (c .enum-told .given .1) k (omega (arith, t .before .before .pre)), λ symbol end e. no-join e)
 
 returns-2 : tie.Need-returns-2
 returns-2 c =
-    let e = c .before .before .before in
-    operator _ _ _ (e .before .before .token-at .ensures) (e .t .given .1) (c .before .rank-of .ensures) (c .if1 .taken)
+    let r = c .before in
+    let t = r .before .before in
+    (λ k l h e. other-operator _ _ _ (t .before .before .token-at .ensures) (t .t .given .1) (r .rank-of .ensures) (λ z. omega (arith, c .if1 .taken)), λ symbol end e. no-join e)
 
 returns-3 : tie.Need-returns-3
 returns-3 c =
-    let e = c .before .before .before in
-    other-operator _ _ _ (e .before .before .token-at .ensures) (e .t .given .1) (c .before .rank-of .ensures) (c .if1 .left)
+    let r = c .before .before in
+    let t = r .before .before in
+    (λ k l h e. other-operator _ _ _ (t .before .before .token-at .ensures) (t .t .given .1) (r .rank-of .ensures) (λ z. omega (arith, c .if2 .taken)), λ symbol end e. no-join e)
+
+returns-4 : tie.Need-returns-4
+returns-4 c =
+    let r = c .before .before in
+    let t = r .before .before in
+    let a = t .before .before .before .before .args in (
+      λ k l h e. no-join (sym e),
+      λ symbol end e.
+          join-is (λ (s z : ℕ). JoinedBy (a .text .now) (a .at) (rankOf s) s z × (a .low ≤ rankOf s) × (rankOf s ≤ a .high)) e
+          (operator _ _ _ (t .before .before .token-at .ensures) (t .t .given .1) (r .rank-of .ensures) (r .rank-of .ensures), omega (arith, r .rank-of .ensures, c .before .if1 .left), omega (arith, r .rank-of .ensures, c .if2 .left)),
+    )
 
 pub operator-at-spec : {M : Type 1} → statement M
 operator-at-spec =
@@ -28,4 +49,5 @@ operator-at-spec =
     returns
     (λ c κs. search needs)
     returns-2
-    returns-3)
+    returns-3
+    returns-4)

@@ -4,7 +4,7 @@ use Prim.Native.Nat.{_-_}
 use mathlib.Core.Path.{sym}
 use native.Mathlib.Omega.{arith}
 use borrow.Author.Needs.{needs}
-use Rattle.token.proofs.Alike.{Comparing, unlike, comparing, differ, turn, compared}
+use Rattle.token.proofs.Alike.{Comparing, unlike, other-last, comparing, differ, turn, compared}
 use Rattle.token.proofs.same_bytes.Statement.{statement}
 use Rattle.token.proofs.same_bytes.Tie as tie
 
@@ -25,13 +25,19 @@ returns-2 c =
     sym (unlike _ _ (a .start) (a .end) (a .from) (a .to) (omega arith) (λ e. omega arith))
 
 returns-3 : tie.Need-returns-3 Inv-loop μ-loop
-returns-3 c = differ (c .before .before .before .before .loop .inv) (omega arith) (omega arith) (omega arith) (c .if3 .taken)
-
-loop-again : tie.Need-loop-again Inv-loop μ-loop
-loop-again c = turn (c .before .before .before .before .loop .inv) (omega arith) (omega arith) (omega arith) (c .if3 .left)
+returns-3 c =
+    let l = c .before .before .before .before .before in
+    let a = l .before .before .before .args in
+    sym (other-last _ _ (a .start) (a .end) (a .from) (a .to) (l .lesser .result) (omega arith) (omega (arith, l .lesser .ensures)) (omega arith) (omega arith) (c .if3 .taken))
 
 returns-4 : tie.Need-returns-4 Inv-loop μ-loop
-returns-4 c = compared (c .before .loop .inv) (c .loop-test .left) (omega arith)
+returns-4 c = differ (c .before .before .before .before .loop .inv) (omega arith) (omega arith) (omega arith) (c .if4 .taken)
+
+loop-again : tie.Need-loop-again Inv-loop μ-loop
+loop-again c = turn (c .before .before .before .before .loop .inv) (omega arith) (omega arith) (omega arith) (c .if4 .left)
+
+returns-5 : tie.Need-returns-5 Inv-loop μ-loop
+returns-5 c = compared (c .before .loop .inv) (c .loop-test .left) (omega arith)
 
 pub same-bytes-spec : {M : Type 1} → statement M
 same-bytes-spec =
@@ -45,13 +51,18 @@ same-bytes-spec =
     (λ c. search needs)
     returns-2
     (λ c. search needs)
-    (λ c. comparing)
-    (λ c. search needs)
     (λ c. search needs)
     (λ c. search needs)
     (λ c. search needs)
     returns-3
     (λ c. search needs)
+    (λ c. comparing)
+    (λ c. search needs)
+    (λ c. search needs)
+    (λ c. search needs)
+    (λ c. search needs)
+    returns-4
+    (λ c. search needs)
     (λ c. search needs)
     loop-again
-    returns-4)
+    returns-5)

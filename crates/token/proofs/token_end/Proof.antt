@@ -1,46 +1,63 @@
--- The loop reads the token byte after byte; the measure is what is left of the text.
+-- By the first byte, and for `<` by the next one.
 -- Assumes nothing.
-use Prim.Native.Nat.{_-_}
 use mathlib.Core.Path.{sym, _∙_}
+use mathlib.Core.Logic.{inl, inr}
 use borrow.Author.Needs.{needs}
-use lib.ListN.{length}
-use Rattle.token.proofs.Scanning.{Reading, begin, on, off, past}
+use Rattle.token.proofs.Scanning.{lone, last-byte, less, less-less}
 use Rattle.token.proofs.token_end.Statement.{statement}
 use Rattle.token.proofs.token_end.Tie as tie
 
-abbrev Inv-loop : tie.InvT-loop
-Inv-loop text start first i₀ i = Reading text start i
+row-end-requires : tie.Need-row-end-requires
+row-end-requires c κs =
+    let l = c .before in
+    (l .before .before .before .pre .0, inl (sym (l .letter-or-digit .ensures) ∙ c .if1 .taken))
 
-abbrev μ-loop : tie.MeasureT-loop
-μ-loop text start first i₀ i = length text - i
+row-end-requires-2 : tie.Need-row-end-requires-2
+row-end-requires-2 c κs = (c .before .before .before .before .before .pre .0, inr (c .if2 .taken))
 
-loop-holds : tie.Need-loop-holds Inv-loop μ-loop
-loop-holds c = let p = c .before .before .pre in begin (p .0) (p .1) (p .2)
+returns-3 : tie.Need-returns-3
+returns-3 c =
+    let l = c .before .before .before in
+    let p = l .before .before .before .pre in
+    lone (p .0) (p .1) (p .2) (sym (l .letter-or-digit .ensures) ∙ c .before .before .if1 .left) (c .before .if2 .left) (c .if3 .taken)
 
-loop-again : tie.Need-loop-again Inv-loop μ-loop
-loop-again c =
-    on (c .before .before .before .before .loop .inv) (c .before .before .before .loop-test .taken)
-    (sym (c .before .goes-on .ensures) ∙ c .if1 .taken)
+returns-4 : tie.Need-returns-4
+returns-4 c =
+    let n = c .before .before in
+    let l = n .before .before in
+    let p = l .before .before .before .pre in
+    last-byte (p .0) (p .1) (p .2) (sym (l .letter-or-digit .ensures) ∙ n .before .if1 .left) (n .if2 .left) (c .if4 .taken)
 
-returns : tie.Need-returns Inv-loop μ-loop
-returns c =
-    off (c .before .before .before .before .loop .inv) (c .before .before .before .loop-test .taken)
-    (sym (c .before .goes-on .ensures) ∙ c .if1 .left)
+returns-5 : tie.Need-returns-5
+returns-5 c =
+    let k = c .before .before in
+    let n = k .before .before in
+    let l = n .before .before in
+    let p = l .before .before .before .pre in
+    less (p .0) (p .1) (p .2) (sym (l .letter-or-digit .ensures) ∙ n .before .if1 .left) (n .if2 .left) (k .if4 .left) (c .if5 .taken)
+
+returns-6 : tie.Need-returns-6
+returns-6 c =
+    let k = c .before .before in
+    let n = k .before .before in
+    let l = n .before .before in
+    let p = l .before .before .before .pre in
+    less-less (p .0) (p .1) (p .2) (sym (l .letter-or-digit .ensures) ∙ n .before .if1 .left) (n .if2 .left) (k .if4 .left) (k .before .if3 .left) (c .if5 .left)
 
 pub token-end-spec : {M : Type 1} → statement M
 token-end-spec =
     tie.close
     (tie.spec
-    Inv-loop
-    μ-loop
-    (λ c. search needs)
-    (λ c. search needs)
-    loop-holds
-    (λ c. search needs)
     (λ c. search needs)
     (λ c κs. search needs)
+    row-end-requires
+    (λ c. search needs)
+    row-end-requires-2
     (λ c. search needs)
     (λ c. search needs)
-    loop-again
-    returns
-    (λ c. past (c .before .loop .inv) (c .loop-test .left)))
+    returns-3
+    returns-4
+    (λ c. search needs)
+    returns-5
+    (λ c. search needs)
+    returns-6)

@@ -1,11 +1,12 @@
 -- By the first two tokens.
 -- Assumes nothing.
 use mathlib.Core.Path.{sym, _∙_}
+use native.Mathlib.Omega.{arith}
 use borrow.Author.Needs.{needs}
 use borrow.Author.Tests.{lt-ltb}
 use Rattle.statement.specs.Parts.{labelOf}
 use Rattle.statement.proofs.Items.{nothing, there}
-use Rattle.statement.proofs.Statements.{outside-line, same-line, no-token, one-token, no-colon, a-label, no-label}
+use Rattle.statement.proofs.Statements.{outside-line, same-line, no-statement, no-token, one-token, no-colon, a-label, no-label}
 use Rattle.statement.proofs.line.line_at.Statement.{statement}
 use Rattle.statement.proofs.line.line_at.Tie as tie
 
@@ -13,7 +14,8 @@ returns : tie.Need-returns
 unfolding labelOf
 returns c =
     let t = c .before .before .before in
-    same-line (c .statement-at .ensures) (no-token _ _ (nothing _ _ (t .token-at .ensures) (c .before .enum-told .given .1)))
+    let n = nothing _ _ (t .token-at .ensures) (c .before .enum-told .given .1) in
+    same-line (no-statement _ _ _ 0 0 n (omega arith)) (no-token _ _ n)
 
 returns-2 : tie.Need-returns-2
 unfolding labelOf
@@ -21,7 +23,7 @@ returns-2 c =
     let t = c .before .before .before in
     let e = t .before .before in
     let h = there (e .before .before .token-at .ensures) (e .first .given .1) in
-    same-line (c .statement-at2 .ensures) (one-token _ _ (h .split) (nothing _ _ (t .token-at2 .ensures) (c .before .enum-told2 .given .1)))
+    same-line (c .statement-at .ensures) (one-token _ _ (h .split) (nothing _ _ (t .token-at2 .ensures) (c .before .enum-told2 .given .1)))
 
 returns-3 : tie.Need-returns-3
 unfolding labelOf
@@ -31,7 +33,7 @@ returns-3 c =
     let e = t .before .before in
     let h = there (e .before .before .token-at .ensures) (e .first .given .1) in
     let k = there (t .token-at2 .ensures) (f .second .given .1) in
-    same-line (c .statement-at3 .ensures) (no-colon _ _ (h .split) (k .split) (k .number) (c .before .if1 .taken))
+    same-line (c .statement-at2 .ensures) (no-colon _ _ (h .split) (k .split) (k .number) (c .before .if1 .taken))
 
 is-name-requires : tie.Need-is-name-requires
 is-name-requires c κs =
@@ -39,8 +41,8 @@ is-name-requires c κs =
     let h = there (e .before .before .token-at .ensures) (e .first .given .1) in
     (h .order, h .inside)
 
-statement-at-requires-4 : tie.Need-statement-at-requires-4
-statement-at-requires-4 c κs =
+statement-at-requires-3 : tie.Need-statement-at-requires-3
+statement-at-requires-3 c κs =
     let e = c .before .before .before .before .before .before .before .before in
     there (e .before .before .token-at .ensures) (e .first .given .1) .inside
 
@@ -54,7 +56,7 @@ returns-4 c =
     let h = there (e .before .before .token-at .ensures) (e .first .given .1) in
     let k = there (t .token-at2 .ensures) (f .second .given .1) in
     same-line
-    (rw (lt-ltb _ _ (h .order)) at (c .statement-at4 .ensures))
+    (rw (lt-ltb _ _ (h .order)) at (c .statement-at3 .ensures))
     (a-label _ _ (h .split) (k .split) (k .number) (n .before .if1 .left) (sym (n .is-name .ensures) ∙ c .before .if2 .taken))
 
 returns-5 : tie.Need-returns-5
@@ -84,6 +86,6 @@ line-at-spec =
     (λ c κs. search needs)
     returns-3
     is-name-requires
-    statement-at-requires-4
+    statement-at-requires-3
     returns-4
     returns-5)
