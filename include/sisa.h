@@ -60,7 +60,9 @@ typedef struct {
     uint64_t entries;
 } SisaAnswer;
 
-/* An instruction: its kind, 0 to 24 in the reference sheet's order (AND 0, .. OUT 24), and its parts; or assigned 0. */
+/* An instruction: its kind, 0 to 24 in the reference sheet's order (AND 0, .. OUT 24), and its parts; or assigned 0. Beside it
+   which registers it touches, bit k for Rk: those whose value it uses, and the one that it writes, if any; both are 0 where
+   the word is unassigned. */
 typedef struct {
     uint8_t assigned;
     uint8_t kind;
@@ -68,6 +70,8 @@ typedef struct {
     uint8_t b;
     uint8_t d;
     int16_t n;
+    uint8_t reads;
+    uint8_t writes;
 } SisaInstruction;
 
 typedef struct {
@@ -131,7 +135,7 @@ SisaAnswer sisa_host_step(SisaState *state,
                           uint16_t *outputs, size_t outputs_len,
                           uint64_t *log, size_t log_len);
 
-/* The instruction that a word is. */
+/* The instruction that a word is, and the registers that it reads and writes. */
 SisaInstruction sisa_read(uint16_t word);
 
 /* The word of an instruction. A kind over 24, a part out of range and an unused part that is not 0 are refused with 7. */

@@ -47,7 +47,7 @@ pub fn load_byte(bytes: &[u8], address: Address) -> u16
 }
 
 // The word at two neighbouring places, low byte first.
-fn word_from(bytes: &[u8], at: usize) -> u16
+pub fn word_from(bytes: &[u8], at: usize) -> u16
     requires { ⌜ at + 1 < length (now bytes) ⌝ }
     ensures { λ v. ⌜ v ≡ getD (now (bytes .entry)) at 0 + 256 * getD (now (bytes .entry)) (at + 1) 0 ⌝ }
 {

@@ -24,6 +24,8 @@ fn print_read(read: SisaInstruction) {
     print::field(read.b as u64);
     print::field(read.d as u64);
     print::field(word_of(read.n) as u64);
+    print::field(read.reads as u64);
+    print::field(read.writes as u64);
 }
 
 fn print_written(written: SisaWord) {

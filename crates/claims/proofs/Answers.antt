@@ -9,6 +9,7 @@ use Rattle.refusal.specs.declared.Refusal.the-variants.{LentLength, ShortFile, 
 use Rattle.refusal.specs.Refusals.{refusalNumber, Verdict, accepted, refused as turned-away}
 use Rattle.kinds.specs.declared.Kind.the-variants.{And}
 use Rattle.isa.specs.declared.Reading.{Reading}
+use Rattle.isa.specs.declared.Decoded.{Decoded}
 use Rattle.isa.specs.declared.Reading.the-variants.{Instruction as ReadInstruction, Unassigned as ReadUnassigned}
 use Rattle.isa.specs.declared.Writing.{Writing}
 use Rattle.isa.specs.declared.Writing.the-variants.{Word, Refused}
@@ -30,6 +31,7 @@ use Rattle.run.specs.declared.Answer.the-variants.{Stopped, Refused as RunRefus
 use Rattle.run.specs.Runs.{RunReply, stopped, refused as run-refused, shownAnswer}
 use Rattle.kinds.specs.Kinds.{kinds}
 use Rattle.isa.specs.Instructions.{Read, instruction, unassigned, shownReading, Written, word, refused, shownWriting}
+use Rattle.isa.specs.Masks.{Decoding, shownDecoded}
 use Rattle.isa.proofs.Every.{listed}
 use Rattle.claims.specs.Answers.{Injective, Answers}
 
@@ -62,6 +64,13 @@ reading-back : (x : Reading) → reading-of (shownReading x) ≡ x
 unfolding reading-of
 reading-back (ReadInstruction i) = refl
 reading-back ReadUnassigned = refl
+
+decoded-of : Decoding → Decoded
+decoded-of z = record { reading = reading-of (z .reading); reads = z .masks .reads; writes = z .masks .writes }
+
+decoded-back : (x : Decoded) → decoded-of (shownDecoded x) ≡ x
+unfolding decoded-of
+decoded-back x = ap (λ (y : Reading). record { reading = y; reads = x .reads; writes = x .writes }) (reading-back (x .reading))
 
 writing-of : Written → Writing
 writing-of (word w) = Word w
@@ -119,7 +128,7 @@ answers =
     record {
       refusal = undone refusalNumber refusal-at refusal-back;
       kind = undone _ (λ n. getD kinds n And) (λ k. listed k .1);
-      reading = undone shownReading reading-of reading-back;
+      decoded = undone shownDecoded decoded-of decoded-back;
       writing = undone shownWriting writing-of writing-back;
       loading = undone shownLoading (verdict-of Accepted LoadRefused) loading-back;
       saving = undone shownSaving saving-of saving-back;

@@ -13,11 +13,11 @@ use Rattle.isa.specs.Sheet.{kindAt}
 use Rattle.isa.specs.Instructions.{Read, instruction, unassigned, readOf, Written, word, refused, writeOf}
 use Rattle.claims.specs.Instructions.{cleared}
 
-is-word : Written → ℕ → Bool
+unfoldable pub is-word : Written → ℕ → Bool
 is-word (word v) w = eqb v w
 is-word (refused k) w = false
 
-word-is : (r : Written) (w : ℕ) → T (is-word r w) → r ≡ word w
+pub word-is : (r : Written) (w : ℕ) → T (is-word r w) → r ≡ word w
 unfolding is-word
 word-is (word v) w t = ap word (eqb→eq v w t)
 word-is (refused k) w t = absurd t

@@ -27,6 +27,8 @@ contracts =
       run-by-control = λ κs a r s. (λ h. h, λ h. h);
       report-asks = λ κs a. tt;
       report = λ κs a r s. (λ h. h, λ h. h);
+      line-at-asks = λ κs a. tt;
+      line-at = λ κs a r s. (λ h. h, λ h. h);
       diagnostic-asks = λ κs a. tt;
       diagnostic = λ κs a r s. (λ h. h, λ h. h);
     }

@@ -11,7 +11,7 @@ use Rattle.word.proofs.Tests.{clash}
 use Rattle.machine.specs.Run.{Stepper}
 use Rattle.machine.specs.Lengths.{lengthsFit}
 use Rattle.panel.specs.Calls.{SetGiven, SetLeft, setLeft}
-use Rattle.image.specs.Image.{W, programOffset, C, dataOffset, LoadGiven, loadReply, leftBy as load-leftBy, loadLeft}
+use Rattle.image.specs.Image.{W, programOffset, C, dataOffset, LoadGiven, fileReply, loadReply, leftBy as load-leftBy, loadLeft}
 use Rattle.run.specs.Runs.{Given, stopped, refused as run-refused, verdict, leftBy as run-leftBy, runLeft}
 use Rattle.claims.specs.Refusals.{Lengths, LoadRefusals, SetRefusals, RunRefusals, Refusals}
 use Rattle.claims.proofs.Decides.{Fails, fails-eq, fails-le, fails-and, decides-eq, decides-stable}
@@ -58,7 +58,7 @@ module _ (g : LoadGiven) where
       (fails-and (fails-le 16 (dataOffset file)) (fails-le (dataOffset file + C file) (length file)))))
 
   load : LoadRefusals g
-  unfolding loadLeft loadReply load-replies load-tests
+  unfolding loadLeft loadReply fileReply load-replies load-tests
   load =
       record {
         number-1 = number load-replies load-tests 0 1 refl;

@@ -20,7 +20,7 @@ use Rattle.claims.proofs.Written.{written-then-read}
 -- ---- Tables
 
 -- what g says at each number below n
-table : {A : Type 0} → ℕ → (ℕ → A) → List A
+unfoldable pub table : {A : Type 0} → ℕ → (ℕ → A) → List A
 table zero g = []
 table (suc n) g = g n ∷ table n g
 
@@ -34,10 +34,10 @@ at (suc n) g h e k l = go (eqb k n) refl (λ l. at n g h (cc) k l)
     go false t r = r (omega (arith, eqb-false k n t))
 
 -- what g says at each opcode, e and f
-abbrev table-of : {A : Type 0} → (ℕ → ℕ → ℕ → A) → List (List (List A))
+abbrev pub table-of : {A : Type 0} → (ℕ → ℕ → ℕ → A) → List (List (List A))
 table-of g = table 16 (λ op. table 2 (λ e. table 8 (λ f. g op e f)))
 
-at-word : {A : Type 0} (g h : ℕ → ℕ → ℕ → A) → table-of g ≡ table-of h → (w : ℕ) → g (opcode w) (e-of w) (f-of w) ≡ h (opcode w) (e-of w) (f-of w)
+pub at-word : {A : Type 0} (g h : ℕ → ℕ → ℕ → A) → table-of g ≡ table-of h → (w : ℕ) → g (opcode w) (e-of w) (f-of w) ≡ h (opcode w) (e-of w) (f-of w)
 at-word g h t w = at 8 _ _ (at 2 _ _ (at 16 _ _ t (opcode w) (omega arith)) (e-of w) (omega arith)) (f-of w) (omega arith)
 
 -- ---- The equations

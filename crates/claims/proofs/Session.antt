@@ -7,7 +7,7 @@ use native.Mathlib.Omega.{arith}
 use lib.ListN.{length, replicate, length-append, length-take, length-drop, length-replicate}
 use Rattle.refusal.specs.Refusals.{Verdict, accepted, refused}
 use Rattle.word.proofs.Tests.{clash}
-use Rattle.image.specs.Image.{W, C, programOffset, dataOffset, memoryOf, loaded, LoadGiven, LoadLeft, loadReply, leftBy, loadLeft}
+use Rattle.image.specs.Image.{W, C, programOffset, dataOffset, memoryOf, loaded, LoadGiven, LoadLeft, fileReply, loadReply, leftBy, loadLeft}
 use Rattle.image.proofs.Fits.{fits}
 use Rattle.report.specs.Example.{exampleFile}
 use Rattle.claims.specs.Session.{Calls, hostOf, machineOn, machineCalls, machineReplies, Session}
@@ -25,8 +25,8 @@ unfolding loaded
 loaded-fits g e =
     let f = g .file in
     let fit = fits g (sym e) in
-    let p = memory-length f (programOffset f) (2 * W f) (fit .program .inside-memory) (fit .program .inside-file) in
-    let d = memory-length f (dataOffset f) (C f) (fit .bytes .inside-memory) (fit .bytes .inside-file) in
+    let p = memory-length f (programOffset f) (2 * W f) (fit .file .program .inside-memory) (fit .file .program .inside-file) in
+    let d = memory-length f (dataOffset f) (C f) (fit .file .bytes .inside-memory) (fit .file .bytes .inside-file) in
     (λ i. (p i, d i, 256, 256), refl)
 
 -- it left the machine that 01 loads from the file
@@ -43,7 +43,7 @@ accepted-load g l e ok = go (loadReply g) e
 example-accepted :
     (P D I O : List ℕ) → length P ≡ 65536 → length D ≡ 65536 → length I ≡ 256 → length O ≡ 256
     → loadLeft (record { file = exampleFile; P = P; D = D; I = I; O = O }) .reply ≡ accepted
-unfolding loadLeft loadReply
+unfolding loadLeft loadReply fileReply
 example-accepted P D I O p d i o = rw (p, d, i, o)
 
 zeros : (n : ℕ) → _≡_ {A = ℕ} (length (replicate {A = ℕ} n 0)) n

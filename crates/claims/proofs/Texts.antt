@@ -1,82 +1,68 @@
--- Every instruction has a text: the theorem.
+-- Every word has a text that gives it back: the theorem.
 -- Assumes nothing.
-use Prim.Native.Nat.{ℕ, _≤_}
-use mathlib.Core.Bool.{Bool, true, false}
-use mathlib.Core.Path.{_≡_, ap, _∙_}
-use mathlib.Core.List.{List, [], _∷_}
+use Prim.Native.Nat.{ℕ, _+_, _<_}
+use mathlib.Core.Path.{_≡_, refl, ap}
+use mathlib.Core.Bool.{true, false}
+use mathlib.Core.List.{List, [], _∷_, _++_, map}
 use native.Mathlib.Omega.{arith}
 use lib.Dec.{eqb}
 use lib.IntN.{ℤ}
-use lib.ListN.{length, take, getD}
-use lib.Seq.{take-all}
-use borrow.Author.Tests.{le-ltb, eq-eqb, ne-eqb}
+use lib.ListN.{length, getD, length-map}
+use borrow.Author.Tests.{ne-eqb}
 use Rattle.word.proofs.Tests.{clash, passed}
 use Rattle.kinds.specs.declared.Kind.{Kind}
 use Rattle.kinds.specs.declared.Kind.the-variants.{And}
 use Rattle.kinds.specs.Kinds.{kinds, kindNumber}
 use Rattle.isa.specs.declared.Instruction.{Instruction}
 use Rattle.isa.specs.Sheet.{sheet}
-use Rattle.isa.specs.Instructions.{word, writeOf, fits}
-use Rattle.isa.proofs.Every.{listed}
-use Rattle.token.specs.Tokens.{Token}
+use Rattle.isa.specs.Instructions.{Read, instruction, unassigned, readOf, word, writeOf, fits}
+use Rattle.isa.proofs.Every.{listed as kind-listed}
+use Rattle.token.specs.Ascii.{ascii}
+use Rattle.token.specs.Tokens.{Token, between, digit, letter, letterOrDigit}
+use Rattle.printing.specs.Text.{hex4}
 use Rattle.expression.specs.declared.Value.{Value}
-use Rattle.expression.specs.Operands.{Label, operandValue}
-use Rattle.expression.specs.Grammar.{Tree, valueOf}
-use Rattle.statement.specs.Syntax.{rowAt, blank, Parts, of-row, written as written-row, Line, line, IsLine, plain as unnamed}
-use Rattle.statement.specs.Reading.{ReadLine, reads, valuedParts, valuedStatement, valued}
+use Rattle.expression.specs.Grammar.{Tree}
+use Rattle.statement.specs.Syntax.{table, rowAt, blank, Parts, putN, Written, end, a-value-there, of-row, written as written-row, line, plain as unnamed}
+use Rattle.statement.specs.Reading.{valuedParts, valuedStatement, valued}
 use Rattle.encoding.specs.Words.{odd, numberOf, gives, written, encoded, stated}
-use Rattle.assembler.specs.Text.{lines, readings, textLines, start, namesFrom, crowded, admitted, repeated, judged, verdicts, textVerdicts, wordsOf, words, replyFrom, stored, leftBy, assembleLeft}
-use Rattle.claims.specs.Texts.{tokensOf, spaced, textOf, Texts}
-use Rattle.claims.proofs.Readings.{found}
-use Rattle.claims.proofs.Spaced.{AllPlain, spaced-divided, spaced-short, spaced-line}
-use Rattle.claims.proofs.Decimals.{Operand, operand-of}
-use Rattle.claims.proofs.Rows.{mnemonic-plain, marks-plain, few-items, near, items-written, items-plain, items-few, parts, parts-registers, parts-number}
+use Rattle.listing.specs.Listing.{instructionText, wordText, textAs, textOf}
+use Rattle.assembler.specs.Text.{lines, repeated, judged}
+use Rattle.claims.specs.Texts.{clearedAs, clearedWord, GivesBack, listed, Words, none, more, Texts}
+use Rattle.claims.proofs.Computed.{read-then-written}
+use Rattle.claims.proofs.Joined.{row-test, word-test, plain, Text, wider, nothing-there, spaced-before, one-line, first-line}
+use Rattle.claims.proofs.Operands.{worth, word-means}
+use Rattle.claims.proofs.Statements.{parts, parts-registers, parts-number, tokensOf, written as items-written, text}
+use Rattle.claims.proofs.Listed.{Gives, Lines, no-line, empty, a-word, assembled}
 
--- ---- The line
+-- ---- A line
 
--- a short text of tokens is one line, and read as they are
-text-read : (ts : List Token) (l : Line Tree) → AllPlain ts → length ts ≤ 13 → IsLine ts l → textLines (spaced ts) ≡ reads l ∷ []
-unfolding textLines readings
-text-read ts l p h g =
-    let s : length (spaced ts) ≤ 65536 = omega (arith, spaced-short ts p) in
-    ap (λ (b : Bool). readings b (lines (take 65536 (spaced ts)))) (le-ltb 65536 (length (spaced ts)) s)
-    ∙ ap (λ (t : List ℕ). readings false (lines t)) (take-all 65536 (spaced ts) s)
-    ∙ ap (λ (ls : List (List ℕ)). readings false ls) (spaced-line ts p)
-    ∙ ap (λ (r : ReadLine Tree). r ∷ []) (found (spaced ts) l .1 (record { tokens = ts; divided = spaced-divided ts p; parsed = g }))
+-- what is read as row k, with parts that come to w, gives w
+row-gives : (address k w : ℕ) (s : List ℕ) (ts : List Token) (p : Parts Tree) → Text 300 s (rowAt k .mnemonic ∷ ts) → k < length table
+    → Written (rowAt k .items) ts blank p → worth (p .n) .known ≡ true → encoded k address (valuedParts worth p) ≡ gives w → Gives address s w
+unfolding judged valued repeated valuedStatement stated valuedParts
+row-gives address k w s ts p x h g n e =
+    record {
+      line = line [] (of-row k p);
+      read = record { tokens = rowAt k .mnemonic ∷ ts; divided = x .divided; parsed = unnamed (written-row k h g) };
+      unnamed = refl;
+      gives-back = rw (e, n);
+      whole = x .whole;
+      short = x .short;
+    }
 
--- ---- Its word
+-- ---- An instruction
 
 same-instruction : {k j : Kind} {a a₁ b b₁ d d₁ : ℕ} {n n₁ : ℤ} → k ≡ j → a ≡ a₁ → b ≡ b₁ → d ≡ d₁ → n ≡ n₁
     → _≡_ {A = Instruction} (record { kind = k; a = a; b = b; d = d; n = n }) (record { kind = j; a = a₁; b = b₁; d = d₁; n = n₁ })
 same-instruction o p q r s = λ x. record { kind = o x; a = p x; b = q x; d = r x; n = s x }
 
-encodes : (k : ℕ) (p : Parts Value) (i : Instruction) (w : ℕ) → eqb k (length kinds) ≡ false → odd (rowAt k .field) 0 (p .n .word) ≡ false
-    → record { kind = getD kinds k And; a = p .a; b = p .b; d = p .d; n = numberOf (rowAt k .field) 0 (p .n .word) } ≡ i
-    → writeOf i ≡ word w → encoded k 0 p ≡ gives w
+encodes : (k address : ℕ) (p : Parts Value) (i : Instruction) (w : ℕ) → eqb k (length kinds) ≡ false → odd (rowAt k .field) address (p .n .word) ≡ false
+    → record { kind = getD kinds k And; a = p .a; b = p .b; d = p .d; n = numberOf (rowAt k .field) address (p .n .word) } ≡ i
+    → writeOf i ≡ word w → encoded k address p ≡ gives w
 unfolding encoded written
-encodes k p i w e o s h = rw (e, o, s, h)
+encodes k address p i w e o s h = rw (e, o, s, h)
 
--- ---- The call
-
--- what comes of a line that gives a word
-one-verdict : (names : List Label) (k w : ℕ) (p : Parts Tree) → valueOf (operandValue names) (p .n) .known ≡ true
-    → encoded k 0 (valuedParts (valueOf (operandValue names)) p) ≡ gives w → verdicts names start (reads (line [] (of-row k p)) ∷ []) ≡ gives w ∷ []
-unfolding verdicts judged valued admitted crowded repeated valuedStatement stated valuedParts
-one-verdict names k w p n g = rw (g, n)
-
--- a text of one line that gives a word
-assembled : (text program : List ℕ) (k w : ℕ) (p : Parts Tree) → textLines text ≡ reads (line [] (of-row k p)) ∷ []
-    → ((names : List Label) → valueOf (operandValue names) (p .n) .known ≡ true)
-    → ((names : List Label) → encoded k 0 (valuedParts (valueOf (operandValue names)) p) ≡ gives w)
-    → length program ≡ 65536 → assembleLeft text program ≡ record { reply = words 1; program = stored (w ∷ []) program }
-unfolding assembleLeft textVerdicts leftBy replyFrom wordsOf
-assembled text program k w p e n g h =
-    let names = namesFrom start (reads (line [] (of-row k p)) ∷ []) in
-    rw (eq-eqb (length program) 65536 h, e, one-verdict names k w p (n names) (g names))
-
--- ---- An instruction
-
-module _ (i : Instruction) (w : ℕ) (h : writeOf i ≡ word w) where
+module _ (address : ℕ) (i : Instruction) (w : ℕ) (h : writeOf i ≡ word w) where
   abbrev k : ℕ
   k = kindNumber (i .kind)
 
@@ -84,34 +70,61 @@ module _ (i : Instruction) (w : ℕ) (h : writeOf i ≡ word w) where
   unfolding writeOf
   fitting = passed (fits (sheet (i .kind)) i) (λ e. clash (cc)) h .0
 
-  abbrev its-operand : Operand (rowAt k .field) (i .n)
-  its-operand = operand-of (rowAt k .field) (i .n) (near i fitting)
-
-  its-line : IsLine (tokensOf i) (line [] (of-row k (parts i fitting)))
-  unfolding tokensOf
-  its-line = unnamed (written-row k (omega (arith, listed (i .kind) .0)) (items-written i fitting its-operand (rowAt k .items) blank))
-
-  its-tokens : AllPlain (tokensOf i)
-  unfolding tokensOf
-  its-tokens = (mnemonic-plain (i .kind), items-plain i fitting its-operand (rowAt k .items) (marks-plain (i .kind)))
-
-  few : length (tokensOf i) ≤ 13
-  unfolding tokensOf
-  few = omega (arith, items-few i fitting (rowAt k .items), few-items (i .kind))
-
-  its-word : (names : List Label) → encoded k 0 (valuedParts (valueOf (operandValue names)) (parts i fitting)) ≡ gives w
+  its-word : encoded k address (valuedParts worth (parts address i fitting)) ≡ gives w
   unfolding valuedParts
-  its-word names =
-      let (x, o, n) = parts-number i fitting its-operand names in
-      let (a, b, d) = parts-registers i fitting in
-      encodes k (valuedParts (valueOf (operandValue names)) (parts i fitting)) i w
-      (ne-eqb k (length kinds) (λ e. omega (arith, listed (i .kind) .0))) o (same-instruction (listed (i .kind) .1) a b d n) h
+  its-word =
+      let (x, o, n) = parts-number address i fitting in
+      let (a, b, d) = parts-registers address i fitting in
+      encodes k address (valuedParts worth (parts address i fitting)) i w
+      (ne-eqb k (length kinds) (λ e. omega (arith, kind-listed (i .kind) .0))) o (same-instruction (kind-listed (i .kind) .1) a b d n) h
 
-  assembles : (program : List ℕ) → length program ≡ 65536 → assembleLeft (textOf i) program ≡ record { reply = words 1; program = stored (w ∷ []) program }
-  unfolding textOf
-  assembles program m =
-      assembled (spaced (tokensOf i)) program k w (parts i fitting) (text-read (tokensOf i) _ its-tokens few its-line)
-      (λ names. parts-number i fitting its-operand names .0) its-word m
+  instruction-gives : Gives address (instructionText address i) w
+  instruction-gives =
+      row-gives address k w _ (tokensOf address i fitting) (parts address i fitting) (text address i fitting) (omega (arith, kind-listed (i .kind) .0))
+      (items-written address i fitting) (parts-number address i fitting .0) its-word
+
+-- ---- An unassigned word
+
+unassigned-gives : (address w : ℕ) → w < 65536 → Gives address (ascii ".word " ++ wordText w) w
+unfolding hex4 plain word-test row-test letterOrDigit letter digit between encoded valuedParts
+unassigned-gives address w h =
+    let m = word-means w h in
+    row-gives address (length kinds) w _ (m .tokens ++ []) (putN (m .tree) blank)
+    (wider (omega arith) (spaced-before (ascii ".word") tt (m .before (λ t. tt) nothing-there)))
+    (omega arith)
+    (a-value-there (m .read) end)
+    (ap (λ (v : Value). v .known) (m .value))
+    (ap (λ (v : Value). gives (v .word)) (m .value))
+
+-- ---- Every word
+
+word-gives : (address w : ℕ) → w < 65536 → Gives address (textOf address w) (clearedWord w)
+unfolding textOf
+word-gives address w h = go (readOf w) refl
+  where
+    go : (r : Read) → readOf w ≡ r → Gives address (textAs address w r) (clearedAs r w)
+    go (instruction i) e = instruction-gives address i _ (read-then-written w h i e)
+    go unassigned e = unassigned-gives address w h
+
+gives-back : (address w : ℕ) → w < 65536 → GivesBack address w
+gives-back address w h =
+    let g = word-gives address w h in
+    record { line = g .line; read = g .read; unnamed = g .unnamed; gives-back = g .gives-back }
+
+listed-lines : (address : ℕ) {ws : List ℕ} → Words ws → Lines address (lines (listed address ws)) (map clearedWord ws)
+unfolding listed lines
+listed-lines address none = empty
+listed-lines address (more {w} {ws} h r) =
+    let g = word-gives address w h in
+    rw (first-line (textOf address w) (listed (address + 2) ws) (g .whole)) (a-word g (listed-lines (address + 2) r))
 
 pub texts : Texts
-texts = record { assembles = λ i w program h m. assembles i w h program m }
+texts =
+    record {
+      gives-back = gives-back;
+      assembles = λ ws program h l m.
+          rw (← length-map ws clearedWord) (assembled (listed 0 ws) program (map clearedWord ws) (listed-lines 0 h) l m);
+      instructions = λ i w program h m.
+          let g = instruction-gives 0 i w h in
+          assembled (instructionText 0 i) program (w ∷ []) (rw (one-line (instructionText 0 i) (g .whole)) (a-word g no-line)) (omega (arith, g .short)) m;
+    }

@@ -5,7 +5,6 @@ use Prim.Native.Nat.{ℕ}
 use Rattle.refusal.specs.declared.Refusal.{Refusal}
 use Rattle.refusal.specs.Refusals.{refusalNumber}
 use Rattle.kinds.specs.declared.Kind.{Kind}
-use Rattle.isa.specs.declared.Reading.{Reading}
 use Rattle.isa.specs.declared.Writing.{Writing}
 use Rattle.panel.specs.declared.Setting.{Setting}
 use Rattle.panel.specs.Calls.{shownSetting}
@@ -16,7 +15,8 @@ use Rattle.assembler.specs.Passes.{shownAssembly}
 use Rattle.run.specs.declared.Answer.{Answer}
 use Rattle.run.specs.Runs.{shownAnswer}
 use Rattle.kinds.specs.Kinds.{kindNumber}
-use Rattle.isa.specs.Instructions.{shownReading, shownWriting}
+use Rattle.isa.specs.Instructions.{shownWriting}
+use Rattle.isa.specs.Masks.{shownDecoded}
 
 abbrev pub Injective : {A B : Type 0} → (A → B) → Type 0
 Injective {A} f = (x y : A) → f x ≡ f y → x ≡ y
@@ -24,7 +24,7 @@ Injective {A} f = (x y : A) → f x ≡ f y → x ≡ y
 pub record Answers : Type 0 where
   pub refusal : Injective refusalNumber
   pub kind : Injective kindNumber
-  pub reading : Injective shownReading
+  pub decoded : Injective shownDecoded
   pub writing : Injective shownWriting
   pub loading : Injective shownLoading
   pub saving : Injective shownSaving

@@ -10,7 +10,8 @@ use Rattle.refusal.specs.Refusals.{refusalNumber}
 use Rattle.machine.specs.declared.State.{State}
 use Rattle.machine.specs.Run.{Stepper, byRules}
 use Rattle.panel.specs.Calls.{SetLeft, shownSetting, setLeft, windowOf}
-use Rattle.isa.specs.Instructions.{shownReading, readOf, shownWriting, writeOf}
+use Rattle.isa.specs.Instructions.{shownWriting, writeOf}
+use Rattle.isa.specs.Masks.{shownDecoded, decodingOf}
 use Rattle.image.specs.Image.{LoadLeft, shownLoading, loadLeft}
 use Rattle.save.specs.Saved.{SaveLeft, shownSaving, saveLeft}
 use Rattle.assembler.specs.Text.{AssembleLeft, assembleLeft}
@@ -21,6 +22,7 @@ use Rattle.run.specs.Runs.{given, left, shownAnswer, RunMeets}
 use Rattle.printing.specs.Text.{held}
 use Rattle.report.specs.Printed.{printed}
 use Rattle.diagnostic.specs.Diagnostic.{diagnosticOf}
+use Rattle.listing.specs.File.{listing, lineAt}
 use Rattle.isa.proofs.read.Reads as read
 use Rattle.isa.proofs.write.Reads as write
 use Rattle.panel.proofs.set_input.Reads as set-input
@@ -32,6 +34,7 @@ use Rattle.engine.proofs.run_by_rules.Reads as run-by-rules
 use Rattle.engine.proofs.run_by_table.Reads as run-by-table
 use Rattle.engine.proofs.run_by_control.Reads as run-by-control
 use Rattle.report.proofs.report.Reads as report
+use Rattle.listing.proofs.line_at.Reads as line-at
 use Rattle.diagnostic.proofs.diagnostic.Reads as diagnostic
 
 -- a lent slice
@@ -52,7 +55,7 @@ RunSays v a r s =
 pub record Contracts : Type 1 where
   -- read(w)
   pub read-asks : (κs : Lfts 0) (a : _) → read.Asked κs a
-  pub read : (κs : Lfts 0) (a : _) (r : _) (s : _) → read.Learnt κs a r s ↔ (shownReading r ≡ readOf (a .0))
+  pub read : (κs : Lfts 0) (a : _) (r : _) (s : _) → read.Learnt κs a r s ↔ (shownDecoded r ≡ decodingOf (a .0))
   -- write(i)
   pub write-asks : (κs : Lfts 0) (a : _) → write.Asked κs a
   pub write : (κs : Lfts 0) (a : _) (r : _) (s : _) → write.Learnt κs a r s ↔ (shownWriting r ≡ writeOf (a .0))
@@ -118,6 +121,9 @@ pub record Contracts : Type 1 where
   -- report(file)
   pub report-asks : (κs : Lfts 1) (a : _) → report.Asked κs a
   pub report : (κs : Lfts 1) (a : _) (r : _) (s : _) → report.Learnt κs a r s ↔ (r ≡ held (printed (now (a .0))))
+  -- line_at(file, k)
+  pub line-at-asks : (κs : Lfts 1) (a : _) → line-at.Asked κs a
+  pub line-at : (κs : Lfts 1) (a : _) (r : _) (s : _) → line-at.Learnt κs a r s ↔ (r ≡ lineAt (listing (now (a .0))) (a .1 .0))
   -- diagnostic(line, refusal)
   pub diagnostic-asks : (κs : Lfts 0) (a : _) → diagnostic.Asked κs a
   pub diagnostic : (κs : Lfts 0) (a : _) (r : _) (s : _) → diagnostic.Learnt κs a r s ↔ (r ≡ held (diagnosticOf (a .0) (refusalNumber (a .1 .0))))

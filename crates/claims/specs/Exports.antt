@@ -8,7 +8,7 @@ use mathlib.Core.Path.{_≡_}
 use lib.Dec.{eqb}
 use Rattle.machine.specs.Run.{Stepper, byRules}
 use Rattle.panel.specs.Calls.{windowOf}
-use Rattle.isa.specs.Instructions.{readOf}
+use Rattle.isa.specs.Masks.{decodingOf}
 use Rattle.control.specs.Control.{byTable}
 use Rattle.run.specs.Runs.{given}
 use Rattle.replies.specs.declared.SisaRun.{SisaRun}
@@ -81,7 +81,7 @@ pub record Exports : Type 1 where
   pub run-by-table : (κs : Lfts 5) (a : _) (r : _) (s : _) → run-by-table.Learnt κs a r s ↔ RunSays byTable a r s
   -- sisa_read(word)
   pub read-asks : (κs : Lfts 0) (a : _) → read.Asked κs a
-  pub read : (κs : Lfts 0) (a : _) (r : _) (s : _) → read.Learnt κs a r s ↔ (r ≡ sisaInstruction (readOf (a .0)))
+  pub read : (κs : Lfts 0) (a : _) (r : _) (s : _) → read.Learnt κs a r s ↔ (r ≡ sisaInstruction (decodingOf (a .0)))
   -- sisa_write(kind, a, b, d, n)
   pub write-asks : (κs : Lfts 0) (a : _) → write.Asked κs a
   pub write :

@@ -6,6 +6,7 @@ pub mod Exports
 pub mod HostSteps
 pub mod Instructions
 pub mod Marked
+pub mod Masks
 pub mod Refusals
 pub mod Rules
 pub mod Runs

@@ -1,66 +1,54 @@
--- Every instruction has a text (02, L2): its mnemonic and operands as 004 writes them, numbers in decimal, a branch by its target.
+-- Every word has a text (02, L2 and L4): an instruction as 004 writes it, a branch by its target, `.word` for an unassigned word; and the
+-- assembler gives the word back, with its ignored bits cleared. `textOf` and `instructionText` are the listing's.
 use mathlib.Core.Path.{_≡_}
-use mathlib.Core.List.{List, [], _∷_, _++_}
-use Prim.Native.Nat.{ℕ, suc, _+_, _*_, _%_}
-use lib.IntN.{ℤ, pos, negsuc}
+use mathlib.Core.List.{List, [], _∷_, _++_, map}
+use Prim.Native.Nat.{ℕ, _+_, _<_, _≤_}
 use lib.ListN.{length}
-use Rattle.word.specs.Word.{lowBits}
-use Rattle.kinds.specs.Kinds.{kindNumber}
 use Rattle.isa.specs.declared.Instruction.{Instruction}
-use Rattle.isa.specs.Instructions.{word, writeOf}
-use Rattle.token.specs.Ascii.{ascii}
-use Rattle.token.specs.Tokens.{Token}
-use Rattle.printing.specs.Text.{decimal}
-use Rattle.statement.specs.Syntax.{Register, a-register, b-register, d-register, Item, register, mark, N, Field, number, eight-bits, target, Row, rowAt}
-use Rattle.assembler.specs.Text.{words, stored, assembleLeft}
+use Rattle.isa.specs.Instructions.{Read, instruction, unassigned, readOf, word, writeOf}
+use Rattle.expression.specs.Operands.{operandValue}
+use Rattle.expression.specs.Grammar.{Tree, valueOf}
+use Rattle.statement.specs.Syntax.{Line}
+use Rattle.statement.specs.Reading.{reads, valued}
+use Rattle.encoding.specs.Words.{gives}
+use Rattle.listing.specs.Listing.{instructionText, textOf}
+use Rattle.assembler.specs.Text.{judged, words, stored, assembleLeft}
+use Rattle.claims.specs.Assembly.{Reads}
+use Rattle.claims.specs.Instructions.{cleared}
 
--- R0 to R7
-abbrev pub registerToken : ℕ → Token
-registerToken k = 82 ∷ (48 + k) ∷ []
+-- w with the bits cleared that reading ignores; an unassigned word as it is
+abbrev pub clearedAs : Read → ℕ → ℕ
+clearedAs (instruction i) w = cleared (i .kind) w
+clearedAs unassigned w = w
 
--- a number in decimal, after a minus sign where it is negative (negsuc x is -(x + 1))
-abbrev pub numberTokens : ℤ → List Token
-numberTokens (pos x) = decimal x ∷ []
-numberTokens (negsuc x) = ascii "-" ∷ decimal (suc x) ∷ []
+abbrev pub clearedWord : ℕ → ℕ
+clearedWord w = clearedAs (readOf w) w
 
--- the operand for n: n itself, or the target of a branch at address 0
-abbrev pub operandTokens : Field → ℤ → List Token
-operandTokens number n = numberTokens n
-operandTokens eight-bits n = numberTokens n
-operandTokens target n = decimal ((2 + 2 * lowBits 16 n) % 65536) ∷ []
+-- the text of w at an address is a line without a name whose reading, taken at that address with no names, gives w back
+pub record GivesBack (address w : ℕ) : Type 0 where
+  pub line : Line Tree
+  pub read : Reads (textOf address w) line
+  pub unnamed : line .label ≡ []
+  pub gives-back : judged (record { names = []; address = address }) (valued (valueOf (operandValue [])) (reads line)) ≡ gives (clearedWord w)
 
-module _ (i : Instruction) where
-  abbrev pub registerOf : Register → ℕ
-  registerOf a-register = i .a
-  registerOf b-register = i .b
-  registerOf d-register = i .d
+-- the texts of words that run on from an address, a line each
+unfoldable pub listed : ℕ → List ℕ → List ℕ
+listed address [] = []
+listed address (w ∷ ws) = textOf address w ++ (10 ∷ listed (address + 2) ws)
 
-  abbrev pub itemTokens : Field → Item → List Token
-  itemTokens f (register r) = registerToken (registerOf r) ∷ []
-  itemTokens f (mark m) = (m ∷ []) ∷ []
-  itemTokens f N = operandTokens f (i .n)
-
-  unfoldable pub itemsTokens : Field → List Item → List Token
-  itemsTokens f [] = []
-  itemsTokens f (t ∷ ts) = itemTokens f t ++ itemsTokens f ts
-
-  abbrev pub rowOf : Row
-  rowOf = rowAt (kindNumber (i .kind))
-
-  unfoldable pub tokensOf : List Token
-  tokensOf = rowOf .mnemonic ∷ itemsTokens (rowOf .field) (rowOf .items)
-
--- each token, and a space after it
-unfoldable pub spaced : List Token → List ℕ
-spaced [] = []
-spaced (t ∷ ts) = t ++ (32 ∷ spaced ts)
-
--- the text of an instruction, of one line
-unfoldable pub textOf : Instruction → List ℕ
-textOf i = spaced (tokensOf i)
+-- 16-bit words
+pub data Words : List ℕ → Type 0 where
+  none : Words []
+  more : {w : ℕ} {ws : List ℕ} → w < 65536 → Words ws → Words (w ∷ ws)
 
 pub record Texts : Type 0 where
-  -- the text of every instruction that `write` accepts assembles to its word
+  -- the text of every word, at every address, gives the word back,
+  pub gives-back : (address w : ℕ) → w < 65536 → GivesBack address w
+  -- so a whole listing of at most 65,536 bytes assembles to its words,
   pub assembles :
+      (ws program : List ℕ) → Words ws → length (listed 0 ws) ≤ 65536 → length program ≡ 65536
+      → assembleLeft (listed 0 ws) program ≡ record { reply = words (length ws); program = stored (map clearedWord ws) program }
+  -- and the text of every instruction that `write` accepts assembles to its word
+  pub instructions :
       (i : Instruction) (w : ℕ) (program : List ℕ) → writeOf i ≡ word w → length program ≡ 65536
-      → assembleLeft (textOf i) program ≡ record { reply = words 1; program = stored (w ∷ []) program }
+      → assembleLeft (instructionText 0 i) program ≡ record { reply = words 1; program = stored (w ∷ []) program }

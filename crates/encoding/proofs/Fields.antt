@@ -16,10 +16,10 @@ use Rattle.word.specs.Word.{pick, signed}
 use Rattle.word.proofs.Signed.{signed-is}
 use Rattle.word.proofs.Tests.{either}
 use Rattle.token.specs.Tokens.{between}
-use Rattle.statement.specs.Syntax.{Field, number, eight-bits, target, rowAt}
 use Rattle.encoding.specs.Words.{distance, odd, numberOf}
-use Rattle.statement.proofs.Tables.{column}
-use Rattle.encoding.specs.Numbers.{signedIn, fieldOf}
+use Rattle.statement.specs.Syntax.{number, eight-bits}
+use Rattle.statement.specs.Table.{fieldOf}
+use Rattle.encoding.specs.Numbers.{signedIn}
 
 pub signed-in : (k x : ℕ) → 0 < k → x < 2 ^ k → signedIn (2 ^ (k - 1)) x ≡ signed k x
 unfolding signedIn
@@ -69,12 +69,3 @@ number-signed {f} a v h n m =
     go true true true p q r = absurd (m (eqb-true _ _ p) (leb-true _ _ q) (leb-true _ _ r))
     go true true false p q r = rw (q, r)
     go true false u p q r = rw q
-
--- ---- The rows' fields
-
--- BZ is row 19, BNZ 20 and MOVI 21
-abbrev fieldAt : ℕ → Field
-fieldAt k = pick (eqb k 19) target (pick (eqb k 20) target (pick (eqb k 21) eight-bits number))
-
-pub field-row : (k : ℕ) → k < 26 → fieldAt k ≡ rowAt k .field
-field-row = column fieldAt (λ r. r .field) refl

@@ -7,17 +7,13 @@ use lib.IntN.{ℤ, pos, negsuc}
 use Rattle.word.specs.Word.{pick}
 use Rattle.expression.specs.declared.Value.{Value}
 use Rattle.encoding.specs.declared.Judged.{Judged as Outcome}
-use Rattle.statement.specs.Syntax.{Field, number, eight-bits, target, Parts}
+use Rattle.statement.specs.Syntax.{Parts}
 use Rattle.encoding.specs.Words.{Judged, bad, nothing, gives, stated, wordsIn}
 use Rattle.statement.specs.Parts.{shownStatement}
 
 -- x, one of 2 * half numbers, as the signed number of the same bits
 unfoldable pub signedIn : ℕ → ℕ → ℤ
 signedIn half x = pick (ltb x half) (pos x) (negsuc (2 * half - suc x))
-
--- the field that a number of the code stands for
-unfoldable pub fieldOf : ℕ → Field
-fieldOf f = pick (eqb f 2) target (pick (eqb f 1) eight-bits number)
 
 -- number 0: it is not turned away
 unfoldable pub shownJudged : Outcome → Judged

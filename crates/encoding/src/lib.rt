@@ -1,11 +1,10 @@
 // The word of a statement.
 ghost use mathlib.Core.Path.{_≡_};
 ghost use Prim.Native.Nat.{_*_, _<_, _≤_};
-ghost use Rattle.statement.specs.Syntax.{rowAt};
 ghost use Rattle.encoding.specs.Words.{distance, odd, numberOf, encoded};
 ghost use Rattle.statement.specs.Parts.{shownParts};
-ghost use Rattle.encoding.specs.Numbers.{shownJudged};
-ghost use Rattle.encoding.specs.Numbers.{signedIn, fieldOf, OneWord};
+ghost use Rattle.statement.specs.Table.{fieldOf};
+ghost use Rattle.encoding.specs.Numbers.{shownJudged, signedIn, OneWord};
 use isa::Instruction;
 use isa::Writing;
 use statement::operands::Parts;
@@ -26,21 +25,6 @@ const BAD_VALUE: u8 = 12;
 
 // The row of `.word`.
 const WORD: usize = 25;
-
-// How the value of a row's operand becomes a number: 1 MOVI's eight bits, 2 a branch's target, 0 read as signed.
-fn field_of(row: usize) -> u8
-    requires { ⌜ row < 26 ⌝ }
-    ensures { λ r. ⌜ fieldOf r ≡ rowAt row .field ⌝ }
-{
-    match row {
-        // BZ and BNZ
-        19 => 2,
-        20 => 2,
-        // MOVI
-        21 => 1,
-        _ => 0,
-    }
-}
 
 // x, one of 2 * half numbers, as the signed number of the same bits.
 fn signed_in(half: u16, x: u16) -> i16
@@ -117,7 +101,7 @@ fn encoded(row: usize, address: usize, parts: Parts) -> Judged
     if row == WORD {
         return gives(v);
     }
-    let field = field_of(row);
+    let field = rows::field_of(row);
     if is_odd(field, address, v) {
         return turned_away(BAD_VALUE, 1);
     }

@@ -13,7 +13,7 @@ use Rattle.word.proofs.Tests.{clash, passed}
 use Rattle.machine.specs.Lengths.{lengthsFit}
 use Rattle.image.specs.declared.Part.{Part}
 use Rattle.image.specs.Parts.{programPart, dataPart}
-use Rattle.image.specs.Image.{W, programOffset, C, dataOffset, partsFit, inside, partsInside, LoadGiven, loadReply}
+use Rattle.image.specs.Image.{W, programOffset, C, dataOffset, partsFit, inside, partsInside, LoadGiven, fileReply, loadReply}
 
 pub passes : {answer test : Bool} → answer ≡ test → not answer ≡ false → test ≡ true
 passes e h = sym e ∙ not-false _ h
@@ -21,45 +21,53 @@ passes e h = sym e ∙ not-false _ h
 pub fails : {answer test : Bool} → answer ≡ test → not answer ≡ true → test ≡ false
 fails e h = sym e ∙ not-true _ h
 
--- a memory, and the part of the file that goes to it
-pub record PartFits (file memory : List ℕ) (part : Part) : Type 0 where
-  pub memory-length : length memory ≡ 65536
+-- a part, whose bytes the file has, and which a memory has room for
+pub record PartInside (file : List ℕ) (part : Part) : Type 0 where
   pub inside-file : part .offset + part .count ≤ length file
   pub inside-memory : part .count ≤ 65536
 
-pub record Fits (g : LoadGiven) : Type 0 where
-  pub header : 16 ≤ length (g .file)
-  pub program : PartFits (g .file) (g .P) (programPart (g .file))
-  pub bytes : PartFits (g .file) (g .D) (dataPart (g .file))
-  pub inputs : length (g .I) ≡ 256
-  pub outputs : length (g .O) ≡ 256
+pub record FileFits (file : List ℕ) : Type 0 where
+  pub header : 16 ≤ length file
+  pub program : PartInside file (programPart file)
+  pub bytes : PartInside file (dataPart file)
 
-part-fits : (file memory : List ℕ) (part : Part) → eqb (length memory) 65536 ≡ true → part .count ≤ 65536
-    → inside file (part .offset) (part .count) ≡ true → PartFits file memory part
-part-fits file memory part l k h =
-    record {
-      memory-length = eqb-true _ _ l;
-      inside-file = leb-true _ _ (and-eq-true-iff (leb 16 (part .offset)) _ .0 h .1);
-      inside-memory = k;
-    }
+part-inside : (file : List ℕ) (part : Part) → part .count ≤ 65536 → inside file (part .offset) (part .count) ≡ true → PartInside file part
+part-inside file part k h =
+    record { inside-file = leb-true _ _ (and-eq-true-iff (leb 16 (part .offset)) _ .0 h .1); inside-memory = k }
 
-pub fits : (g : LoadGiven) → accepted ≡ loadReply g → Fits g
-unfolding loadReply
-fits g e =
-    let file = g .file in
-    let lent = passed (lengthsFit (g .P) (g .D) (g .I) (g .O)) (λ x. clash (cc)) (sym e) in
-    let long = passed (leb 16 (length file)) (λ x. clash (cc)) (lent .1) in
+pub file-fits : (file : List ℕ) → accepted ≡ fileReply file → FileFits file
+unfolding fileReply
+file-fits file e =
+    let long = passed (leb 16 (length file)) (λ x. clash (cc)) (sym e) in
     let sizes = passed (partsFit file) (λ x. clash (cc)) (long .1) in
     let places = passed (partsInside file) (λ x. clash (cc)) (sizes .1) in
-    let to-outputs = and-eq-true-iff _ (eqb (length (g .O)) 256) .0 (lent .0) in
-    let to-inputs = and-eq-true-iff _ (eqb (length (g .I)) 256) .0 (to-outputs .0) in
-    let memories = and-eq-true-iff (eqb (length (g .P)) 65536) _ .0 (to-inputs .0) in
     let counts = and-eq-true-iff (leb (W file) 32768) _ .0 (sizes .0) in
     let parts = and-eq-true-iff (inside file (programOffset file) (2 * W file)) _ .0 (places .0) in
     record {
       header = leb-true _ _ (long .0);
-      program = part-fits _ _ _ (memories .0) (mul-le-mul-left 2 (leb-true _ _ (counts .0))) (parts .0);
-      bytes = part-fits _ _ _ (memories .1) (leb-true _ _ (counts .1)) (parts .1);
+      program = part-inside _ _ (mul-le-mul-left 2 (leb-true _ _ (counts .0))) (parts .0);
+      bytes = part-inside _ _ (leb-true _ _ (counts .1)) (parts .1);
+    }
+
+-- the file, and what is lent
+pub record Fits (g : LoadGiven) : Type 0 where
+  pub file : FileFits (g .file)
+  pub program : length (g .P) ≡ 65536
+  pub memory : length (g .D) ≡ 65536
+  pub inputs : length (g .I) ≡ 256
+  pub outputs : length (g .O) ≡ 256
+
+pub fits : (g : LoadGiven) → accepted ≡ loadReply g → Fits g
+unfolding loadReply
+fits g e =
+    let lent = passed (lengthsFit (g .P) (g .D) (g .I) (g .O)) (λ x. clash (cc)) (sym e) in
+    let to-outputs = and-eq-true-iff _ (eqb (length (g .O)) 256) .0 (lent .0) in
+    let to-inputs = and-eq-true-iff _ (eqb (length (g .I)) 256) .0 (to-outputs .0) in
+    let memories = and-eq-true-iff (eqb (length (g .P)) 65536) _ .0 (to-inputs .0) in
+    record {
+      file = file-fits (g .file) (sym (lent .1));
+      program = eqb-true _ _ (memories .0);
+      memory = eqb-true _ _ (memories .1);
       inputs = eqb-true _ _ (to-inputs .1);
       outputs = eqb-true _ _ (to-outputs .1);
     }
@@ -68,5 +76,5 @@ fits g e =
 pub no-refusal : (g : LoadGiven) → lengthsFit (g .P) (g .D) (g .I) (g .O) ≡ true → 16 ≤ length (g .file) → W (g .file) ≤ 32768 → C (g .file) ≤ 65536
     → 16 ≤ programOffset (g .file) → programOffset (g .file) + 2 * W (g .file) ≤ length (g .file)
     → 16 ≤ dataOffset (g .file) → dataOffset (g .file) + C (g .file) ≤ length (g .file) → accepted ≡ loadReply g
-unfolding loadReply
+unfolding loadReply fileReply
 no-refusal g l h w c p q d e = rw (l, le-leb _ _ h, le-leb _ _ w, le-leb _ _ c, le-leb _ _ p, le-leb _ _ q, le-leb _ _ d, le-leb _ _ e)

@@ -11,15 +11,15 @@ use Rattle.machine.specs.Machine.{reset}
 use Rattle.image.specs.Image.{W, programOffset, C, dataOffset, memoryOf, loaded, LoadLeft, LoadGiven, loadReply, leftBy, loadLeft}
 use Rattle.image.specs.declared.Part.{Part}
 use Rattle.image.specs.Parts.{ReadAs}
-use Rattle.image.proofs.Fits.{PartFits}
+use Rattle.image.proofs.Fits.{PartInside}
 
-module _ {file memory : List ℕ} {part read : Part} (f : PartFits file memory part) (r : ReadAs part read) where
-  pub can-place : (read .offset + read .count ≤ length file) × (read .count ≤ length memory)
+module _ {file : List ℕ} {part read : Part} {n : ℕ} (l : n ≡ 65536) (f : PartInside file part) (r : ReadAs part read) where
+  pub can-place : (read .offset + read .count ≤ length file) × (read .count ≤ n)
   can-place = omega (arith, f, r)
 
-  pub memory-left : {M : List ℕ} → M ≡ take (read .count) (drop (read .offset) file) ++ replicate (length memory - read .count) 0
+  pub memory-left : {M : List ℕ} → M ≡ take (read .count) (drop (read .offset) file) ++ replicate (n - read .count) 0
       → M ≡ memoryOf file (part .offset) (part .count)
-  memory-left e = e ∙ rw (r .offset, r .count, f .memory-length)
+  memory-left e = e ∙ rw (r .offset, r .count, l)
 
 pub ports-left : {n : ℕ} {M : List ℕ} → n ≡ 256 → M ≡ replicate n 0 → M ≡ replicate 256 0
 ports-left l e = e ∙ rw l

@@ -82,14 +82,15 @@ pub record LoadLeft : Type 0 where
   pub I : List ℕ
   pub O : List ℕ
 
--- Load 1 to 4: a number is given when its condition holds and no earlier test does.
+-- Load 1 to 4: a number is given when its condition holds and no earlier test does. 2 to 4 are tests of the file alone.
+unfoldable pub fileReply : List ℕ → Verdict
+fileReply file =
+    pick (leb 16 (length file))
+    (pick (partsFit file) (pick (partsInside file) accepted (refused 4)) (refused 3))
+    (refused 2)
+
 unfoldable pub loadReply : LoadGiven → Verdict
-loadReply g =
-    pick (lengthsFit (g .P) (g .D) (g .I) (g .O))
-    (pick (leb 16 (length (g .file)))
-    (pick (partsFit (g .file)) (pick (partsInside (g .file)) accepted (refused 4)) (refused 3))
-    (refused 2))
-    (refused 1)
+loadReply g = pick (lengthsFit (g .P) (g .D) (g .I) (g .O)) (fileReply (g .file)) (refused 1)
 
 -- A refused load changes nothing lent; the state beside its number is the reset one.
 abbrev pub leftBy : Verdict → LoadGiven → LoadLeft

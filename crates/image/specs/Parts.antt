@@ -1,4 +1,4 @@
--- What the contracts of the crate's private functions cite; nothing here is promised to a caller.
+-- The parts of a file as the code reads them.
 use Prim.Native.Nat.{ℕ, _+_, _*_, _<_}
 use mathlib.Core.Path.{_≡_}
 use mathlib.Core.List.{List}

@@ -5,7 +5,7 @@ ghost use Prim.Native.Nat.{_+_, _-_, _<_, _≤_};
 ghost use lib.ListN.{length, take, drop, replicate};
 ghost use Rattle.refusal.specs.Refusals.{accepted};
 ghost use Rattle.image.specs.Parts.{programPart, dataPart, ReadAs};
-ghost use Rattle.image.specs.Image.{number32, partsFit, inside, partsInside, LoadLeft, loadReply, leftBy, loadLeft, shownLoading};
+ghost use Rattle.image.specs.Image.{number32, partsFit, inside, partsInside, LoadLeft, fileReply, loadReply, leftBy, loadLeft, shownLoading};
 use block::copy;
 use bus::lengths_fit;
 use machine::State;
@@ -24,9 +24,9 @@ pub struct Loaded {
 }
 
 // A part of the file, in bytes.
-struct Part {
-    offset: usize,
-    count: usize,
+pub struct Part {
+    pub offset: usize,
+    pub count: usize,
 }
 
 pub const HEADER_BYTES: usize = 16;
@@ -56,7 +56,7 @@ fn number32(file: &[u8], at: usize) -> usize
     low + 65536 * high
 }
 
-fn program_part(file: &[u8]) -> Part
+pub fn program_part(file: &[u8]) -> Part
     requires { ⌜ 16 ≤ length (now file) ⌝ }
     ensures { λ p. ⌜ ReadAs (programPart (now (file .entry))) p ⌝ }
 {
@@ -98,13 +98,10 @@ fn parts_inside(file: &[u8]) -> bool
     inside(file, program_part(file)) & inside(file, data_part(file))
 }
 
-// The tests of the refusal table, in their order.
-fn verdict(file: &[u8], program: &[u8], memory: &[u8], inputs: &[u16], outputs: &[u16]) -> Loading
-    ensures { λ r. ⌜ shownLoading r ≡ loadReply (record { file = now (file .entry); P = now (program .entry); D = now (memory .entry); I = now (inputs .entry); O = now (outputs .entry) }) ⌝ }
+// The tests of the refusal table that look at the file alone, in their order.
+pub fn file_verdict(file: &[u8]) -> Loading
+    ensures { λ r. ⌜ shownLoading r ≡ fileReply (now (file .entry)) ⌝ }
 {
-    if !lengths_fit(program, memory, inputs, outputs) {
-        return Loading::Refused(Refusal::LentLength);
-    }
     if file.len() < HEADER_BYTES {
         return Loading::Refused(Refusal::ShortFile);
     }
@@ -115,6 +112,16 @@ fn verdict(file: &[u8], program: &[u8], memory: &[u8], inputs: &[u16], outputs: 
         return Loading::Refused(Refusal::PartOutside);
     }
     Loading::Accepted
+}
+
+// What is lent is tested before the file.
+fn verdict(file: &[u8], program: &[u8], memory: &[u8], inputs: &[u16], outputs: &[u16]) -> Loading
+    ensures { λ r. ⌜ shownLoading r ≡ loadReply (record { file = now (file .entry); P = now (program .entry); D = now (memory .entry); I = now (inputs .entry); O = now (outputs .entry) }) ⌝ }
+{
+    if !lengths_fit(program, memory, inputs, outputs) {
+        return Loading::Refused(Refusal::LentLength);
+    }
+    file_verdict(file)
 }
 
 fn zero_bytes(bytes: &mut [u8])

@@ -1,8 +1,8 @@
 -- The sheet's lines in the numbers that the code computes with. Nothing here is promised to a caller: proofs/Lines.antt
 -- shows that each layout says what the sheet's line says.
-use Prim.Native.Nat.{ℕ, suc, _+_, _-_, _*_, _/_, _%_, _<_, _≤_}
+use Prim.Native.Nat.{ℕ, suc, _+_, _-_, _*_, _/_, _%_, _^_, _<_, _≤_}
 use mathlib.Core.List.{List, [], _∷_}
-use lib.Dec.{ltb}
+use lib.Dec.{eqb, ltb}
 use lib.IntN.{ℤ, pos, negsuc}
 use lib.ListN.{length, getD}
 use Rattle.refusal.specs.declared.Refusal.the-variants.{InstructionPart}
@@ -53,6 +53,10 @@ layoutOf (DUnsigned x) = numbersOf x 1 1 8 512 256 0
 -- the word of parts a, b, d and n's bits x
 abbrev pub wordSum : Layout → ℕ → ℕ → ℕ → ℕ → ℕ
 wordSum m a b d x = m .base + a * 512 + b * 64 + d * m .weight + x
+
+-- Rk as a mask, of a part that has so many values; none where that is one, and the part unused
+abbrev pub maskIn : ℕ → ℕ → ℕ
+maskIn values k = pick (eqb values 1) 0 (2 ^ k)
 
 -- what the code relies on
 pub record Sound (m : Layout) : Type 0 where

@@ -1,3 +1,4 @@
 pub mod Sheet
 pub mod Instructions
+pub mod Masks
 pub mod Layouts

@@ -1,5 +1,5 @@
 -- What each function of include/sisa.h replies and leaves, of what it is given. The crates that do the work decide it
--- (`loadLeft`, `saveLeft`, `assembleLeft`, `setLeft`, `runLeft`, `readOf`, `writeOf`, `windowOf`); here their replies become the numbers of the header's
+-- (`loadLeft`, `saveLeft`, `assembleLeft`, `setLeft`, `runLeft`, `decodingOf`, `writeOf`, `windowOf`); here their replies become the numbers of the header's
 -- structs. A refusal of 0 is an accepted call; a field that a case does not speak of is 0.
 use Prim.Native.Nat.{ℕ, _+_}
 use mathlib.Core.Bool.{_&&_, not}
@@ -13,6 +13,7 @@ use Rattle.word.specs.Word.{pick}
 use Rattle.kinds.specs.declared.Kind.the-variants.{And}
 use Rattle.kinds.specs.Kinds.{kinds, kindNumber}
 use Rattle.isa.specs.Instructions.{Read, instruction, unassigned, Written, word, refused as write-refused, writeOf}
+use Rattle.isa.specs.Masks.{Masks, Decoding}
 use Rattle.machine.specs.declared.State.{State}
 use Rattle.machine.specs.Run.{Stepper}
 use Rattle.panel.specs.Calls.{SetGiven, SetLeft, setLeft}
@@ -151,9 +152,13 @@ HostStepMeets h answer after =
 
 -- ---- sisa_read
 
-abbrev pub sisaInstruction : Read → SisaInstruction
-sisaInstruction (instruction i) = record { assigned = 1; kind = kindNumber (i .kind); a = i .a; b = i .b; d = i .d; n = i .n }
-sisaInstruction unassigned = record { assigned = 0; kind = 0; a = 0; b = 0; d = 0; n = pos 0 }
+abbrev pub instructionInNumbers : Read → Masks → SisaInstruction
+instructionInNumbers (instruction i) z =
+    record { assigned = 1; kind = kindNumber (i .kind); a = i .a; b = i .b; d = i .d; n = i .n; reads = z .reads; writes = z .writes }
+instructionInNumbers unassigned z = record { assigned = 0; kind = 0; a = 0; b = 0; d = 0; n = pos 0; reads = z .reads; writes = z .writes }
+
+abbrev pub sisaInstruction : Decoding → SisaInstruction
+sisaInstruction z = instructionInNumbers (z .reading) (z .masks)
 
 -- ---- sisa_write
 

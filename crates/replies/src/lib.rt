@@ -7,11 +7,13 @@ ghost use Rattle.save.specs.Saved.{shownSaving};
 ghost use Rattle.assembler.specs.Passes.{shownAssembly};
 ghost use Rattle.panel.specs.Calls.{shownSetting};
 ghost use Rattle.run.specs.Runs.{shownAnswer};
-ghost use Rattle.isa.specs.Instructions.{shownReading, shownWriting};
+ghost use Rattle.isa.specs.Instructions.{shownWriting};
+ghost use Rattle.isa.specs.Masks.{shownDecoded};
 ghost use Rattle.replies.specs.Sisa.{sisaLoad, sisaSaved, sisaAssembly, verdictNumber, sisaRun, sisaInstruction, sisaWord, sisaWrite};
 use assembler::Assembly;
 use image::Loaded;
 use image::Loading;
+use isa::Decoded;
 use isa::Instruction;
 use isa::Reading;
 use isa::Writing;
@@ -53,6 +55,8 @@ pub struct SisaInstruction {
     pub b: u8,
     pub d: u8,
     pub n: i16,
+    pub reads: u8,
+    pub writes: u8,
 }
 
 #[repr(C)]
@@ -155,9 +159,10 @@ pub fn run(ran: Ran) -> SisaRun
     }
 }
 
-pub fn instruction(reading: Reading) -> SisaInstruction
-    ensures { λ r. ⌜ r ≡ sisaInstruction (shownReading reading) ⌝ }
+pub fn instruction(decoded: Decoded) -> SisaInstruction
+    ensures { λ r. ⌜ r ≡ sisaInstruction (shownDecoded decoded) ⌝ }
 {
+    let reading = decoded.reading;
     match reading {
         Reading::Instruction(i) => {
             let kind = i.kind;
@@ -168,6 +173,8 @@ pub fn instruction(reading: Reading) -> SisaInstruction
                 b: i.b,
                 d: i.d,
                 n: i.n,
+                reads: decoded.reads,
+                writes: decoded.writes,
             }
         }
         Reading::Unassigned => SisaInstruction {
@@ -177,6 +184,8 @@ pub fn instruction(reading: Reading) -> SisaInstruction
             b: 0,
             d: 0,
             n: 0,
+            reads: decoded.reads,
+            writes: decoded.writes,
         },
     }
 }

@@ -1,10 +1,11 @@
 // What the program `panelrun` prints for a trim file: the file is loaded and run by the control table.
 ghost use mathlib.Core.Path.{_≡_};
 ghost use lib.ListN.{replicate};
+ghost use Rattle.refusal.specs.Refusals.{refusalNumber};
 ghost use Rattle.control.specs.Control.{byTable};
 ghost use Rattle.run.specs.Runs.{given, runLeft};
 ghost use Rattle.printing.specs.Text.{held};
-ghost use Rattle.report.specs.Printed.{ranLines, printed};
+ghost use Rattle.report.specs.Printed.{refusedLine, ranLines, printed};
 use image::Loading;
 use machine::State;
 use printing::Printed;
@@ -13,11 +14,23 @@ use run::Answer;
 
 mod lines;
 
-const FILE_BYTES: usize = 65536;
+// The most bytes that a file may have.
+pub const FILE_BYTES: usize = 65536;
 
 const BUDGET: u32 = 1000;
 
 const LOG_PLACES: usize = 64;
+
+// The line of a refusal.
+pub fn refused(refusal: Refusal) -> Printed
+    ensures { λ r. ⌜ r ≡ held (refusedLine (refusalNumber refusal)) ⌝ }
+{
+    let number = refusal::number(refusal);
+    Printed::empty()
+        .with_word(b"refused ")
+        .with_decimal(number as u64)
+        .with_byte(b'\n')
+}
 
 // The run of what a load left.
 fn run_loaded(
@@ -37,7 +50,7 @@ fn run_loaded(
             let entries = report.entries;
             lines::stopped(report, &log[..entries], ran.state)
         }
-        Answer::Refused(refusal) => lines::refused(refusal),
+        Answer::Refused(refusal) => refused(refusal),
     }
 }
 
@@ -46,7 +59,7 @@ pub fn report(file: &[u8]) -> Printed
     ensures { λ r. ⌜ r ≡ held (printed (now (file .entry))) ⌝ }
 {
     if FILE_BYTES < file.len() {
-        return lines::refused(Refusal::LongFile);
+        return refused(Refusal::LongFile);
     }
     let mut program = [0u8; State::MEMORY_BYTES];
     let mut memory = [0u8; State::MEMORY_BYTES];
@@ -62,6 +75,6 @@ pub fn report(file: &[u8]) -> Printed
             &mut inputs,
             &mut outputs,
         ),
-        Loading::Refused(refusal) => lines::refused(refusal),
+        Loading::Refused(refusal) => refused(refusal),
     }
 }

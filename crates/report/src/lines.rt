@@ -2,13 +2,11 @@
 ghost use mathlib.Core.Path.{_≡_};
 ghost use Prim.Native.Nat.{_*_, _≤_};
 ghost use lib.ListN.{length};
-ghost use Rattle.refusal.specs.Refusals.{refusalNumber};
 ghost use Rattle.printing.specs.Text.{each, held};
 ghost use Rattle.printing.specs.Writing.{Wrote};
-ghost use Rattle.report.specs.Printed.{runLine, outLine, pcLine, register, registersLine, refusedLine, stoppedLines};
+ghost use Rattle.report.specs.Printed.{runLine, outLine, pcLine, register, registersLine, stoppedLines};
 use machine::State;
 use printing::Printed;
-use refusal::Refusal;
 use run::Report;
 
 const SPACE: u8 = b' ';
@@ -90,15 +88,4 @@ pub fn stopped(report: Report, log: &[u64], state: State) -> Printed
     let run = with_run(Printed::empty(), report);
     let outs = with_outs(run, log);
     with_registers(with_pc(outs, state.pc), state)
-}
-
-// The line of a refusal.
-pub fn refused(refusal: Refusal) -> Printed
-    ensures { λ r. ⌜ r ≡ held (refusedLine (refusalNumber refusal)) ⌝ }
-{
-    let number = refusal::number(refusal);
-    Printed::empty()
-        .with_word(b"refused ")
-        .with_decimal(number as u64)
-        .with_byte(LINE_FEED)
 }

@@ -7,7 +7,7 @@ ghost use Rattle.machine.specs.Run.{byRules};
 ghost use Rattle.panel.specs.Calls.{windowOf};
 ghost use Rattle.control.specs.Control.{byTable};
 ghost use Rattle.run.specs.Runs.{given};
-ghost use Rattle.isa.specs.Instructions.{readOf};
+ghost use Rattle.isa.specs.Masks.{decodingOf};
 ghost use Rattle.replies.specs.Sisa.{SisaLoadLeft, sisaLoadLeft, SisaSaveLeft, sisaSaveLeft, SisaAssembleLeft, sisaAssembleLeft, SisaSetLeft, sisaSetLeft, sisaLeft, SisaRunMeets, sisaInstruction, sisaWrite, chosen, sisaWindow, bytesOf};
 use machine::Port;
 use machine::State;
@@ -93,7 +93,7 @@ pub extern "C" fn sisa_run_by_table(
 
 #[no_mangle]
 pub extern "C" fn sisa_read(word: u16) -> SisaInstruction
-    ensures { λ r. ⌜ r ≡ sisaInstruction (readOf word) ⌝ }
+    ensures { λ r. ⌜ r ≡ sisaInstruction (decodingOf word) ⌝ }
 {
     replies::instruction(isa::read(word))
 }

@@ -4,13 +4,14 @@ use Prim.Native.Nat.{ℕ, zero, suc, _+_, _*_, _<_, _≤_}
 use mathlib.Core.Path.{_≡_, refl, sym, ap, _∙_}
 use mathlib.Core.List.{List, [], _∷_, map}
 use native.Mathlib.Omega.{arith}
-use lib.Dec.{leb}
+use lib.Dec.{eqb, leb}
 use lib.ListN.{getD, List·getD-map}
 use borrow.Author.Tests.{leb-true}
+use Rattle.word.specs.Word.{pick}
 use Rattle.word.proofs.Computed.{all, all-at}
 use Rattle.word.proofs.Tests.{is-true}
 use Rattle.token.specs.Scan.{part}
-use Rattle.statement.specs.Syntax.{Row, table, rowAt}
+use Rattle.statement.specs.Syntax.{Field, number, eight-bits, target, Row, table, rowAt}
 use Rattle.statement.specs.Table.{rowText, mnemonicLengths, itemOf, itemsOf, cell}
 
 -- what f gives at the n numbers from k on
@@ -50,3 +51,10 @@ short-row k h = leb-true _ _ (is-true _ (all-at 26 (λ n. leb (getD mnemonicLeng
 pub items-row : (k : ℕ) → k < 26 → itemsOf (cell k) ≡ rowAt k .items
 unfolding itemOf itemsOf cell
 items-row = column (λ k. itemsOf (cell k)) (λ r. r .items) refl
+
+-- BZ is row 19, BNZ 20 and MOVI 21
+abbrev fieldAt : ℕ → Field
+fieldAt k = pick (eqb k 19) target (pick (eqb k 20) target (pick (eqb k 21) eight-bits number))
+
+pub field-row : (k : ℕ) → k < 26 → fieldAt k ≡ rowAt k .field
+field-row = column fieldAt (λ r. r .field) refl

@@ -7,7 +7,7 @@ use lib.Dec.{eqb}
 use lib.ListN.{take, drop}
 use Rattle.word.specs.Word.{pick}
 use Rattle.token.specs.Ascii.{ascii}
-use Rattle.statement.specs.Syntax.{Item, register, a-register, b-register, d-register, mark, N}
+use Rattle.statement.specs.Syntax.{Item, register, a-register, b-register, d-register, mark, N, Field, number, eight-bits, target}
 
 abbrev pub rowText : List ℕ
 rowText = ascii "AND   d,a,b OR    d,a,b XOR   d,a,b NOT   d,a   ADD   d,a,b SUB   d,a,b SHA   d,a,b SHL   d,a,b CMPLT d,a,b CMPLE d,a,b CMPEQ d,a,b CMPLTUd,a,b CMPLEUd,a,b ADDI  d,a,n LD    d,n(a)ST    n(a),bLDB   d,n(a)STB   n(a),bJALR  d,a   BZ    a,n   BNZ   a,n   MOVI  d,n   MOVHI d,n   IN    d,n   OUT   n,a   .word n     "
@@ -30,3 +30,7 @@ itemsOf (c ∷ cs) = pick (eqb c 32) [] (itemOf c ∷ itemsOf cs)
 
 unfoldable pub cell : ℕ → List ℕ
 cell k = take 6 (drop (12 * k + 6) rowText)
+
+-- the field that a number of the code stands for
+unfoldable pub fieldOf : ℕ → Field
+fieldOf f = pick (eqb f 2) target (pick (eqb f 1) eight-bits number)

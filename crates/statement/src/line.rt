@@ -65,14 +65,13 @@ fn statement_at(text: &[u8], names: &[usize], at: usize, label: usize, until: us
             parts: Parts::blank(),
         });
     };
-    let table =
-        b"AND   d,a,b OR    d,a,b XOR   d,a,b NOT   d,a   ADD   d,a,b SUB   d,a,b SHA   d,a,b SHL   d,a,b CMPLT d,a,b CMPLE d,a,b CMPEQ d,a,b CMPLTUd,a,b CMPLEUd,a,b ADDI  d,a,n LD    d,n(a)ST    n(a),bLDB   d,n(a)STB   n(a),bJALR  d,a   BZ    a,n   BNZ   a,n   MOVI  d,n   MOVHI d,n   IN    d,n   OUT   n,a   .word n     ";
-    let row = rows::row_of(text, table, start, end);
+    let table = rows::table();
+    let row = rows::row_of(text, &table, start, end);
     if rows::ROWS <= row {
         return Line::Outside;
     }
     let from = rows::ROW_BYTES * row + rows::OPERANDS_AT;
-    let o = crate::operands::operands_at(text, names, table, from, end);
+    let o = crate::operands::operands_at(text, names, &table, from, end);
     finished(text, o, row, label, until)
 }
 

@@ -1,10 +1,11 @@
 // The table of statements: the sheet's mnemonics in its order, then `.word`, and what stands in the operands of each.
 ghost use mathlib.Core.Path.{_≡_};
 ghost use Prim.Native.Nat.{_<_, _≤_};
-ghost use lib.ListN.{length};
+ghost use lib.ListN.{length, getD};
 ghost use Rattle.token.specs.Scan.{part};
+ghost use Rattle.statement.specs.Syntax.{rowAt};
 ghost use Rattle.statement.specs.Reading.{rowOf};
-ghost use Rattle.statement.specs.Table.{rowText};
+ghost use Rattle.statement.specs.Table.{rowText, mnemonicLengths, fieldOf};
 
 pub const ROWS: usize = 26;
 
@@ -12,6 +13,15 @@ pub const ROWS: usize = 26;
 pub const ROW_BYTES: usize = 12;
 
 pub const OPERANDS_AT: usize = 6;
+
+const TABLE_BYTES: usize = 312;
+
+// The text of the table.
+pub fn table() -> [u8; TABLE_BYTES]
+    ensures { λ r. ⌜ r ≡ rowText ⌝ }
+{
+    *b"AND   d,a,b OR    d,a,b XOR   d,a,b NOT   d,a   ADD   d,a,b SUB   d,a,b SHA   d,a,b SHL   d,a,b CMPLT d,a,b CMPLE d,a,b CMPEQ d,a,b CMPLTUd,a,b CMPLEUd,a,b ADDI  d,a,n LD    d,n(a)ST    n(a),bLDB   d,n(a)STB   n(a),bJALR  d,a   BZ    a,n   BNZ   a,n   MOVI  d,n   MOVHI d,n   IN    d,n   OUT   n,a   .word n     "
+}
 
 // The bytes of each mnemonic.
 const LENGTHS: [u8; ROWS] = [
@@ -42,6 +52,28 @@ const LENGTHS: [u8; ROWS] = [
     3,
     5,
 ];
+
+pub fn mnemonic_length(row: usize) -> usize
+    requires { ⌜ row < 26 ⌝ }
+    ensures { λ r. ⌜ r ≡ getD mnemonicLengths row 0 ⌝ }
+{
+    LENGTHS[row] as usize
+}
+
+// How the value of a row's operand becomes a number: 1 MOVI's eight bits, 2 a branch's target, 0 read as signed.
+pub fn field_of(row: usize) -> u8
+    requires { ⌜ row < 26 ⌝ }
+    ensures { λ r. ⌜ fieldOf r ≡ rowAt row .field ⌝ }
+{
+    match row {
+        // BZ and BNZ
+        19 => 2,
+        20 => 2,
+        // MOVI
+        21 => 1,
+        _ => 0,
+    }
+}
 
 // The place of the row with the mnemonic from start to end, or ROWS.
 pub fn row_of(text: &[u8], rows: &[u8], start: usize, end: usize) -> usize

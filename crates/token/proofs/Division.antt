@@ -101,7 +101,7 @@ joins-on (single h n) c w b e = no-snoc w b (cc)
 
 -- ---- Where a token ends
 
-some-byte : {t : Token} → IsToken t → 0 < length t
+pub some-byte : {t : Token} → IsToken t → 0 < length t
 some-byte (row (last h)) = omega arith
 some-byte (row (then h r)) = omega arith
 some-byte (pointed r) = omega arith
@@ -116,7 +116,7 @@ longest-over t (b ∷ s) i l = go (joins t b) refl
     go true e = absurd (l (joined b i e))
     go false e = refl
 
-over-longest : (t s : List ℕ) → 0 < length t → Over t s → Longest t s
+pub over-longest : (t s : List ℕ) → 0 < length t → Over t s → Longest t s
 over-longest t [] n o = tt
 over-longest [] (b ∷ s) n o = absurd (omega arith)
 over-longest (c ∷ t) (b ∷ s) n o = λ i. never (sym o ∙ joins-on i c t b refl)

@@ -39,12 +39,18 @@ pub fn extend8(w: u16) -> u16
     n + n / 128 * 65280
 }
 
-// PC+2+2·SE(N8): where the branch w at pc goes.
+// PC+2+2·SE(N8), from PC and SE(N8).
+pub fn target(pc: u16, offset: u16) -> u16
+    ensures { λ r. ⌜ r ≡ add (add pc 2) (offset * 2) ⌝ }
+{
+    (((pc as u32) + 2 + 2 * (offset as u32)) % 65536) as u16
+}
+
+// Where the branch w at pc goes.
 pub fn branch_target(pc: u16, w: u16) -> u16
     ensures { λ r. ⌜ r ≡ add (add pc 2) (SE 8 (N8 w) * 2) ⌝ }
 {
-    let offset = extend8(w) as u32;
-    (((pc as u32) + 2 + 2 * offset) % 65536) as u16
+    target(pc, extend8(w))
 }
 
 // x shifted by the low 5 bits t of y: left by t below 16, else right by 32 - t, where 16 bits `fill` stand above x.

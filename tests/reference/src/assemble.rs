@@ -17,6 +17,7 @@ use line::{lines, read, Line};
 use names::{Given, Names};
 use statement::Statement;
 
+pub(crate) use statement::syntax;
 pub use trim::{refused_line, trim};
 
 /// "a refusal returns line (from 1; 0 with number 1) and number"
@@ -39,6 +40,14 @@ pub fn assemble(text: &[u8], program: &mut [u8]) -> Result<u32, Refused> {
         place.copy_from_slice(&word.to_le_bytes());
     }
     Ok(words.len() as u32)
+}
+
+/// The word that one line gives, if any, at this address and with no names, or
+/// the lowest number that it has.
+pub fn word_at(address: u16, line: &[u8]) -> Result<Option<u16>, u8> {
+    let statement = read(line).ok_or(10)?.statement;
+    let word = statement.map(|x| x.word(address, &Names::default()));
+    word.transpose()
 }
 
 /// A line that has a reading, at its place.

@@ -13,8 +13,6 @@ pub use calls::lines;
 pub use files::file;
 pub use tables::{lines as table_lines, table};
 
-use std::io::{self, Write};
-
 /// "Number k of case c"
 pub fn number(c: u64, k: u64) -> u64 {
     let t = ((c * 65_536 + k) * 2_654_435_761 + 97) % 4_294_967_296;
@@ -55,14 +53,4 @@ impl Digest {
     pub fn value(&self) -> u64 {
         self.0
     }
-}
-
-/// Prints the lines: "every line ends in a line feed".
-pub fn print(lines: &[String]) -> io::Result<()> {
-    let mut out = io::BufWriter::new(io::stdout().lock());
-    for line in lines {
-        out.write_all(line.as_bytes())?;
-        out.write_all(b"\n")?;
-    }
-    out.flush()
 }

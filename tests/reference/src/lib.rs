@@ -1,5 +1,5 @@
 //! The SISA trim processor of paper 01, the SISA reference sheet (004) and
-//! requests L1 and L2 of paper 02, written from those papers alone, to be
+//! requests L1, L2 and L4 of paper 02, written from those papers alone, to be
 //! compared with another build.
 //!
 //! Sentences in quotation marks are paper 01's unless "sheet" is said.
@@ -9,9 +9,12 @@ pub mod assemble;
 pub mod conformance;
 pub mod control;
 pub mod instruction;
+pub mod listing;
 pub mod load;
 pub mod machine;
+pub mod masks;
 mod number;
+pub mod program;
 pub mod report;
 pub mod run;
 pub mod save;

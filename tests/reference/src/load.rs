@@ -40,6 +40,20 @@ fn part(file: &[u8], offset: u64, length: u64) -> Option<&[u8]> {
     file.get(offset as usize..(offset + length) as usize)
 }
 
+/// The program part and the data part, or the refusal's number, 2 to 4.
+pub fn parts(file: &[u8]) -> Result<(&[u8], &[u8]), u8> {
+    // "2 | file under 16 bytes"
+    let header = header(file).ok_or(2)?;
+    // "3 | W or C over its limit": "W is at most 32,768, C at most 65,536."
+    if header.w > 32_768 || header.c > 65_536 {
+        return Err(3);
+    }
+    // "4 | an offset or part end outside its bounds"
+    let program = part(file, header.program_offset, 2 * header.w).ok_or(4)?;
+    let data = part(file, header.data_offset, header.c).ok_or(4)?;
+    Ok((program, data))
+}
+
 /// "Loading copies them to P[0..] and D[0..], zeroes all other memory and
 /// ports": here one memory.
 fn fill(memory: &mut [u8], part: &[u8]) {
@@ -61,21 +75,7 @@ pub fn load(
     if p.len() != MEMORY || d.len() != MEMORY || i.len() != PORTS || o.len() != PORTS {
         return Err(1);
     }
-    // "2 | file under 16 bytes"
-    let Some(header) = header(file) else {
-        return Err(2);
-    };
-    // "3 | W or C over its limit": "W is at most 32,768, C at most 65,536."
-    if header.w > 32_768 || header.c > 65_536 {
-        return Err(3);
-    }
-    // "4 | an offset or part end outside its bounds"
-    let Some(program) = part(file, header.program_offset, 2 * header.w) else {
-        return Err(4);
-    };
-    let Some(data) = part(file, header.data_offset, header.c) else {
-        return Err(4);
-    };
+    let (program, data) = parts(file)?;
     fill(p, program);
     fill(d, data);
     i.fill(0);

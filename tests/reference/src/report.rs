@@ -6,10 +6,20 @@ use crate::run::{run, Engine, Reply};
 
 /// The lines for a file's bytes, without line ends.
 pub fn lines(file: &[u8]) -> Vec<String> {
-    match outcome(file) {
-        Ok(lines) => lines,
-        // "A refusal prints one line only, `refused`, a space and its number"
-        Err(number) => vec![format!("refused {number}")],
+    or_refused(outcome(file))
+}
+
+/// The lines, or: "A refusal prints one line only, `refused`, a space and its
+/// number"
+pub fn or_refused(outcome: Result<Vec<String>, u8>) -> Vec<String> {
+    outcome.unwrap_or_else(|number| vec![format!("refused {number}")])
+}
+
+/// "8 | the program's file exceeds 65,536 bytes"
+pub fn within_65_536(file: &[u8]) -> Result<(), u8> {
+    match file.len() {
+        0..=65_536 => Ok(()),
+        _ => Err(8),
     }
 }
 
@@ -19,11 +29,8 @@ pub fn text(file: &[u8]) -> String {
 }
 
 fn outcome(file: &[u8]) -> Result<Vec<String>, u8> {
-    // "8 | the program's file exceeds 65,536 bytes"; "the program tests 8
-    // before its load"
-    if file.len() > 65_536 {
-        return Err(8);
-    }
+    // "the program tests 8 before its load"
+    within_65_536(file)?;
     let mut p = vec![0; MEMORY];
     let mut d = vec![0; MEMORY];
     let mut i = vec![0; PORTS];

@@ -6,14 +6,14 @@ use crate::machine::MEMORY;
 
 /// A file of these parts: "program at offset 16, data straight after it".
 pub fn file_of(program: &[u8], data: &[u8]) -> Vec<u8> {
-    let header = [program.len() / 2, 16, data.len(), 16 + program.len()];
-    let mut file: Vec<u8> = header
-        .iter()
-        .flat_map(|&x| (x as u32).to_le_bytes())
-        .collect();
-    file.extend(program);
-    file.extend(data);
-    file
+    let header = header([program.len() / 2, 16, data.len(), 16 + program.len()]);
+    [&header, program, data].concat()
+}
+
+/// 01's header: "four 32-bit little-endian numbers"
+pub fn header(numbers: [usize; 4]) -> Vec<u8> {
+    let bytes = numbers.map(|x| (x as u32).to_le_bytes());
+    bytes.concat()
 }
 
 /// The memory without its trailing zero parts of `size` bytes.

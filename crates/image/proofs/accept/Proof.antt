@@ -12,8 +12,8 @@ returns c =
     let at-place = at-place2 .before .before .before .before .before in
     let f = fits _ (at-place .before .before .before .before .before .before .before .before .pre) in
     accepted-left _ (c .reset .ensures)
-    (memory-left (f .program) (at-place .before .before .program-part .ensures) (at-place .place .ensures))
-    (memory-left (f .bytes) (at-place2 .before .before .data-part .ensures) (at-place2 .place2 .ensures))
+    (memory-left (f .program) (f .file .program) (at-place .before .before .program-part .ensures) (at-place .place .ensures))
+    (memory-left (f .memory) (f .file .bytes) (at-place2 .before .before .data-part .ensures) (at-place2 .place2 .ensures))
     (ports-left (f .inputs) (c .before .before .before .before .before .before .before .zero-ports .ensures))
     (ports-left (f .outputs) (c .before .before .before .zero-ports2 .ensures))
 
@@ -21,10 +21,10 @@ pub accept-spec : {M : Type 1} → statement M
 accept-spec =
     tie.close
     (tie.spec
-    (λ c κs. fits _ (c .before .before .before .before .before .pre) .header)
-    (λ c κs. can-place (fits _ (c .before .before .before .before .before .before .before .pre) .program) (c .before .program-part .ensures))
-    (λ c κs. fits _ (c .before .before .before .before .before .before .before .before .before .before .pre) .header)
-    (λ c κs. can-place (fits _ (c .before .before .before .before .before .before .before .before .before .before .before .before .pre) .bytes) (c .before .data-part .ensures))
+    (λ c κs. fits _ (c .before .before .before .before .before .pre) .file .header)
+    (λ c κs. let f = fits _ (c .before .before .before .before .before .before .before .pre) in can-place (f .program) (f .file .program) (c .before .program-part .ensures))
+    (λ c κs. fits _ (c .before .before .before .before .before .before .before .before .before .before .pre) .file .header)
+    (λ c κs. let f = fits _ (c .before .before .before .before .before .before .before .before .before .before .before .before .pre) in can-place (f .memory) (f .file .bytes) (c .before .data-part .ensures))
     (λ c κs. search needs)
     (λ c κs. search needs)
     (λ c κs. search needs)

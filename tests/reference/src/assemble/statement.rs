@@ -38,6 +38,11 @@ const SYNTAX: [(&str, Option<Kind>); 26] = [
     (".word N16", None),
 ];
 
+/// How the sheet writes an instruction of this kind.
+pub fn syntax(kind: Kind) -> &'static str {
+    SYNTAX[usize::from(kind.number())].0
+}
+
 /// A statement as it was read. Unused registers are 0.
 pub struct Statement<'a> {
     /// None for `.word`.

@@ -2,17 +2,14 @@
 //! text is refused: nothing there, and one line on standard error.
 
 use reference::assemble::{refused_line, trim};
-use std::io::{self, Read, Write};
+use reference::program::{input, write};
+use std::io;
 use std::process::ExitCode;
 
 fn main() -> io::Result<ExitCode> {
-    let mut text = Vec::new();
-    io::stdin().lock().read_to_end(&mut text)?;
-    match trim(&text) {
+    match trim(&input()?) {
         Ok(file) => {
-            let mut out = io::stdout().lock();
-            out.write_all(&file)?;
-            out.flush()?;
+            write(&file)?;
             Ok(ExitCode::SUCCESS)
         }
         Err(refused) => {

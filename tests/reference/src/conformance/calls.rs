@@ -5,6 +5,7 @@ use super::host::{By, Host};
 use super::{number, Call, Digest};
 use crate::instruction::{read, write_numbered};
 use crate::machine::{MEMORY, PORTS};
+use crate::masks::masks;
 use crate::report;
 use crate::run::Engine;
 use crate::set::set;
@@ -94,9 +95,11 @@ impl Host {
     }
 }
 
-/// "ASSIGNED KIND A B D N REFUSAL WORD"
+/// "ASSIGNED KIND A B D N READS WRITES REFUSAL WORD"
 fn instruction(call: Call) -> String {
-    let found = read(call.number(1) as u16);
+    let word = call.number(1) as u16;
+    let found = read(word);
+    let masks = masks(word);
     let (assigned, mut kind, mut a, mut b, mut d, mut n) = match found {
         Some(x) => (1, x.kind.number(), x.a, x.b, x.d, x.n),
         None => (0, 0, 0, 0, 0, 0),
@@ -113,7 +116,9 @@ fn instruction(call: Call) -> String {
     }
     let written = write_numbered(kind, a, b, d, n);
     format!(
-        "{shown} {} {}",
+        "{shown} {} {} {} {}",
+        masks.reads,
+        masks.writes,
         written.err().unwrap_or(0),
         written.unwrap_or(0)
     )

@@ -189,14 +189,8 @@ pub fn of_reference(call: &Call, lent: &mut Lent) -> Answer {
         }
         Call::HostStep(state) => {
             let mut held = state;
-            let answer = header_run(host_step(&mut held, p, d, i, o, lent.log));
-            let answer = ffi::Answer {
-                refusal: answer.refusal,
-                stop: answer.stop,
-                steps: answer.steps,
-                entries: answer.entries,
-            };
-            Answer::HostStep(header_state(held), answer)
+            let run = header_run(host_step(&mut held, p, d, i, o, lent.log));
+            Answer::HostStep(header_state(held), run.without_state())
         }
         Call::Window(of_data, start, count) => {
             Answer::Window(header_window(p, d, of_data, start, count))

@@ -45,6 +45,18 @@ pub struct Answer {
     pub entries: u64,
 }
 
+impl Run {
+    /// As a host step replies it.
+    pub fn without_state(self) -> Answer {
+        Answer {
+            refusal: self.refusal,
+            stop: self.stop,
+            steps: self.steps,
+            entries: self.entries,
+        }
+    }
+}
+
 /// `SisaInstruction`
 #[repr(C)]
 #[derive(Clone, Copy, Debug, PartialEq, Eq)]
@@ -55,6 +67,8 @@ pub struct Instruction {
     pub b: u8,
     pub d: u8,
     pub n: i16,
+    pub reads: u8,
+    pub writes: u8,
 }
 
 /// `SisaWord`

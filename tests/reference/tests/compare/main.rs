@@ -8,8 +8,11 @@ mod call;
 mod ffi;
 mod lists;
 mod make;
+mod masks;
 #[path = "../shared/random.rs"]
 mod random;
+#[path = "../shared/registers.rs"]
+mod registers;
 mod saves;
 mod steps;
 mod tally;

@@ -1,6 +1,7 @@
 //! One step of every word, by each export that steps.
 
 use crate::call::{Answer, Call, Sides};
+use crate::ffi::Lent;
 use crate::make::one_of;
 use crate::random::Random;
 use crate::world::{Lengths, World};
@@ -10,7 +11,7 @@ use reference::run::Engine;
 
 /// A state to step the word from. Ra+SE(N6), a sum or address of opcodes 2 to
 /// 6, is often an edge.
-fn random_state(random: &mut Random, w: u16) -> State {
+pub fn random_state(random: &mut Random, w: u16) -> State {
     let even = random.word() & 0xFFFE;
     let mut r = [0; 8].map(|_| random.value());
     if random.below(3) == 0 {
@@ -25,26 +26,38 @@ fn random_state(random: &mut Random, w: u16) -> State {
     }
 }
 
+/// The steps of all words by three exports. Unassigned: opcodes 11 to 15, and 3
+/// of 8 values of f in opcode 1.
+pub const STEPS: u32 = 3 * (65_536 - 5 * 4_096 - 3 * 512);
+
+/// One step from this state by each export that steps.
+pub fn calls(state: State) -> [Call; 3] {
+    [
+        Call::Run(Engine::Rules, state, 1),
+        Call::Run(Engine::PAPER_TABLE, state, 1),
+        Call::HostStep(state),
+    ]
+}
+
+/// Puts the word at PC.
+pub fn put(lent: Lent, pc: u16, w: u16) {
+    let at = usize::from(pc);
+    lent.program[at..at + 2].copy_from_slice(&w.to_le_bytes());
+}
+
 #[test]
 fn one_step_of_every_word() {
     let seed = seed();
     let mut random = random_of(seed, 3 << 32);
     let mut sides = Sides::new(World::random(&mut random));
-    let (mut calls, mut steps) = (0, 0);
+    let (mut count, mut steps) = (0, 0);
     for w in 0..=0xFFFF_u16 {
         for export in 0..3 {
             let state = random_state(&mut random, w);
-            let call = match export {
-                0 => Call::Run(Engine::Rules, state, 1),
-                1 => Call::Run(Engine::PAPER_TABLE, state, 1),
-                _ => Call::HostStep(state),
-            };
-            sides.change(|lent| {
-                let at = usize::from(state.pc);
-                lent.program[at..at + 2].copy_from_slice(&w.to_le_bytes());
-            });
-            calls += 1;
-            steps += match sides.call(&call, &Lengths::right(1)) {
+            let call = &calls(state)[export];
+            sides.change(|lent| put(lent, state.pc, w));
+            count += 1;
+            steps += match sides.call(call, &Lengths::right(1)) {
                 Ok(Answer::Run(run)) => run.steps,
                 Ok(Answer::HostStep(_, answer)) => answer.steps,
                 Ok(answer) => panic!("{answer:?}"),
@@ -55,7 +68,6 @@ fn one_step_of_every_word() {
             };
         }
     }
-    println!("seed {seed}: {calls} calls of one word, {steps} steps");
-    // Unassigned: opcodes 11 to 15, and 3 of 8 values of f in opcode 1.
-    assert_eq!(steps, 3 * (65_536 - 5 * 4_096 - 3 * 512));
+    println!("seed {seed}: {count} calls of one word, {steps} steps");
+    assert_eq!(steps, STEPS);
 }

@@ -5,6 +5,7 @@ use crate::make::one_of;
 use crate::random::Random;
 use crate::{random_of, seed};
 use reference::instruction::{read, write_numbered, Instruction, Kind};
+use reference::masks::masks;
 
 fn read_by_reference(w: u16) -> ffi::Instruction {
     let (assigned, x) = match read(w) {
@@ -21,6 +22,7 @@ fn read_by_reference(w: u16) -> ffi::Instruction {
             },
         ),
     };
+    let masks = masks(w);
     ffi::Instruction {
         assigned,
         kind: x.kind.number(),
@@ -28,6 +30,8 @@ fn read_by_reference(w: u16) -> ffi::Instruction {
         b: x.b as u8,
         d: x.d as u8,
         n: x.n as i16,
+        reads: masks.reads,
+        writes: masks.writes,
     }
 }
 

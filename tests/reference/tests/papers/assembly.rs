@@ -18,7 +18,7 @@ fn pattern() -> Vec<u8> {
 }
 
 /// The words of an accepted text. "bytes past the words stay"
-fn words(text: impl AsRef<[u8]>) -> Vec<u16> {
+pub fn words(text: impl AsRef<[u8]>) -> Vec<u16> {
     let text = text.as_ref();
     let mut program = pattern();
     let count = match assemble(text, &mut program) {

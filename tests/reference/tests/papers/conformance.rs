@@ -130,6 +130,23 @@ fn saves_of_case_1() {
     assert_eq!(of_case[17..], expected);
 }
 
+#[test]
+fn instructions_by_hand() {
+    let lines = lines();
+    for (c, i, w, expected) in [
+        (21, 0, 0x03AB, "1 3 1 0 5 0 2 32 0 563"), // NOT R5,R1; written with R6
+        (21, 15, 0x41B5, "1 15 0 6 0 65525 65 0 0 16821"), // ST -11(R0),R6
+        (3, 1, 0x7F27, "1 18 7 0 4 0 128 16 0 32512"), // JALR R4,R7
+        (3, 10, 0x9B2E, "1 22 0 0 5 46 32 32 0 39726"), // MOVHI R5,46
+        (1, 12, 0xA90A, "1 24 4 0 0 10 16 0 0 43274"), // OUT 10,R4
+        (3, 14, 0xD9C2, "0 0 0 0 0 0 0 0 0 3"),    // unassigned; NOT written
+    ] {
+        assert_eq!(number(c, 5_001 + 16 * i), w);
+        let line = format!("instruction {c} {i} {expected}");
+        assert!(lines.contains(&line), "{line}");
+    }
+}
+
 /// How many lines begin with these words; `*` is any word.
 fn count(lines: &[String], words: &str) -> usize {
     let alike = |line: &&String| {
@@ -164,7 +181,7 @@ fn every_refusal_and_stop_reason_occurs() {
     let windows = count(&lines, "window");
     assert!((1..windows).contains(&count(&lines, "window * * 0 0 0")));
     for assigned in ["1", "0"] {
-        let start = format!("instruction * * {assigned} * * * * *");
+        let start = format!("instruction * * {assigned} * * * * * * *");
         occur(&lines, &start, &["0", "7"]);
     }
     // By s, in every case whose load was accepted.

@@ -5,11 +5,15 @@ mod assembly;
 mod board;
 mod conformance;
 mod engines;
+mod listing;
 mod marked;
+mod masks;
 mod printed;
 #[path = "../shared/random.rs"]
 mod random;
 mod refusals;
+#[path = "../shared/registers.rs"]
+mod registers;
 mod rules;
 mod runs;
 mod saves;

@@ -5,7 +5,7 @@ use reference::machine::{assigned, is_out};
 
 /// One word of each kind, put together by hand from the sheet's formats, with
 /// its a, b, d, n.
-const BY_HAND: [(u16, i32, i32, i32, i32); 25] = [
+pub const BY_HAND: [(u16, i32, i32, i32, i32); 25] = [
     (0b0000_101_110_011_000, 5, 6, 3, 0),   // AND R3,R5,R6
     (0b0000_101_110_011_001, 5, 6, 3, 0),   // OR
     (0b0000_101_110_011_010, 5, 6, 3, 0),   // XOR
@@ -67,7 +67,7 @@ fn kinds_are_numbered_in_the_sheet_s_order() {
 }
 
 /// "Writing what was read returns the word with those bits cleared."
-fn written_back(w: u16) -> u16 {
+pub fn written_back(w: u16) -> u16 {
     match (w >> 12, w & 7) {
         (0, 3) => w & 0xFE3F,
         (7, _) => w & 0xFFC0,

@@ -1,6 +1,5 @@
 -- By the first token: none, no mnemonic, or that of a row.
 -- Assumes nothing.
-use mathlib.Core.Path.{refl}
 use borrow.Author.Needs.{needs}
 use Rattle.statement.specs.Table.{cell}
 use Rattle.statement.proofs.Items.{nothing, there}
@@ -17,7 +16,7 @@ row-of-requires : tie.Need-row-of-requires
 row-of-requires c κs =
     let e = c .before .before .before in
     let h = there (e .before .before .token-at .ensures) (e .t .given .1) in
-    (refl, h .order, h .inside)
+    (c .before .table .ensures, h .order, h .inside)
 
 returns-2 : tie.Need-returns-2
 returns-2 c =
@@ -33,7 +32,7 @@ returns-3 c =
     let r = n .before in
     let e = r .before .before .before .before in
     same-line (c .finished .ensures)
-    (row-statement _ _ _ (there (e .before .before .token-at .ensures) (e .t .given .1)) (r .row-of .ensures) (n .if1 .left) (o .operands-at .ensures))
+    (row-statement _ _ _ (there (e .before .before .token-at .ensures) (e .t .given .1)) (r .row-of .ensures) (n .if1 .left) (rw (r .before .before .table .ensures) at (o .operands-at .ensures)))
 
 pub statement-at-spec : {M : Type 1} → statement M
 statement-at-spec =
@@ -44,8 +43,11 @@ statement-at-spec =
     (λ c. search needs)
     (λ c κs. search needs)
     returns
+    (λ c κs. search needs)
+    (λ c. search needs)
     row-of-requires
     returns-2
+    (λ c. search needs)
     (λ c. search needs)
     (λ c. search needs)
     (λ c κs. search needs)

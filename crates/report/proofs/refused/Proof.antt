@@ -4,8 +4,8 @@ use native.Mathlib.Omega.{arith}
 use borrow.Author.Needs.{needs}
 use Rattle.report.specs.Printed.{refusedLine}
 use Rattle.printing.proofs.Writing.{_then_, wrote-held}
-use Rattle.report.proofs.lines.refused.Statement.{statement}
-use Rattle.report.proofs.lines.refused.Tie as tie
+use Rattle.report.proofs.refused.Statement.{statement}
+use Rattle.report.proofs.refused.Tie as tie
 
 returns : tie.Need-returns
 unfolding refusedLine

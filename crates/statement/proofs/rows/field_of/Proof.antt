@@ -1,10 +1,10 @@
 -- By the row; `field-row` compares the others.
 -- Assumes nothing.
 use borrow.Author.Tests.{ne-eqb}
-use Rattle.encoding.specs.Numbers.{fieldOf}
-use Rattle.encoding.proofs.Fields.{field-row}
-use Rattle.encoding.proofs.field_of.Statement.{statement}
-use Rattle.encoding.proofs.field_of.Tie as tie
+use Rattle.statement.specs.Table.{fieldOf}
+use Rattle.statement.proofs.Tables.{field-row}
+use Rattle.statement.proofs.rows.field_of.Statement.{statement}
+use Rattle.statement.proofs.rows.field_of.Tie as tie
 
 returns : tie.Need-returns
 unfolding fieldOf
