@@ -1,12 +1,12 @@
 /* The engines of libsisa.a beside a plain C interpreter (plain.c) and a faster one (flat.c), and its save beside plain C
-   (save.c), in one process.
+   (save.c), in one process. All count what a run uses, but for the plain interpreter compiled a second time (uncounted.c).
 
    Time is the CPU time of this process, so that being scheduled out does not count. All engines are lent the same
    buffers, which are made anew before each timed run (memory and inputs as the workload says, outputs and log zero), so
    no page is touched for the first time while the clock runs. In a round each engine runs once, and the order rotates
    from round to round; a ratio is of the two times of one round, and what is printed is the median over the rounds.
-   After every timed run its reply and all buffers are compared with those of the C interpreter, after timed saves the
-   reply and the destination with those of C: exit status 1 where they differ, else 0, whatever the times are. */
+   After every timed run its reply, the counts too, and all buffers are compared with those of the C interpreter, after timed
+   saves the reply and the destination with those of C: exit status 1 where they differ, else 0, whatever the times are. */
 #include "plain.h"
 #include "sisa.h"
 #include "workloads.h"
@@ -26,9 +26,10 @@ enum {
     FILE_BYTES = 16 + 2 * MEMORY_BYTES,
     LATE_STEPS = 100000,    /* the end of the random program's run, where the addresses are counted */
     RANDOM_SEED = 251,
-    ENGINES = 4,
-    CALLED,                 /* the engines and, last, the host step */
     C = 0,                  /* the engine, and the save, that the others are compared with */
+    UNCOUNTED = 4,
+    ENGINES,
+    CALLED,                 /* the engines and, last, the host step */
 };
 
 static const struct {
@@ -36,7 +37,7 @@ static const struct {
     Run *run;
 } engines[CALLED] = {
     { "C", plain_run }, { "C flat", flat_run }, { "rules", sisa_run_by_rules }, { "table", sisa_run_by_table },
-    { "host step", NULL },
+    { "C without", uncounted_run }, { "host step", NULL },
 };
 
 enum { LIBRARY = C + 1, COPY, SAVERS };
@@ -93,12 +94,12 @@ static double median(const double *times, int count)
     return sorted[count / 2];
 }
 
-/* The median of the ratios to the time of C in the same round. */
-static double median_ratio(const double *times, const double *of_c, int count)
+/* The median of the ratios to the other's time in the same round. */
+static double median_ratio(const double *times, const double *other, int count)
 {
     double ratios[ROUNDS];
     for (int i = 0; i < count; i++)
-        ratios[i] = times[i] / of_c[i];
+        ratios[i] = times[i] / other[i];
     return median(ratios, count);
 }
 
@@ -130,7 +131,6 @@ static void clear(size_t places)
     memset(lent.outputs, 0, sizeof lent.outputs);
     memset(lent.log, 0, places * sizeof *lent.log);
     lent.places = places;
-    lent.reply = (SisaRun){ .refusal = 0 };
 }
 
 static SisaRun run(int engine, SisaState state, uint32_t budget)
@@ -160,6 +160,8 @@ static void check_run(int engine)
     const char *what = NULL;
     if (!same_reply(&lent.reply, &expected.reply))
         what = "reply";
+    else if (engine != UNCOUNTED && memcmp(&lent.reply.usage, &expected.reply.usage, sizeof lent.reply.usage) != 0)
+        what = "usage";
     else if (memcmp(lent.memory, expected.memory, sizeof lent.memory) != 0)
         what = "memory";
     else if (memcmp(lent.inputs, expected.inputs, sizeof lent.inputs) != 0)
@@ -178,11 +180,13 @@ static void check_run(int engine)
 static double timed_runs(int engine)
 {
     static const SisaState reset;
+    SisaRun reply = { .refusal = 0 };
     clear(repeat.budget / STEPS_PER_OUT + 1);
     double start = now();
     for (int i = 0; i < repeat.calls; i++)
-        lent.reply = run(engine, reset, repeat.budget);
+        reply = run(engine, reset, repeat.budget);
     double end = now();
+    lent.reply = reply;
     if (lent.reply.stop != 0 || lent.reply.steps != repeat.budget) {
         fprintf(stderr, "%s: %s stopped early\n", load.name, engines[engine].name);
         exit(1);
@@ -200,17 +204,19 @@ static void measure(double times[ENGINES][ROUNDS], int rounds, uint32_t budget, 
     in_rounds(times, ENGINES, rounds, timed_runs, check_run);
 }
 
-static void print_ratios(void)
+/* A line of the first table; the ratio of C to C without counting. */
+static double print_ratios(void)
 {
     double times[ENGINES][ROUNDS];
     measure(times, ROUNDS, STEPS, 1);
     printf("%-18s", load.name);
     for (int engine = 0; engine < ENGINES; engine++)
         printf(" %9.2f", 1e9 * median(times[engine], ROUNDS) / STEPS);
-    for (int engine = 1; engine < ENGINES; engine++)
+    for (int engine = 1; engine < UNCOUNTED; engine++)
         printf(" %9.2f", median_ratio(times[engine], times[C], ROUNDS));
     printf("\n");
     fflush(stdout);
+    return median_ratio(times[C], times[UNCOUNTED], ROUNDS);
 }
 
 /* How many addresses the last steps of the measured run visit: a program that fell into a short loop visits few. */
@@ -232,18 +238,22 @@ static int late_addresses(void)
    holds. The log is filled from place 0 by each call. */
 static double timed_calls(int engine)
 {
-    SisaState state = { .n = 0 };
+    SisaRun reply = { .refusal = 0 };
+    SisaState held = { .n = 0 };
+    SisaAnswer answer = { .refusal = 0 };
     clear(64);
     double start = now();
     if (engine < ENGINES)
         for (int i = 0; i < CALLS; i++)
-            state = run(engine, state, 1).state;
+            reply = run(engine, reply.state, 1);
     else
         for (int i = 0; i < CALLS; i++)
-            sisa_host_step(&state, load.program, MEMORY_BYTES, lent.memory, MEMORY_BYTES, lent.inputs, PORTS,
-                           lent.outputs, PORTS, lent.log, lent.places);
+            answer = sisa_host_step(&held, load.program, MEMORY_BYTES, lent.memory, MEMORY_BYTES, lent.inputs, PORTS,
+                                    lent.outputs, PORTS, lent.log, lent.places);
     double end = now();
-    lent.reply.state = state;
+    if (engine >= ENGINES)
+        reply = (SisaRun){ held, answer.refusal, answer.stop, answer.steps, answer.entries, answer.usage };
+    lent.reply = reply;
     return (end - start) / CALLS;
 }
 
@@ -316,7 +326,7 @@ static void print_growth(void)
 {
     double times[ENGINES][ROUNDS];
     printf("\nTime of a run by its steps (%s, median of %d)\n", load.name, GROWTH_ROUNDS);
-    printf("%-12s %47s %39s\n%-12s", "", "microseconds", "ns/step", "steps");
+    printf("%-12s %*s %*s\n%-12s", "", 12 * ENGINES - 1, "microseconds", 10 * ENGINES - 1, "ns/step", "steps");
     for (int i = 0; i < 2 * ENGINES; i++)
         printf(" %*s", i < ENGINES ? 11 : 9, engines[i % ENGINES].name);
     printf("\n");
@@ -346,23 +356,41 @@ static void print_cpu(void)
     fclose(info);
 }
 
+static void random_of_seed(Workload *into)
+{
+    random_program(into, RANDOM_SEED);
+}
+
+/* The first table, and what counting costs C. */
+static void print_steps(void)
+{
+    static void (*const workloads[])(Workload *) = { alu_loop, loads_and_stores, mix, random_of_seed };
+    enum { WORKLOADS = sizeof workloads / sizeof *workloads };
+    const char *names[WORKLOADS];
+    double counting[WORKLOADS];
+    printf("Runs of %d steps, %d rounds: median ns/step, and median of the ratios in a round\n%-18s", STEPS, ROUNDS, "");
+    for (int engine = 0; engine < ENGINES; engine++)
+        printf(" %9s", engines[engine].name);
+    printf(" %9s %9s %9s\n", "flat/C", "rules/C", "table/C");
+    for (int i = 0; i < WORKLOADS; i++) {
+        workloads[i](&load);
+        names[i] = load.name;
+        counting[i] = print_ratios();
+    }
+    printf("C counting to C without");
+    for (int i = 0; i < WORKLOADS; i++)
+        printf("%s %.2f %s", i == 0 ? ":" : ",", counting[i], names[i]);
+    printf("\n(seed %d; its last %d steps visit %d addresses)\n", RANDOM_SEED, LATE_STEPS, late_addresses());
+}
+
 /* With an argument, the costs of calls, the growth and the costs of saves too. */
 int main(int argc, char **argv)
 {
     (void)argv;
-    static void (*const fixed[])(Workload *) = { alu_loop, loads_and_stores, mix };
     lent.log = new_log(GROWTH_STEPS / STEPS_PER_OUT + 1);
     expected.log = new_log(GROWTH_STEPS / STEPS_PER_OUT + 1);
     print_cpu();
-    printf("Runs of %d steps, %d rounds: median ns/step, and median of the ratios in a round\n", STEPS, ROUNDS);
-    printf("%-18s %9s %9s %9s %9s %9s %9s %9s\n", "", "C", "C flat", "rules", "table", "flat/C", "rules/C", "table/C");
-    for (size_t i = 0; i < sizeof fixed / sizeof *fixed; i++) {
-        fixed[i](&load);
-        print_ratios();
-    }
-    random_program(&load, RANDOM_SEED);
-    print_ratios();
-    printf("(seed %d; its last %d steps visit %d addresses)\n", RANDOM_SEED, LATE_STEPS, late_addresses());
+    print_steps();
     if (argc > 1) {
         mix(&load);
         print_call_costs();

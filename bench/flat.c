@@ -7,17 +7,21 @@
 #define CASE(opcode, f) ((opcode) << 3 | (f))
 #define ANY_F(opcode) CASE(opcode, 0) ... CASE(opcode, 7)
 
-/* The registers that a word names at bits 11..9, 8..6 and 5..3, and the address Ra+SE(N6). */
-#define R11 r[w >> 9 & 7]
-#define R8 r[w >> 6 & 7]
-#define R5 r[w >> 3 & 7]
-#define ADDRESS (uint16_t)(R11 + extend6(w))
+/* The registers that a word names at bits 11..9, 8..6 and 5..3, by number, e, and the address Ra+SE(N6). */
+#define A (w >> 9 & 7)
+#define B (w >> 6 & 7)
+#define D (w >> 3 & 7)
+#define E (w >> 8 & 1)
+#define ADDRESS (uint16_t)(r[A] + extend6(w))
+
+#define COUNT(kind, a, b, d) count(&usage, kind, a, b, d)
 
 static SisaRun run_accepted(SisaState state, const uint8_t *restrict program, uint8_t *restrict memory,
                             const uint16_t *restrict inputs, uint16_t *restrict outputs, uint32_t budget,
                             uint64_t *restrict log, size_t log_len)
 {
     uint16_t r[8], pc = state.pc;
+    SisaUsage usage = { .kinds = { 0 } };
     uint32_t steps = 0;
     size_t entries = 0;
     uint8_t stop = 0;
@@ -25,33 +29,36 @@ static SisaRun run_accepted(SisaState state, const uint8_t *restrict program, ui
     while (steps < budget) {
         uint16_t w = load_word(program, pc), next = (uint16_t)(pc + 2), target;
         switch (CASE(w >> 12, w & 7)) {
-        case CASE(0, 0): R5 = R11 & R8; break;
-        case CASE(0, 1): R5 = R11 | R8; break;
-        case CASE(0, 2): R5 = R11 ^ R8; break;
-        case CASE(0, 3): R5 = (uint16_t)~R11; break;
-        case CASE(0, 4): R5 = (uint16_t)(R11 + R8); break;
-        case CASE(0, 5): R5 = (uint16_t)(R11 - R8); break;
-        case CASE(0, 6): R5 = shift((int16_t)R11, R8); break;
-        case CASE(0, 7): R5 = shift(R11, R8); break;
-        case CASE(1, 0): R5 = (int16_t)R11 < (int16_t)R8; break;
-        case CASE(1, 1): R5 = (int16_t)R11 <= (int16_t)R8; break;
-        case CASE(1, 3): R5 = R11 == R8; break;
-        case CASE(1, 4): R5 = R11 < R8; break;
-        case CASE(1, 5): R5 = R11 <= R8; break;
-        case ANY_F(2): R8 = ADDRESS; break;
-        case ANY_F(3): R8 = load_word(memory, ADDRESS); break;
-        case ANY_F(4): store_word(memory, ADDRESS, R8); break;
-        case ANY_F(5): R8 = extend8(memory[ADDRESS]); break;
-        case ANY_F(6): memory[ADDRESS] = (uint8_t)R8; break;
-        case ANY_F(7): target = R11 & 0xFFFE; R8 = next; next = target; break;
-        case ANY_F(8): if ((R11 == 0) != (w >> 8 & 1)) next = (uint16_t)(next + 2 * extend8(w)); break;
-        case ANY_F(9): R11 = w & 256 ? (uint16_t)(w << 8 | (R11 & 255)) : extend8(w); break;
+        case CASE(0, 0): r[D] = r[A] & r[B]; COUNT(AND, A, B, D); break;
+        case CASE(0, 1): r[D] = r[A] | r[B]; COUNT(OR, A, B, D); break;
+        case CASE(0, 2): r[D] = r[A] ^ r[B]; COUNT(XOR, A, B, D); break;
+        case CASE(0, 3): r[D] = (uint16_t)~r[A]; COUNT(NOT, A, NONE, D); break;
+        case CASE(0, 4): r[D] = (uint16_t)(r[A] + r[B]); COUNT(ADD, A, B, D); break;
+        case CASE(0, 5): r[D] = (uint16_t)(r[A] - r[B]); COUNT(SUB, A, B, D); break;
+        case CASE(0, 6): r[D] = shift((int16_t)r[A], r[B]); COUNT(SHA, A, B, D); break;
+        case CASE(0, 7): r[D] = shift(r[A], r[B]); COUNT(SHL, A, B, D); break;
+        case CASE(1, 0): r[D] = (int16_t)r[A] < (int16_t)r[B]; COUNT(CMPLT, A, B, D); break;
+        case CASE(1, 1): r[D] = (int16_t)r[A] <= (int16_t)r[B]; COUNT(CMPLE, A, B, D); break;
+        case CASE(1, 3): r[D] = r[A] == r[B]; COUNT(CMPEQ, A, B, D); break;
+        case CASE(1, 4): r[D] = r[A] < r[B]; COUNT(CMPLTU, A, B, D); break;
+        case CASE(1, 5): r[D] = r[A] <= r[B]; COUNT(CMPLEU, A, B, D); break;
+        case ANY_F(2): r[B] = ADDRESS; COUNT(ADDI, A, NONE, B); break;
+        case ANY_F(3): r[B] = load_word(memory, ADDRESS); COUNT(LD, A, NONE, B); break;
+        case ANY_F(4): store_word(memory, ADDRESS, r[B]); COUNT(ST, A, B, NONE); break;
+        case ANY_F(5): r[B] = extend8(memory[ADDRESS]); COUNT(LDB, A, NONE, B); break;
+        case ANY_F(6): memory[ADDRESS] = (uint8_t)r[B]; COUNT(STB, A, B, NONE); break;
+        case ANY_F(7): target = r[A] & 0xFFFE; r[B] = next; next = target; COUNT(JALR, A, NONE, B); break;
+        case ANY_F(8):
+            if ((r[A] == 0) != E) next = (uint16_t)(next + 2 * extend8(w));
+            COUNT(BZ + E, A, NONE, NONE); break;
+        case ANY_F(9):
+            r[A] = E != 0 ? (uint16_t)(w << 8 | (r[A] & 255)) : extend8(w);
+            COUNT(MOVI + E, E != 0 ? A : NONE, NONE, A); break;
         case ANY_F(10):
-            if (!(w & 256)) { R11 = inputs[w & 255]; break; }
+            if (E == 0) { r[A] = inputs[w & 255]; COUNT(IN, NONE, NONE, A); break; }
             if (entries == log_len) { stop = 2; goto stopped; }
-            outputs[w & 255] = R11;
-            log[entries++] = (uint64_t)(state.n + steps) << 24 | (uint64_t)(w & 255) << 16 | R11;
-            break;
+            outputs[w & 255] = r[A]; COUNT(OUT, A, NONE, NONE);
+            log[entries++] = (uint64_t)(state.n + steps) << 24 | (uint64_t)(w & 255) << 16 | r[A]; break;
         default: stop = 1; goto stopped;
         }
         pc = next;
@@ -61,7 +68,7 @@ stopped:
     memcpy(state.r, r, sizeof r);
     state.pc = pc;
     state.n += steps;
-    return (SisaRun){ .state = state, .stop = stop, .steps = steps, .entries = entries };
+    return (SisaRun){ .state = state, .stop = stop, .steps = steps, .entries = entries, .usage = usage };
 }
 
 SisaRun flat_run(SisaState state,

@@ -1,4 +1,4 @@
-/* What the two C interpreters share. Every address is 16-bit, so none lies outside a memory of 65,536 bytes. */
+/* What the C interpreters share. Every address is 16-bit, so none lies outside a memory of 65,536 bytes. */
 #ifndef INTERPRETER_H
 #define INTERPRETER_H
 
@@ -26,6 +26,34 @@ static inline uint16_t shift(int32_t x, uint16_t b)
 {
     int k = ((b & 31) ^ 16) - 16;
     return (uint16_t)(k < 0 ? x >> -k : (int32_t)((uint32_t)x << k));
+}
+
+/* Kinds by their number. */
+enum {
+    AND, OR, XOR, NOT, ADD, SUB, SHA, SHL, CMPLT, CMPLE, CMPEQ, CMPLTU, CMPLEU, ADDI, LD, ST, LDB, STB, JALR, BZ, BNZ, MOVI,
+    MOVHI, IN, OUT,
+};
+
+/* No register. */
+enum { NONE = 8 };
+
+/* uncounted.c says 0. */
+#ifndef COUNTING
+#define COUNTING 1
+#endif
+
+/* Counts a step of this kind that reads the registers a and b and writes d. */
+static inline void count(SisaUsage *usage, unsigned kind, unsigned a, unsigned b, unsigned d)
+{
+    if (!COUNTING)
+        return;
+    usage->kinds[kind]++;
+    if (a != NONE)
+        usage->reads[a]++;
+    if (b != NONE && b != a)
+        usage->reads[b]++;
+    if (d != NONE)
+        usage->writes[d]++;
 }
 
 /* The refusal of a run, 0 where it is accepted. */

@@ -37,31 +37,35 @@ static SisaRun run_accepted(SisaState state, const uint8_t *restrict program, ui
                             uint64_t *restrict log, size_t log_len)
 {
     uint16_t r[8], pc = state.pc;
+    SisaUsage usage = { .kinds = { 0 } };
     uint32_t steps = 0;
     size_t entries = 0;
     uint8_t stop = 0;
     memcpy(r, state.r, sizeof r);
     while (steps < budget) {
         uint16_t w = load_word(program, pc), next = (uint16_t)(pc + 2);
-        uint16_t *a = &r[w >> 9 & 7], *b = &r[w >> 6 & 7], *d = &r[w >> 3 & 7];
+        unsigned a = w >> 9 & 7, b = w >> 6 & 7, d = w >> 3 & 7, f = w & 7, e = w >> 8 & 1;
         int x;
         switch (w >> 12) {
-        case 0: *d = operate(w & 7, *a, *b); break;
-        case 1: if ((x = compare(w & 7, *a, *b)) < 0) { stop = 1; goto stopped; } *d = (uint16_t)x; break;
-        case 2: *b = (uint16_t)(*a + extend6(w)); break;
-        case 3: *b = load_word(memory, (uint16_t)(*a + extend6(w))); break;
-        case 4: store_word(memory, (uint16_t)(*a + extend6(w)), *b); break;
-        case 5: *b = extend8(memory[(uint16_t)(*a + extend6(w))]); break;
-        case 6: memory[(uint16_t)(*a + extend6(w))] = (uint8_t)*b; break;
-        case 7: x = *a & 0xFFFE; *b = next; next = (uint16_t)x; break;
-        case 8: if ((*a == 0) != (w >> 8 & 1)) next = (uint16_t)(next + 2 * extend8(w)); break;
-        case 9: *a = (w & 256) != 0 ? (uint16_t)(w << 8 | (*a & 255)) : extend8(w); break;
+        case 0: r[d] = operate(f, r[a], r[b]); count(&usage, f, a, f == NOT ? NONE : b, d); break;
+        case 1:
+            if ((x = compare(f, r[a], r[b])) < 0) { stop = 1; goto stopped; }
+            r[d] = (uint16_t)x; count(&usage, CMPLT + f - (f > 2), a, b, d); break;
+        case 2: r[b] = (uint16_t)(r[a] + extend6(w)); count(&usage, ADDI, a, NONE, b); break;
+        case 3: r[b] = load_word(memory, (uint16_t)(r[a] + extend6(w))); count(&usage, LD, a, NONE, b); break;
+        case 4: store_word(memory, (uint16_t)(r[a] + extend6(w)), r[b]); count(&usage, ST, a, b, NONE); break;
+        case 5: r[b] = extend8(memory[(uint16_t)(r[a] + extend6(w))]); count(&usage, LDB, a, NONE, b); break;
+        case 6: memory[(uint16_t)(r[a] + extend6(w))] = (uint8_t)r[b]; count(&usage, STB, a, b, NONE); break;
+        case 7: x = r[a] & 0xFFFE; r[b] = next; next = (uint16_t)x; count(&usage, JALR, a, NONE, b); break;
+        case 8: if ((r[a] == 0) != e) next = (uint16_t)(next + 2 * extend8(w)); count(&usage, BZ + e, a, NONE, NONE); break;
+        case 9:
+            r[a] = e != 0 ? (uint16_t)(w << 8 | (r[a] & 255)) : extend8(w);
+            count(&usage, MOVI + e, e != 0 ? a : NONE, NONE, a); break;
         case 10:
-            if ((w & 256) == 0) { *a = inputs[w & 255]; break; }
+            if (e == 0) { r[a] = inputs[w & 255]; count(&usage, IN, NONE, NONE, a); break; }
             if (entries == log_len) { stop = 2; goto stopped; }
-            outputs[w & 255] = *a;
-            log[entries++] = (uint64_t)(state.n + steps) << 24 | (uint64_t)(w & 255) << 16 | *a;
-            break;
+            outputs[w & 255] = r[a]; count(&usage, OUT, a, NONE, NONE);
+            log[entries++] = (uint64_t)(state.n + steps) << 24 | (uint64_t)(w & 255) << 16 | r[a]; break;
         default: stop = 1; goto stopped;
         }
         pc = next;
@@ -71,7 +75,7 @@ stopped:
     memcpy(state.r, r, sizeof r);
     state.pc = pc;
     state.n += steps;
-    return (SisaRun){ .state = state, .stop = stop, .steps = steps, .entries = entries };
+    return (SisaRun){ .state = state, .stop = stop, .steps = steps, .entries = entries, .usage = usage };
 }
 
 SisaRun plain_run(SisaState state,

@@ -5,7 +5,7 @@
 
 enum { MEMORY_BYTES = 65536, PORTS = 256 };
 
-/* The run of sisa_run_by_rules (sisa.h), by two C interpreters. */
+/* The run of sisa_run_by_rules (sisa.h), by C interpreters. The usage of uncounted_run is all 0. */
 typedef SisaRun Run(SisaState state,
                     const uint8_t *program, size_t program_len,
                     uint8_t *memory, size_t memory_len,
@@ -14,7 +14,7 @@ typedef SisaRun Run(SisaState state,
                     uint32_t budget,
                     uint64_t *log, size_t log_len);
 
-Run plain_run, flat_run;
+Run plain_run, flat_run, uncounted_run;
 
 /* The save of sisa_save, by plain C: one scans both memories from the end byte by byte; the other, for memories without
    trailing zeros, copies both whole. */

@@ -1,5 +1,5 @@
 /* A host in C: loads a trim, sets three inputs, runs it, shows the corrections, saves both memories and loads them again;
-   then takes the first steps one by one.
+   then takes the first steps one by one, and shows the usage sheet of it all.
 
        gcc -O2 -Iinclude examples/host.c target/staticlib/libsisa.a -o target/host_c
        target/host_c examples/gain.trim */
@@ -13,6 +13,10 @@ enum { MEMORY_BYTES = 65536, PORTS = 256, LOG_PLACES = 64, BUDGET = 1000, HOST_S
 static uint8_t file[16 + 2 * MEMORY_BYTES], program[MEMORY_BYTES], memory[MEMORY_BYTES];
 static uint16_t inputs[PORTS], outputs[PORTS];
 static uint64_t port_log[LOG_PLACES];
+static SisaSheet sheet; /* all zero: the empty sheet */
+
+static const char *const kinds[25] = {"AND",   "OR",   "XOR", "NOT", "ADD", "SUB", "SHA",  "SHL", "CMPLT", "CMPLE", "CMPEQ", "CMPLTU", "CMPLEU",
+                                      "ADDI",  "LD",   "ST",  "LDB", "STB", "JALR", "BZ",  "BNZ", "MOVI",  "MOVHI", "IN",    "OUT"};
 
 static void print_state(const char *title, const SisaState *state)
 {
@@ -77,18 +81,38 @@ static int save_and_load(void)
     return 1;
 }
 
+/* Adds what a run or a host step returned. */
+static void feed(uint8_t refusal, SisaUsage usage)
+{
+    SisaFed fed = sisa_feed(sheet, refusal, usage);
+    refused(fed.refusal);
+    sheet = fed.sheet;
+}
+
 /* Each step is a run by the table with budget 1, over the state held here. Memory and ports are as the run left them. */
 static void step_by_step(SisaState state)
 {
     for (int i = 0; i < HOST_STEPS; i++) {
         SisaAnswer answer = sisa_host_step(&state, program, sizeof program, memory, sizeof memory, inputs, PORTS,
                                            outputs, PORTS, port_log, LOG_PLACES);
+        feed(answer.refusal, answer.usage);
         if (answer.steps == 0) {
             printf("no step: refusal %u, stop %u\n", answer.refusal, answer.stop);
             return;
         }
         print_state("host step", &state);
     }
+}
+
+/* The kinds that were done, and the registers. */
+static void print_sheet(void)
+{
+    printf("sheet of %u runs\n", sheet.runs);
+    for (int k = 0; k < 25; k++)
+        if (sheet.kinds[k] != 0)
+            printf("%-6s %6llu steps\n", kinds[k], (unsigned long long)sheet.kinds[k]);
+    for (int j = 0; j < 8; j++)
+        printf("R%d     %6llu reads %6llu writes\n", j, (unsigned long long)sheet.reads[j], (unsigned long long)sheet.writes[j]);
 }
 
 int main(int argc, char **argv)
@@ -105,6 +129,7 @@ int main(int argc, char **argv)
     set_knobs();
     SisaRun run = sisa_run_by_rules(loaded.state, program, sizeof program, memory, sizeof memory, inputs, PORTS,
                                     outputs, PORTS, BUDGET, port_log, LOG_PLACES);
+    feed(run.refusal, run.usage);
     if (refused(run.refusal))
         return 1;
     printf("run by the rules: stop %u, steps %u, entries %u\n", run.stop, run.steps, (unsigned)run.entries);
@@ -113,5 +138,6 @@ int main(int argc, char **argv)
     if (!save_and_load())
         return 1;
     step_by_step(loaded.state);
+    print_sheet();
     return 0;
 }

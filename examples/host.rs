@@ -1,5 +1,5 @@
 //! A host in Rust: loads a trim, sets three inputs, runs it, shows the corrections, saves both memories and loads them
-//! again; then takes the first steps one by one. It prints what host.c prints.
+//! again; then takes the first steps one by one, and shows the usage sheet of it all. It prints what host.c prints.
 //!
 //!     rustc --edition 2021 -O examples/host.rs -L target/staticlib -l static=sisa -o target/host_rs
 //!     target/host_rs examples/gain.trim
@@ -29,12 +29,37 @@ mod ffi {
     }
 
     #[repr(C)]
+    #[derive(Clone, Copy)]
+    pub struct Usage {
+        pub kinds: [u64; 25],
+        pub reads: [u64; 8],
+        pub writes: [u64; 8],
+    }
+
+    /// All zero is the empty sheet.
+    #[repr(C)]
+    #[derive(Clone, Copy, Default)]
+    pub struct Sheet {
+        pub kinds: [u64; 25],
+        pub reads: [u64; 8],
+        pub writes: [u64; 8],
+        pub runs: u16,
+    }
+
+    #[repr(C)]
+    pub struct Fed {
+        pub sheet: Sheet,
+        pub refusal: u8,
+    }
+
+    #[repr(C)]
     pub struct Run {
         pub state: State,
         pub refusal: u8,
         pub stop: u8,
         pub steps: u32,
         pub entries: u64,
+        pub usage: Usage,
     }
 
     #[repr(C)]
@@ -43,6 +68,7 @@ mod ffi {
         pub stop: u8,
         pub steps: u32,
         pub entries: u64,
+        pub usage: Usage,
     }
 
     #[rustfmt::skip]
@@ -66,10 +92,11 @@ mod ffi {
             inputs: *mut u16, inputs_len: usize, outputs: *mut u16, outputs_len: usize,
             log: *mut u64, log_len: usize,
         ) -> Answer;
+        pub fn sisa_feed(sheet: Sheet, run_refusal: u8, usage: Usage) -> Fed;
     }
 }
 
-use ffi::State;
+use ffi::{Sheet, State, Usage};
 
 const MEMORY_BYTES: usize = 65_536;
 const PORTS: usize = 256;
@@ -80,11 +107,37 @@ const FILE_BYTES: usize = 16 + 2 * MEMORY_BYTES;
 #[derive(Debug)]
 struct Refusal(u8);
 
-/// Why a run stopped, its steps and the entries it wrote.
+/// Why a run stopped, its steps, the entries it wrote and its counts.
 struct Report {
     stop: u8,
     steps: u32,
     entries: usize,
+    usage: Usage,
+}
+
+#[rustfmt::skip]
+const KINDS: [&str; 25] = [
+    "AND", "OR", "XOR", "NOT", "ADD", "SUB", "SHA", "SHL", "CMPLT", "CMPLE", "CMPEQ", "CMPLTU", "CMPLEU", "ADDI", "LD", "ST", "LDB",
+    "STB", "JALR", "BZ", "BNZ", "MOVI", "MOVHI", "IN", "OUT",
+];
+
+/// Adds what an accepted run returned.
+fn feed(sheet: &mut Sheet, report: &Report) -> Result<(), Refusal> {
+    // SAFETY: the function takes its arguments by value.
+    let fed = unsafe { ffi::sisa_feed(*sheet, 0, report.usage) };
+    *sheet = fed.sheet;
+    accepted(fed.refusal, ())
+}
+
+/// The kinds that were done, and the registers.
+fn print_sheet(sheet: &Sheet) {
+    println!("sheet of {} runs", sheet.runs);
+    for (kind, steps) in KINDS.iter().zip(sheet.kinds).filter(|row| row.1 != 0) {
+        println!("{kind:<6} {steps:>6} steps");
+    }
+    for (j, (reads, writes)) in sheet.reads.iter().zip(sheet.writes).enumerate() {
+        println!("R{j}     {reads:>6} reads {writes:>6} writes");
+    }
 }
 
 fn accepted<T>(refusal: u8, value: T) -> Result<T, Refusal> {
@@ -186,6 +239,7 @@ impl Machine {
                 stop: reply.stop,
                 steps: reply.steps,
                 entries: reply.entries as usize,
+                usage: reply.usage,
             },
         )
     }
@@ -214,6 +268,7 @@ impl Machine {
                 stop: reply.stop,
                 steps: reply.steps,
                 entries: reply.entries as usize,
+                usage: reply.usage,
             },
         )
     }
@@ -239,6 +294,7 @@ impl Machine {
 
 fn host(file: &[u8]) -> Result<(), Refusal> {
     let mut log = [0; 64];
+    let mut sheet = Sheet::default();
     let mut machine = Machine::load(file)?;
     let reset = machine.state;
     machine.set_input(0, 500)?;
@@ -247,6 +303,7 @@ fn host(file: &[u8]) -> Result<(), Refusal> {
     println!("inputs: port 0 level 500, port 1 gain exponent -2, port 2 lift 20");
 
     let run = machine.run_by_rules(1_000, &mut log)?;
+    feed(&mut sheet, &run)?;
     println!(
         "run by the rules: stop {}, steps {}, entries {}",
         run.stop, run.steps, run.entries
@@ -267,12 +324,14 @@ fn host(file: &[u8]) -> Result<(), Refusal> {
     machine.state = reset;
     for _ in 0..5 {
         let step = machine.host_step(&mut log)?;
+        feed(&mut sheet, &step)?;
         if step.steps == 0 {
             println!("no step: refusal 0, stop {}", step.stop);
             break;
         }
         machine.print("host step");
     }
+    print_sheet(&sheet);
     Ok(())
 }
 

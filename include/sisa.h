@@ -42,14 +42,38 @@ typedef struct {
     uint32_t words;
 } SisaAssembly;
 
+/* The counts of a run: steps by kind, in the kinds' order, and how many steps read and wrote each register, a register once a
+   step. All are 0 where the run is refused. */
+typedef struct {
+    uint64_t kinds[25];
+    uint64_t reads[8];
+    uint64_t writes[8];
+} SisaUsage;
+
+/* A usage sheet for a show: the counts of the accepted runs that were fed to it, modulo 2^64, and how many they were. All zero is
+   the empty sheet. */
+typedef struct {
+    uint64_t kinds[25];
+    uint64_t reads[8];
+    uint64_t writes[8];
+    uint16_t runs;
+} SisaSheet;
+
+/* What feeding replies: the sheet, as it was where the feeding is refused. */
+typedef struct {
+    SisaSheet sheet;
+    uint8_t refusal;
+} SisaFed;
+
 /* What a run replies: the state (as handed, where the run is refused), the refusal, the stop reason (0 budget used,
-   1 unassigned word, 2 OUT with the log full), the steps taken and the entries written to the log. */
+   1 unassigned word, 2 OUT with the log full), the steps taken, the entries written to the log, and the counts. */
 typedef struct {
     SisaState state;
     uint8_t refusal;
     uint8_t stop;
     uint32_t steps;
     uint64_t entries;
+    SisaUsage usage;
 } SisaRun;
 
 /* What a host step replies: SisaRun without the state, which the host holds. */
@@ -58,6 +82,7 @@ typedef struct {
     uint8_t stop;
     uint32_t steps;
     uint64_t entries;
+    SisaUsage usage;
 } SisaAnswer;
 
 /* An instruction: its kind, 0 to 24 in the reference sheet's order (AND 0, .. OUT 24), and its parts; or assigned 0. Beside it
@@ -134,6 +159,10 @@ SisaAnswer sisa_host_step(SisaState *state,
                           uint16_t *inputs, size_t inputs_len,
                           uint16_t *outputs, size_t outputs_len,
                           uint64_t *log, size_t log_len);
+
+/* Adds to a sheet what a run returned: the counts of an accepted one (run_refusal 0), nothing of a refused one. An accepted run is
+   refused with 13 where the sheet has 65,535 of them. Any sheet and any counts may be handed in. */
+SisaFed sisa_feed(SisaSheet sheet, uint8_t run_refusal, SisaUsage usage);
 
 /* The instruction that a word is, and the registers that it reads and writes. */
 SisaInstruction sisa_read(uint16_t word);

@@ -19,5 +19,6 @@ pub fn host_step(
         stop: answer.stop,
         steps: answer.steps,
         entries: answer.entries,
+        usage: answer.usage,
     }
 }

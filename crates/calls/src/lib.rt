@@ -9,10 +9,18 @@ use player::lent::least;
 use player::print;
 use player::runs::of_call;
 use replies::SisaWindow;
+use sheet::Sheet;
 
 mod host;
 mod instructions;
 mod runs;
+pub mod sheets;
+
+// What the host keeps between two calls.
+pub struct Kept {
+    pub state: State,
+    pub sheet: Sheet,
+}
 
 // The start of a call's line.
 pub fn start_line(what: &[u8], c: u16, i: u16) {
@@ -79,20 +87,20 @@ fn window<'a>(c: u16, i: u16, program: &'a [u8], memory: &'a [u8]) {
     print::last_field(digest as u64);
 }
 
-// Call i. Answers the state that the host keeps.
+// Call i. Answers what the host keeps.
 pub fn call(
     c: u16,
     i: u16,
-    kept: State,
+    kept: Kept,
     program: &Memory,
     memory: &mut Memory,
     inputs: &mut Ports,
     outputs: &mut Ports,
     log: &mut Log,
-) -> State {
+) -> Kept {
     match of_call(c, i, 0) % 8 {
         0 => {
-            set(c, i, kept, program, memory, inputs, outputs, log);
+            set(c, i, kept.state, program, memory, inputs, outputs, log);
             kept
         }
         6 => {

@@ -1,5 +1,7 @@
 // The runs of a case. The engine is a call's choice: 1 or 2 the rules, 3 or 4 the table, 5 a host step.
+use crate::Kept;
 use crate::host;
+use crate::sheets;
 use machine::State;
 use player::lent::Log;
 use player::lent::Memory;
@@ -8,8 +10,9 @@ use player::lent::least;
 use player::print;
 use player::runs::Reply;
 use player::runs::Request;
-use player::runs::finish;
+use player::runs::kept_after;
 use player::runs::of_call;
+use player::runs::print_reply;
 use replies::SisaRun;
 
 const HOST: u16 = 5;
@@ -60,11 +63,11 @@ fn run_request(
     inputs: &mut [u16],
     outputs: &mut [u16],
     log: &mut [u64],
-) -> Reply {
+) -> SisaRun {
     let bytes = least(request.bytes, memory.len());
     let ports = least(request.ports, outputs.len());
     let places = least(request.places, log.len());
-    let ran = run_by(
+    run_by(
         engine,
         request.state,
         program,
@@ -73,8 +76,7 @@ fn run_request(
         &mut outputs[0..ports],
         request.budget,
         &mut log[0..places],
-    );
-    reply_of(ran)
+    )
 }
 
 fn print_engine(engine: u16) {
@@ -85,20 +87,28 @@ fn print_engine(engine: u16) {
     }
 }
 
-// Answers the state that the host keeps.
+// The run, and what it returned fed to the sheet. Answers what the host keeps.
 pub fn run(
     engine: u16,
     c: u16,
     i: u16,
-    kept: State,
+    kept: Kept,
     program: &Memory,
     memory: &mut Memory,
     inputs: &mut Ports,
     outputs: &mut Ports,
     log: &mut Log,
-) -> State {
-    let request = request_of(engine, c, i, kept);
-    let reply = run_request(engine, request, program, memory, inputs, outputs, log);
+) -> Kept {
+    let request = request_of(engine, c, i, kept.state);
+    let ran = run_request(engine, request, program, memory, inputs, outputs, log);
+    let reply = reply_of(ran);
     print_engine(engine);
-    finish(c, i, kept, reply, program, memory, inputs, outputs, log)
+    print_reply(c, i, reply);
+    print::field(sheets::usage_digest(ran.usage) as u64);
+    print::left(ran.state, program, memory, inputs, outputs, log);
+    let sheet = sheets::feed(c, i, kept.sheet, ran.refusal, ran.usage);
+    Kept {
+        state: kept_after(kept.state, reply),
+        sheet,
+    }
 }

@@ -5,11 +5,11 @@ use Rattle.machine.specs.Step.{fetched, step}
 use Rattle.machine.specs.Run.{byRules}
 use Rattle.control.specs.Control.{byTable}
 use Rattle.control.proofs.Agreement.{agreement, agreement-port, same-stepper}
-use Rattle.run.specs.Runs.{Given, runLeft}
+use Rattle.run.specs.Runs.{Given, countedLeft}
 use Rattle.claims.specs.Agreement.{Agreement}
 
-pub same-run : (g : Given) → runLeft byTable g ≡ runLeft byRules g
-same-run g = ap (λ v. runLeft v g) same-stepper
+pub same-run : (g : Given) → countedLeft byTable g ≡ countedLeft byRules g
+same-run g = ap (λ v. countedLeft v g) same-stepper
 
 pub agreed : Agreement
 unfolding step

@@ -5,7 +5,7 @@ use mathlib.Core.List.{List, [], _∷_}
 use Prim.Native.Nat.{ℕ}
 use lib.ListN.{getD}
 use Rattle.refusal.specs.declared.Refusal.{Refusal}
-use Rattle.refusal.specs.declared.Refusal.the-variants.{LentLength, ShortFile, LargePart, PartOutside, OddPc, StepCount, InstructionPart, LongFile, ShortDestination, TextLine, TextName, TextValue}
+use Rattle.refusal.specs.declared.Refusal.the-variants.{LentLength, ShortFile, LargePart, PartOutside, OddPc, StepCount, InstructionPart, LongFile, ShortDestination, TextLine, TextName, TextValue, FullSheet}
 use Rattle.refusal.specs.Refusals.{refusalNumber, Verdict, accepted, refused as turned-away}
 use Rattle.kinds.specs.declared.Kind.the-variants.{And}
 use Rattle.isa.specs.declared.Reading.{Reading}
@@ -29,6 +29,9 @@ use Rattle.save.specs.Saved.{SaveReply, saved, refused as save-refused, shownSa
 use Rattle.run.specs.declared.Answer.{Answer}
 use Rattle.run.specs.declared.Answer.the-variants.{Stopped, Refused as RunRefused}
 use Rattle.run.specs.Runs.{RunReply, stopped, refused as run-refused, shownAnswer}
+use Rattle.sheet.specs.declared.Feeding.{Feeding}
+use Rattle.sheet.specs.declared.Feeding.the-variants.{Taken, Refused as FeedRefused}
+use Rattle.sheet.specs.Sheet.{shownFeeding}
 use Rattle.kinds.specs.Kinds.{kinds}
 use Rattle.isa.specs.Instructions.{Read, instruction, unassigned, shownReading, Written, word, refused, shownWriting}
 use Rattle.isa.specs.Masks.{Decoding, shownDecoded}
@@ -40,7 +43,7 @@ undone f g h x y e = sym (h x) ∙ ap g e ∙ h y
 
 -- the refusal of a number
 abbrev refusal-at : ℕ → Refusal
-refusal-at n = getD (LentLength ∷ LentLength ∷ ShortFile ∷ LargePart ∷ PartOutside ∷ OddPc ∷ StepCount ∷ InstructionPart ∷ LongFile ∷ ShortDestination ∷ TextLine ∷ TextName ∷ TextValue ∷ []) n LentLength
+refusal-at n = getD (LentLength ∷ LentLength ∷ ShortFile ∷ LargePart ∷ PartOutside ∷ OddPc ∷ StepCount ∷ InstructionPart ∷ LongFile ∷ ShortDestination ∷ TextLine ∷ TextName ∷ TextValue ∷ FullSheet ∷ []) n LentLength
 
 refusal-back : (x : Refusal) → refusal-at (refusalNumber x) ≡ x
 refusal-back LentLength = refl
@@ -55,6 +58,7 @@ refusal-back ShortDestination = refl
 refusal-back TextLine = refl
 refusal-back TextName = refl
 refusal-back TextValue = refl
+refusal-back FullSheet = refl
 
 reading-of : Read → Reading
 reading-of (instruction i) = ReadInstruction i
@@ -96,6 +100,11 @@ unfolding verdict-of
 setting-back Done = refl
 setting-back (SetRefused r) = ap SetRefused (refusal-back r)
 
+feeding-back : (x : Feeding) → verdict-of Taken FeedRefused (shownFeeding x) ≡ x
+unfolding verdict-of
+feeding-back Taken = refl
+feeding-back (FeedRefused r) = ap FeedRefused (refusal-back r)
+
 saving-of : SaveReply → Saving
 saving-of (saved n) = Saved n
 saving-of (save-refused n) = SaveRefused (refusal-at n)
@@ -135,4 +144,5 @@ answers =
       assembly = undone shownAssembly assembly-of assembly-back;
       setting = undone shownSetting (verdict-of Done SetRefused) setting-back;
       answer = undone shownAnswer answer-of answer-back;
+      feeding = undone shownFeeding (verdict-of Taken FeedRefused) feeding-back;
     }

@@ -5,24 +5,28 @@ use mathlib.Core.List.{List, [], _∷_, map}
 use Prim.Native.Nat.{ℕ}
 use Rattle.machine.specs.Run.{byRules}
 use Rattle.panel.specs.Calls.{SetLeft, setLeft}
-use Rattle.run.specs.Runs.{Left, runLeft}
+use Rattle.run.specs.Runs.{CountedLeft, countedLeft}
 use Rattle.claims.specs.Session.{by-rules, by-table, Lent, Call, runs, sets, Reply, of-run, of-set, plain, Alike, Host, givenTo, afterRun, afterSet, CallMeets, a-run, a-setting, Calls, none, more}
 use Rattle.claims.proofs.Agreement.{same-run}
 use Rattle.claims.proofs.Together.{both}
 
-abbrev pub ranOn : Host → Lent → Left
-ranOn h lent = runLeft byRules (givenTo h lent)
+abbrev pub ranOn : Host → Lent → CountedLeft
+ranOn h lent = countedLeft byRules (givenTo h lent)
+
+-- what is told of it
+abbrev pub told : CountedLeft → Reply
+told x = of-run (x .left .reply) (x .usage) (x .left .log)
 
 abbrev pub setOn : Host → ℕ → ℕ → SetLeft
 setOn h port value = setLeft (record { I = h .I; port = port; value = value })
 
 -- what a call replies and leaves
 abbrev pub replyTo : Host → Call → Reply
-replyTo h (runs e lent) = of-run (ranOn h lent .reply) (ranOn h lent .log)
+replyTo h (runs e lent) = told (ranOn h lent)
 replyTo h (sets port value) = of-set (setOn h port value .reply)
 
 abbrev pub callOn : Host → Call → Host
-callOn h (runs e lent) = afterRun (ranOn h lent)
+callOn h (runs e lent) = afterRun (ranOn h lent .left)
 callOn h (sets port value) = afterSet h (setOn h port value)
 
 repliesTo : Host → List Call → List Reply
@@ -36,7 +40,7 @@ callsOn h (c ∷ cs) = callsOn (callOn h c) cs
 does-decided : {h h′ : Host} {c : Call} {r : Reply} → CallMeets h c r h′ → (r ≡ replyTo h (plain c)) × (h′ ≡ callOn h (plain c))
 does-decided (a-run h e lent x promise) =
     let p : x ≡ ranOn h lent = both e (givenTo h lent) x promise in
-    (ap (λ (y : Left). of-run (y .reply) (y .log)) p, ap afterRun p)
+    (ap told p, ap (λ (y : CountedLeft). afterRun (y .left)) p)
 does-decided (a-setting h port value x promise) = (ap (λ (y : SetLeft). of-set (y .reply)) promise, ap (afterSet h) promise)
 
 calls-decided :

@@ -11,7 +11,8 @@ use Rattle.word.specs.Word.{pick}
 use Rattle.machine.specs.declared.State.{State}
 use Rattle.machine.specs.Lengths.{lengthsFit}
 use Rattle.control.specs.Control.{byTable}
-use Rattle.run.specs.Runs.{Given, Left, RunReply, stopped, refused, verdict, verdictOn, leftBy, runLeft}
+use Rattle.usage.specs.declared.Usage.{Usage}
+use Rattle.run.specs.Runs.{Given, RunReply, stopped, refused, verdict, countedBy, countedLeft}
 use Rattle.replies.specs.declared.SisaAnswer.{SisaAnswer}
 use Rattle.replies.specs.declared.SisaRun.{SisaRun}
 use Rattle.replies.specs.Sisa.{SisaRunLeft, sisaRun, sisaLeft, runInNumbers, sisaRunLeft, withState}
@@ -23,43 +24,54 @@ use Rattle.claims.proofs.Decided.{does-exists, replyTo, callOn, same}
 
 -- the numbers of a run's reply without its state
 abbrev answerOf : SisaRun → SisaAnswer
-answerOf r = record { refusal = r .refusal; stop = r .stop; steps = r .steps; entries = r .entries }
+answerOf r = record { refusal = r .refusal; stop = r .stop; steps = r .steps; entries = r .entries; usage = r .usage }
 
 -- a refusal's number is not 0
 abbrev Numbered : RunReply → Type 0
 Numbered (stopped q s e) = Unit {0}
 Numbered (refused k) = eqb k 0 ≡ false
 
-of-verdict : (g : Given) → Numbered (runLeft byTable g .reply)
-unfolding runLeft verdict
+of-verdict : (g : Given) → Numbered (countedLeft byTable g .left .reply)
+unfolding countedLeft verdict
 of-verdict g = go (lengthsFit (g .P) (g .D) (g .I) (g .O)) (eqb (g .state .pc % 2) 0) (leb (g .state .n + g .budget) 4294967295)
   where
-    go : (x y z : Bool) → Numbered (leftBy byTable (pick x (pick y (pick z accepted (turned-away 6)) (turned-away 5)) (turned-away 1)) g .reply)
+    go : (x y z : Bool) → Numbered (countedBy byTable (pick x (pick y (pick z accepted (turned-away 6)) (turned-away 5)) (turned-away 1)) g .left .reply)
     go true true true = tt
     go true true false = refl
     go true false z = refl
     go false y z = refl
 
-read-back : (r : RunReply) (s : State) → Numbered r → (replyOf (answerOf (sisaRun r s)) ≡ r) × (sisaRun r s .state ≡ s) × (withState s (answerOf (sisaRun r s)) ≡ sisaRun r s)
-read-back (stopped q n e) s h = (refl, refl, refl)
-read-back (refused k) s h = (rw h, refl, refl)
+read-back : (r : RunReply) (s : State) (u : Usage) → Numbered r
+    → (replyOf (answerOf (sisaRun r s u)) ≡ r) × (sisaRun r s u .state ≡ s) × (sisaRun r s u .usage ≡ u)
+read-back (stopped q n e) s u h = (refl, refl, refl)
+read-back (refused k) s u h = (rw h, refl, refl)
 
 -- ---- One host step
 
+-- a run's reply in numbers, as the host is told of it
+abbrev toldBy : SisaRun → List ℕ → Reply
+toldBy r log = of-run (replyOf (answerOf r)) (r .usage) log
+
+abbrev hostBy : SisaRunLeft → Host
+hostBy x = record { state = x .reply .state; P = x .P; D = x .D; I = x .I; O = x .O }
+
 step-runs : (h : Host) (log : List ℕ) (x : SisaRunLeft) → x ≡ sisaRunLeft byTable (givenTo h (budget1 log))
-    → CallMeets h (asRun (host-step log)) (of-run (replyOf (answerOf (x .reply))) (x .log)) (record { state = x .reply .state; P = x .P; D = x .D; I = x .I; O = x .O })
+    → CallMeets h (asRun (host-step log)) (toldBy (x .reply) (x .log)) (hostBy x)
 unfolding sisaRunLeft
 step-runs h log x e =
     let g = givenTo h (budget1 log) in
-    let l = runLeft byTable g in
-    let b = read-back (l .reply) (l .state) (of-verdict g) in
-    subst (λ (y : SisaRunLeft). CallMeets h (asRun (host-step log)) (of-run (replyOf (answerOf (y .reply))) (y .log)) (record { state = y .reply .state; P = y .P; D = y .D; I = y .I; O = y .O }))
+    let c = countedLeft byTable g in
+    let l = c .left in
+    let b = read-back (l .reply) (l .state) (c .usage) (of-verdict g) in
+    subst (λ (y : SisaRunLeft). CallMeets h (asRun (host-step log)) (toldBy (y .reply) (y .log)) (hostBy y))
     (sym e)
-    (subst (λ (r : RunReply). CallMeets h (asRun (host-step log)) (of-run r (l .log)) (record { state = sisaRun (l .reply) (l .state) .state; P = l .P; D = l .D; I = l .I; O = l .O }))
+    (subst (λ (r : RunReply). CallMeets h (asRun (host-step log)) (of-run r (sisaRun (l .reply) (l .state) (c .usage) .usage) (l .log)) (hostBy (runInNumbers c)))
     (sym (b .0))
-    (subst (λ (s : State). CallMeets h (asRun (host-step log)) (of-run (l .reply) (l .log)) (record { state = s; P = l .P; D = l .D; I = l .I; O = l .O }))
+    (subst (λ (s : State). CallMeets h (asRun (host-step log)) (of-run (l .reply) (sisaRun (l .reply) (l .state) (c .usage) .usage) (l .log)) (record { state = s; P = l .P; D = l .D; I = l .I; O = l .O }))
     (sym (b .1))
-    (a-run h by-table (budget1 log) l refl)))
+    (subst (λ (u : Usage). CallMeets h (asRun (host-step log)) (of-run (l .reply) u (l .log)) (record { state = l .state; P = l .P; D = l .D; I = l .I; O = l .O }))
+    (sym (b .2))
+    (a-run h by-table (budget1 log) c refl))))
 
 does-run : {h after : Host} {c : HostCall} {r : Reply} → HostCallMeets h c r after → CallMeets h (asRun c) r after
 does-run (a-call d) = d
@@ -76,8 +88,8 @@ does-one h (call c) = (replyTo h c, callOn h c, a-call (does-exists h c))
 does-one h (host-step log) =
     let x = sisaRunLeft byTable (givenTo h (budget1 log)) in
     let a = answerOf (x .reply) in (
-      of-run (replyOf a) (x .log),
-      record { state = x .reply .state; P = x .P; D = x .D; I = x .I; O = x .O },
+      toldBy (x .reply) (x .log),
+      hostBy x,
       a-step h log a (x .reply .state) (x .P) (x .D) (x .I) (x .O) (x .log) refl,
     )
 

@@ -13,10 +13,11 @@ use Rattle.machine.specs.Step.{PC, to}
 use Rattle.machine.specs.Run.{byRules}
 use Rattle.panel.specs.Calls.{SetLeft, setLeft}
 use Rattle.control.proofs.Laws.{lawful-rules, local-rules}
-use Rattle.run.specs.Runs.{Left, verdict, verdictOn, leftBy, runLeft}
-use Rattle.claims.specs.Session.{Call, Reply, of-run, Host, Lent, givenTo, afterRun, afterSet, CallMeets, a-run, a-setting, Calls, none, more, outcome, machineOn, Only6, All, nil, cons}
+use Rattle.run.specs.Runs.{verdict, verdictOn, CountedLeft, countedBy, countedLeft}
+use Rattle.claims.specs.Session.{Call, Reply, Host, Lent, givenTo, afterRun, afterSet, CallMeets, a-run, a-setting, Calls, none, more, outcome, machineOn, Only6, All, nil, cons}
 use Rattle.claims.proofs.Shift.{run-keeps}
 use Rattle.claims.proofs.Together.{both}
+use Rattle.claims.proofs.Decided.{told}
 
 abbrev lengths : Machine → ℕ × ℕ × ℕ × ℕ
 lengths m = (length (m .P), length (m .D), length (m .I), length (m .O))
@@ -31,7 +32,7 @@ step-fits m next s f = (ap (λ k. (length (k .0), k .1, k .2, k .3)) (local-rule
 module _ (h : Host) (f : Fit (machineOn h [])) where
   -- ---- A run
 
-  run-fits : (lent : Lent) (v : Verdict) → Fit (machineOn (afterRun (leftBy byRules v (givenTo h lent))) [])
+  run-fits : (lent : Lent) (v : Verdict) → Fit (machineOn (afterRun (countedBy byRules v (givenTo h lent) .left)) [])
   run-fits lent accepted = run-keeps Fit step-fits (lent .budget) (0 + length (lent .log)) (machineOn h []) f
   run-fits lent (turned-away k) = f
 
@@ -44,14 +45,14 @@ module _ (h : Host) (f : Fit (machineOn h [])) where
       let o : length (h .O) ≡ 256 = ap (λ x. x .3) (f .0) in
       rw (p, d, i, o, f .1)
 
-  run-only : (lent : Lent) (t : Bool) → (let x = leftBy byRules (pick t accepted (turned-away 6)) (givenTo h lent) in Only6 (of-run (x .reply) (x .log)))
+  run-only : (lent : Lent) (t : Bool) → Only6 (told (countedBy byRules (pick t accepted (turned-away 6)) (givenTo h lent)))
   run-only lent true = tt
   run-only lent false = refl
 
-  run-both : (lent : Lent) → (let x = runLeft byRules (givenTo h lent) in Only6 (of-run (x .reply) (x .log)) × Fit (machineOn (afterRun x) []))
-  unfolding runLeft
+  run-both : (lent : Lent) → (let x = countedLeft byRules (givenTo h lent) in Only6 (told x) × Fit (machineOn (afterRun (x .left)) []))
+  unfolding countedLeft
   run-both lent =
-      subst (λ v. let x = leftBy byRules v (givenTo h lent) in Only6 (of-run (x .reply) (x .log)) × Fit (machineOn (afterRun x) [])) (sym (only lent))
+      subst (λ v. let x = countedBy byRules v (givenTo h lent) in Only6 (told x) × Fit (machineOn (afterRun (x .left)) [])) (sym (only lent))
       (let t = leb (h .state .n + lent .budget) 4294967295 in (run-only lent t, run-fits lent (pick t accepted (turned-away 6))))
 
   -- ---- A setting
@@ -64,7 +65,7 @@ module _ (h : Host) (f : Fit (machineOn h [])) where
 
 does-fits : {h h′ : Host} {c : Call} {r : Reply} → CallMeets h c r h′ → Fit (machineOn h []) → Only6 r × Fit (machineOn h′ [])
 does-fits (a-run h e lent x promise) f =
-    subst (λ (y : Left). Only6 (of-run (y .reply) (y .log)) × Fit (machineOn (afterRun y) [])) (sym (both e (givenTo h lent) x promise)) (run-both h f lent)
+    subst (λ (y : CountedLeft). Only6 (told y) × Fit (machineOn (afterRun (y .left)) [])) (sym (both e (givenTo h lent) x promise)) (run-both h f lent)
 does-fits (a-setting h port value x promise) f =
     subst (λ (y : SetLeft). (y .reply ≡ accepted) × Fit (machineOn (afterSet h y) [])) (sym (promise ∙ setting-done h f port value))
     (refl, (simp length-set (f .0), f .1))

@@ -5,10 +5,12 @@ pub mod Assembly
 pub mod Chains
 pub mod Computed
 pub mod Contracts
+pub mod Counts
 pub mod Decided
 pub mod Decides
 pub mod Exact
 pub mod Exports
+pub mod Feeding
 pub mod Fitting
 pub mod HostSteps
 pub mod Instructions
@@ -36,5 +38,6 @@ pub mod Texts
 pub mod Together
 pub mod Touched
 pub mod Unassigned
+pub mod Usage
 pub mod Witnesses
 pub mod Written

@@ -19,7 +19,8 @@ use Rattle.machine.specs.Machine.{Machine, R}
 use Rattle.machine.specs.Step.{Ra, Rb, Next, cannot, to, fetched, step}
 use Rattle.control.specs.Control.{unit, performed, assigned, controlStep, controlIn}
 use Rattle.control.proofs.Agreement.{agreement}
-use Rattle.claims.specs.Masks.{masksAt, withOutside, onNext, MaskLaws}
+use Rattle.usage.specs.Usage.{masksAt}
+use Rattle.claims.specs.Masks.{withOutside, onNext, MaskLaws}
 use Rattle.claims.proofs.Exact.{exact}
 use Rattle.claims.proofs.Apart.{few, does-other, fetched-outside, in-mask, does-outside}
 use Rattle.claims.proofs.Touched.{is, in-one, destination, does, does-used, uses-x, uses-y, control, kind, x-in, y-in, writes-is, used}

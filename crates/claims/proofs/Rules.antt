@@ -1,12 +1,9 @@
 -- Two equations of tables of functions, by opcode, e and f, which antt computes for an unknown word and machine.
 -- Assumes nothing.
 use mathlib.Core.Path.{_≡_, refl, _∙_, ap}
-use mathlib.Core.Bool.{Bool, true, false}
 use mathlib.Core.List.{List, [], _∷_}
-use Prim.Native.Nat.{ℕ, zero, suc, _<_}
+use Prim.Native.Nat.{ℕ}
 use native.Mathlib.Omega.{arith}
-use borrow.Author.Tests.{eqb-true, eqb-false}
-use lib.Dec.{eqb}
 use lib.ListN.{getD, drop}
 use Rattle.word.specs.Fields.{opcode, e-of, f-of}
 use Rattle.word.specs.Word.{SE, operation, comparison}
@@ -14,24 +11,11 @@ use Rattle.isa.specs.Sheet.{kindAt}
 use Rattle.isa.specs.Instructions.{Read, instruction, unassigned, readAs, readOf}
 use Rattle.machine.specs.Machine.{Machine}
 use Rattle.machine.specs.Step.{Ra, Rb, d5-3, write, Rule, compute, compare, addi, ld, st, ldb, stb, jalr, bz, bnz, movi, movhi, input, output, Row, by-f, none, rows, inRow, choice, Next, cannot, to, stepBy, fetched, step}
+use Rattle.usage.proofs.Functions.{table, at}
 use Rattle.claims.specs.Rules.{afterInstruction, Rules}
 use Rattle.claims.proofs.Written.{written-then-read}
 
 -- ---- Tables
-
--- what g says at each number below n
-unfoldable pub table : {A : Type 0} → ℕ → (ℕ → A) → List A
-table zero g = []
-table (suc n) g = g n ∷ table n g
-
-at : {A : Type 0} (n : ℕ) (g h : ℕ → A) → table n g ≡ table n h → (k : ℕ) → k < n → g k ≡ h k
-unfolding table
-at zero g h e k l = absurd (omega arith)
-at (suc n) g h e k l = go (eqb k n) refl (λ l. at n g h (cc) k l)
-  where
-    go : (t : Bool) → eqb k n ≡ t → (k < n → g k ≡ h k) → g k ≡ h k
-    go true t r = rw (eqb-true k n t) (cc)
-    go false t r = r (omega (arith, eqb-false k n t))
 
 -- what g says at each opcode, e and f
 abbrev pub table-of : {A : Type 0} → (ℕ → ℕ → ℕ → A) → List (List (List A))

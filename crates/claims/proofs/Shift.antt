@@ -10,9 +10,11 @@ use borrow.Author.Tests.{le-leb, lt-leb, leb-true, leb-false}
 use lib.Dec.{leb}
 use lib.ListN.{length, length-append}
 use Rattle.machine.specs.Machine.{Machine}
-use Rattle.machine.specs.Step.{Next, cannot, to}
-use Rattle.machine.specs.Run.{byRules, Outcome, noPlace, runFrom}
-use Rattle.machine.proofs.Runs.{run-none, run-cannot, run-full, run-on}
+use Rattle.machine.specs.Step.{fetched, Next, cannot, to}
+use Rattle.machine.specs.Run.{byRules, Outcome, noPlace, runFrom, traceFrom}
+use Rattle.machine.proofs.Runs.{run-none, run-cannot, run-full, run-on, trace-none, trace-cannot, trace-full, trace-on}
+use Rattle.usage.specs.declared.Usage.{Usage}
+use Rattle.usage.specs.Usage.{doesKind, masksAt, counted, usageOf}
 use Rattle.control.proofs.Laws.{shift, shiftNext, local-rules}
 
 abbrev pub shiftOutcome : List ℕ → Outcome → Outcome
@@ -46,6 +48,31 @@ run-shift (suc k) full l m = by-next (byRules .steps m) refl (noPlace byRules fu
     by-next (cannot q) e t f ih = rw (run-cannot byRules k full m q e, run-cannot byRules k (length l + full) (shift l m) q (s e))
     by-next (to next) e true f ih = rw (run-full byRules k full m next e f, run-full byRules k (length l + full) (shift l m) (shift l next) (s e) (p f))
     by-next (to next) e false f ih = rw (run-on byRules k full m next e f, run-on byRules k (length l + full) (shift l m) (shift l next) (s e) (p f)) (ih next)
+
+-- ---- The trace goes alike, so the counts are the same
+
+counts-shift : (l : List ℕ) (m : Machine) {u u′ : Usage} → u ≡ u′ → counted (doesKind (shift l m)) (masksAt (shift l m)) u ≡ counted (doesKind m) (masksAt m) u′
+unfolding fetched
+counts-shift l m e = ap (counted (doesKind m) (masksAt m)) e
+
+pub usage-shift : (k full : ℕ) (l : List ℕ) (m : Machine) → usageOf (traceFrom byRules k (length l + full) (shift l m)) ≡ usageOf (traceFrom byRules k full m)
+unfolding usageOf
+usage-shift zero full l m = rw (trace-none byRules full m, trace-none byRules (length l + full) (shift l m))
+usage-shift (suc k) full l m = by-next (byRules .steps m) refl (noPlace byRules full m) refl (λ next. usage-shift k full l next)
+  where
+    s : {x : Next} → byRules .steps m ≡ x → byRules .steps (shift l m) ≡ shiftNext l x
+    s e = local-rules .steps-shift l m ∙ ap (shiftNext l) e
+
+    p : {t : Bool} → noPlace byRules full m ≡ t → noPlace byRules (length l + full) (shift l m) ≡ t
+    p f = place-shift full l m ∙ f
+
+    by-next : (x : Next) → byRules .steps m ≡ x → (t : Bool) → noPlace byRules full m ≡ t
+        → ((next : Machine) → usageOf (traceFrom byRules k (length l + full) (shift l next)) ≡ usageOf (traceFrom byRules k full next))
+        → usageOf (traceFrom byRules (suc k) (length l + full) (shift l m)) ≡ usageOf (traceFrom byRules (suc k) full m)
+    by-next (cannot q) e t f ih = rw (trace-cannot byRules k full m q e, trace-cannot byRules k (length l + full) (shift l m) q (s e))
+    by-next (to next) e true f ih = rw (trace-full byRules k full m next e f, trace-full byRules k (length l + full) (shift l m) (shift l next) (s e) (p f))
+    by-next (to next) e false f ih =
+        rw (trace-on byRules k full m next e f, trace-on byRules k (length l + full) (shift l m) (shift l next) (s e) (p f)) (counts-shift l m (ih next))
 
 -- what each step keeps
 module _ (Q : Machine → Type 0) (steps : (m next : Machine) → byRules .steps m ≡ to next → Q m → Q next) where

@@ -12,16 +12,18 @@ use lib.Seq.{take-append-seam, drop-append-seam}
 use Rattle.refusal.specs.Refusals.{Verdict, accepted, refused}
 use Rattle.word.specs.Word.{pick}
 use Rattle.machine.specs.Machine.{Machine, putI}
-use Rattle.machine.specs.Run.{byRules, Outcome, runFrom}
+use Rattle.machine.specs.Run.{byRules, Outcome, runFrom, traceFrom, trace}
+use Rattle.usage.specs.declared.Usage.{Usage}
+use Rattle.usage.specs.Usage.{usageOf}
 use Rattle.panel.specs.Calls.{SetLeft, setLeft}
 use Rattle.control.proofs.Laws.{shift}
-use Rattle.run.specs.Runs.{Given, Left, stopped, verdictOn, leftOf, leftBy, runLeft, RunMeets}
+use Rattle.run.specs.Runs.{Given, Left, stopped, verdictOn, leftOf, CountedLeft, countedBy, countedLeft, CountedMeets}
 use Rattle.claims.specs.Session.{Engine, by-rules, by-table, stepperOf, Lent, Call, runs, sets, Reply, of-run, of-set, Host, givenTo, afterRun, afterSet, CallMeets, a-run, a-setting, Calls, none, more, wrote, joined, outcome, runBy, machineCall, machineCalls, saidBy, machineSays, machineReplies, machineOn}
 use Rattle.claims.proofs.Agreement.{same-run}
-use Rattle.claims.proofs.Shift.{shiftOutcome, run-shift}
+use Rattle.claims.proofs.Shift.{shiftOutcome, run-shift, usage-shift}
 
 -- both engines promise the same
-pub both : (e : Engine) (g : Given) (x : Left) → RunMeets (stepperOf e) g x → x ≡ runLeft byRules g
+pub both : (e : Engine) (g : Given) (x : CountedLeft) → CountedMeets (stepperOf e) g x → x ≡ countedLeft byRules g
 both by-rules g x p = p
 both by-table g x p = p ∙ same-run g
 
@@ -41,11 +43,21 @@ outcome-shift h l lent =
     ≡ shiftOutcome l (runFrom byRules (lent .budget) (0 + length (lent .log)) (machineOn h [])))
     (append-nil l) (rw (zero-add (length (lent .log))) (run-shift (lent .budget) (length (lent .log)) l (machineOn h [])))
 
--- what a machine with l in its L says of a run that came to y
-abbrev saying : Host → List ℕ → Lent → Outcome → Reply
-saying h l lent y =
+-- and its counts
+counts-alike : (h : Host) (l : List ℕ) (lent : Lent)
+    → usageOf (trace byRules (lent .budget) (length (lent .log)) (machineOn h l)) ≡ usageOf (trace byRules (lent .budget) (length (lent .log)) (machineOn h []))
+counts-alike h l lent =
+    subst
+    (λ (x : List ℕ).
+    usageOf (traceFrom byRules (lent .budget) (length l + length (lent .log)) (machineOn h x))
+    ≡ usageOf (traceFrom byRules (lent .budget) (0 + length (lent .log)) (machineOn h [])))
+    (append-nil l) (rw (zero-add (length (lent .log))) (usage-shift (lent .budget) (length (lent .log)) l (machineOn h [])))
+
+-- what a machine with l in its L says of a run that came to y, with counts u
+abbrev saying : Host → List ℕ → Lent → Usage → Outcome → Reply
+saying h l lent u y =
     let new = drop (length l) (y .after .L) in
-    of-run (stopped (y .reason) (y .after .state .n - h .state .n) (length (y .after .L) - length l)) (new ++ drop (length new) (lent .log))
+    of-run (stopped (y .reason) (y .after .state .n - h .state .n) (length (y .after .L) - length l)) u (new ++ drop (length new) (lent .log))
 
 module _ (h : Host) (l : List ℕ) (lent : Lent) (z : Outcome) where
   abbrev left : Left
@@ -54,21 +66,25 @@ module _ (h : Host) (l : List ℕ) (lent : Lent) (z : Outcome) where
   left-held : machineOn (afterRun left) (l ++ take (length (z .after .L)) (left .log)) ≡ shift l (z .after)
   left-held = rw (take-append-seam (z .after .L) (drop (length (z .after .L)) (lent .log)))
 
-  left-says : of-run (left .reply) (left .log) ≡ saying h l lent (shiftOutcome l z)
-  left-says =
+  left-says : (u : Usage) → of-run (left .reply) u (left .log) ≡ saying h l lent u (shiftOutcome l z)
+  left-says u =
       let k : length (l ++ z .after .L) - length l ≡ length (z .after .L) = rw (length-append l (z .after .L)) (omega arith) in
       rw (drop-append-seam l (z .after .L), k)
 
 run-together :
     (h : Host) (l : List ℕ) (lent : Lent) (v : Verdict)
-    → (let x = leftBy byRules v (givenTo h lent) in
-    (machineOn (afterRun x) (l ++ wrote (of-run (x .reply) (x .log))) ≡ runBy v (machineOn h l) lent)
-    × (of-run (x .reply) (x .log) ≡ saidBy v (machineOn h l) lent))
+    → (let c = countedBy byRules v (givenTo h lent) in
+    let x = c .left in
+    (machineOn (afterRun x) (l ++ wrote (of-run (x .reply) (c .usage) (x .log))) ≡ runBy v (machineOn h l) lent)
+    × (of-run (x .reply) (c .usage) (x .log) ≡ saidBy v (machineOn h l) lent))
 run-together h l lent (refused k) = (rw append-nil, refl)
 run-together h l lent accepted =
     let z = outcome (machineOn h []) lent in
     let e = sym (outcome-shift h l lent) in
-    (left-held h l lent z ∙ ap (λ y. y .after) e, left-says h l lent z ∙ ap (saying h l lent) e)
+    let u = usageOf (trace byRules (lent .budget) (length (lent .log)) (machineOn h [])) in (
+      left-held h l lent z ∙ ap (λ y. y .after) e,
+      left-says h l lent z u ∙ ap (saying h l lent u) e ∙ ap (λ (x : Usage). saying h l lent x (outcome (machineOn h l) lent)) (sym (counts-alike h l lent)),
+    )
 
 -- ---- A setting
 
@@ -83,9 +99,9 @@ set-together h l port value false = (rw append-nil, refl)
 -- ---- Lists
 
 does-together : {h h′ : Host} {c : Call} {r : Reply} → CallMeets h c r h′ → (l : List ℕ) → Together h l c r h′
-unfolding machineCall machineSays runLeft setLeft
+unfolding machineCall machineSays countedLeft setLeft
 does-together (a-run h e lent x promise) l =
-    subst (λ (y : Left). Together h l (runs e lent) (of-run (y .reply) (y .log)) (afterRun y))
+    subst (λ (y : CountedLeft). Together h l (runs e lent) (of-run (y .left .reply) (y .usage) (y .left .log)) (afterRun (y .left)))
     (sym (both e (givenTo h lent) x promise))
     (let t = run-together h l lent (verdictOn (givenTo h lent)) in record { held = t .0; says = t .1 })
 does-together (a-setting h port value x promise) l =

@@ -25,7 +25,8 @@ use Rattle.machine.specs.Step.{PC, d5-3, d8-6, d11-9}
 use Rattle.control.specs.Control.{second, units, unitField, result, next, storedData, stored, written, takes, assigned, table as controls}
 use Rattle.statement.specs.Syntax.{Register, a-register, b-register, d-register}
 use Rattle.claims.specs.Masks.{saidToUse}
-use Rattle.claims.proofs.Rules.{table, table-of, at-word}
+use Rattle.usage.proofs.Functions.{table}
+use Rattle.claims.proofs.Rules.{table-of, at-word}
 
 -- ---- Masks
 

@@ -24,7 +24,8 @@ use Rattle.machine.specs.Step.{PC, write, fetched}
 use Rattle.statement.specs.Syntax.{Register, a-register, b-register, d-register}
 use Rattle.listing.specs.Listing.{partOf}
 use Rattle.claims.specs.Rules.{afterInstruction}
-use Rattle.claims.specs.Masks.{masksAt, Does, Uses, Writes, has, saidToUse}
+use Rattle.usage.specs.Usage.{masksAt}
+use Rattle.claims.specs.Masks.{Does, Uses, Writes, has, saidToUse}
 use Rattle.claims.proofs.Computed.{is-word, word-is}
 use Rattle.claims.proofs.Rules.{rules}
 

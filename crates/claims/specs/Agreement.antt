@@ -6,11 +6,11 @@ use Rattle.machine.specs.Machine.{Machine}
 use Rattle.machine.specs.Step.{fetched, step}
 use Rattle.machine.specs.Run.{isOut, byRules}
 use Rattle.control.specs.Control.{controlOf, controlStep, writesPort, byTable}
-use Rattle.run.specs.Runs.{Given, runLeft}
+use Rattle.run.specs.Runs.{Given, countedLeft}
 
 pub record Agreement : Type 0 where
   pub steps : (m : Machine) → controlStep (controlOf (fetched m)) (fetched m) m ≡ step m
   -- and it writes a port exactly where the word is OUT
   pub ports : (w : ℕ) → writesPort (controlOf w) ≡ isOut w
-  -- what the two runs promise is one relation
-  pub runs : (g : Given) → runLeft byTable g ≡ runLeft byRules g
+  -- what the two runs promise is one relation, their counts included
+  pub runs : (g : Given) → countedLeft byTable g ≡ countedLeft byRules g

@@ -17,8 +17,12 @@ use Rattle.save.specs.Saved.{SaveLeft, shownSaving, saveLeft}
 use Rattle.assembler.specs.Text.{AssembleLeft, assembleLeft}
 use Rattle.assembler.specs.Passes.{shownAssembly}
 use Rattle.control.specs.Control.{byControl, byTable}
-use Rattle.run.specs.declared.Ran.{Ran}
-use Rattle.run.specs.Runs.{given, left, shownAnswer, RunMeets}
+use Rattle.usage.specs.declared.Usage.{Usage}
+use Rattle.run.specs.declared.Answer.{Answer}
+use Rattle.run.specs.declared.Counted.{Counted}
+use Rattle.run.specs.Runs.{Given, given, Left, left, shownAnswer, RunMeets, CountedMeets}
+use Rattle.sheet.specs.declared.Sheet.{Sheet}
+use Rattle.sheet.specs.Sheet.{FeedLeft, shownFeeding, feedLeft}
 use Rattle.printing.specs.Text.{held}
 use Rattle.report.specs.Printed.{printed}
 use Rattle.diagnostic.specs.Diagnostic.{diagnosticOf}
@@ -33,6 +37,7 @@ use Rattle.assembler.proofs.assemble.Reads as assemble
 use Rattle.engine.proofs.run_by_rules.Reads as run-by-rules
 use Rattle.engine.proofs.run_by_table.Reads as run-by-table
 use Rattle.engine.proofs.run_by_control.Reads as run-by-control
+use Rattle.sheet.proofs.feed.Reads as feed
 use Rattle.report.proofs.report.Reads as report
 use Rattle.listing.proofs.line_at.Reads as line-at
 use Rattle.diagnostic.proofs.diagnostic.Reads as diagnostic
@@ -45,12 +50,18 @@ Lent = RefT (List ℕ)
 abbrev pub RunArguments : Type 0
 RunArguments = State × (Lent × (Lent × (Lent × (Lent × (ℕ × (Lent × Unit {0}))))))
 
--- what a run that goes by v says
-abbrev pub RunSays : Stepper → RunArguments → Ran → RunArguments → Type 0
-RunSays v a r s =
-    RunMeets v
-    (given (a .0) (now (a .1 .0)) (now (a .1 .1 .0)) (now (a .1 .1 .1 .0)) (now (a .1 .1 .1 .1 .0)) (a .1 .1 .1 .1 .1 .0) (now (a .1 .1 .1 .1 .1 .1 .0)))
-    (left (shownAnswer (r .answer)) (r .state) (now (s .1 .0)) (now (s .1 .1 .0)) (now (s .1 .1 .1 .0)) (now (s .1 .1 .1 .1 .0)) (now (s .1 .1 .1 .1 .1 .1 .0)))
+-- what it is given
+abbrev pub givenBy : RunArguments → Given
+givenBy a = given (a .0) (now (a .1 .0)) (now (a .1 .1 .0)) (now (a .1 .1 .1 .0)) (now (a .1 .1 .1 .1 .0)) (a .1 .1 .1 .1 .1 .0) (now (a .1 .1 .1 .1 .1 .1 .0))
+
+-- what it leaves, with its answer and state
+abbrev pub leftBy : Answer → State → RunArguments → Left
+leftBy r state s =
+    left (shownAnswer r) state (now (s .1 .0)) (now (s .1 .1 .0)) (now (s .1 .1 .1 .0)) (now (s .1 .1 .1 .1 .0)) (now (s .1 .1 .1 .1 .1 .1 .0))
+
+-- what a run that goes by v says, with its counts
+abbrev pub RunSays : Stepper → RunArguments → Counted → RunArguments → Type 0
+RunSays v a r s = CountedMeets v (givenBy a) (record { left = leftBy (r .answer) (r .state) s; usage = r .usage })
 
 pub record Contracts : Type 1 where
   -- read(w)
@@ -115,9 +126,15 @@ pub record Contracts : Type 1 where
   -- run_by_table, the same
   pub run-by-table-asks : (κs : Lfts 5) (a : _) → run-by-table.Asked κs a
   pub run-by-table : (κs : Lfts 5) (a : _) (r : _) (s : _) → run-by-table.Learnt κs a r s ↔ RunSays byTable a r s
-  -- run_by_control, with its words before these
+  -- run_by_control, with its words before these; it reports no counts
   pub run-by-control-asks : (κs : Lfts 6) (a : _) → run-by-control.Asked κs a
-  pub run-by-control : (κs : Lfts 6) (a : _) (r : _) (s : _) → run-by-control.Learnt κs a r s ↔ RunSays (byControl (now (a .0))) (a .1) r (s .1)
+  pub run-by-control : (κs : Lfts 6) (a : _) (r : _) (s : _) → run-by-control.Learnt κs a r s ↔ RunMeets (byControl (now (a .0))) (givenBy (a .1)) (leftBy (r .answer) (r .state) (s .1))
+  -- feed(sheet, answer, usage)
+  pub feed-asks : (κs : Lfts 0) (a : _) → feed.Asked κs a
+  pub feed :
+      (κs : Lfts 0) (a : _) (r : _) (s : _)
+      → feed.Learnt κs a r s
+      ↔ (_≡_ {A = FeedLeft} (record { reply = shownFeeding (r .reply); sheet = r .sheet }) (feedLeft (a .0) (shownAnswer (a .1 .0)) (a .1 .1 .0)))
   -- report(file)
   pub report-asks : (κs : Lfts 1) (a : _) → report.Asked κs a
   pub report : (κs : Lfts 1) (a : _) (r : _) (s : _) → report.Learnt κs a r s ↔ (r ≡ held (printed (now (a .0))))

@@ -10,25 +10,24 @@ use Rattle.machine.specs.Run.{Stepper, byRules}
 use Rattle.panel.specs.Calls.{windowOf}
 use Rattle.isa.specs.Masks.{decodingOf}
 use Rattle.control.specs.Control.{byTable}
-use Rattle.run.specs.Runs.{given}
 use Rattle.replies.specs.declared.SisaRun.{SisaRun}
-use Rattle.replies.specs.Sisa.{SisaLoadLeft, sisaLoadLeft, SisaSaveLeft, sisaSaveLeft, SisaAssembleLeft, sisaAssembleLeft, SisaSetLeft, sisaSetLeft, sisaLeft, SisaRunMeets, sisaInstruction, sisaWrite, sisaWindow, chosen, bytesOf}
+use Rattle.replies.specs.Sisa.{SisaLoadLeft, sisaLoadLeft, SisaSaveLeft, sisaSaveLeft, SisaAssembleLeft, sisaAssembleLeft, SisaSetLeft, sisaSetLeft, sisaLeft, SisaRunMeets, sisaInstruction, sisaWrite, sisaFeed, sisaWindow, chosen, bytesOf}
 use Rattle.sisa.proofs.sisa_load.Reads as load
 use Rattle.sisa.proofs.sisa_save.Reads as save
 use Rattle.sisa.proofs.sisa_assemble.Reads as assemble
 use Rattle.sisa.proofs.sisa_set_input.Reads as set-input
 use Rattle.sisa.proofs.sisa_run_by_rules.Reads as run-by-rules
 use Rattle.sisa.proofs.sisa_run_by_table.Reads as run-by-table
+use Rattle.sisa.proofs.sisa_feed.Reads as feed
 use Rattle.sisa.proofs.sisa_read.Reads as read
 use Rattle.sisa.proofs.sisa_write.Reads as write
 use Rattle.sisa.proofs.sisa_window.Reads as window
-use Rattle.claims.specs.Contracts.{RunArguments}
+use Rattle.claims.specs.Contracts.{RunArguments, givenBy}
 
 -- what a run that goes by v says
 abbrev pub RunSays : Stepper → RunArguments → SisaRun → RunArguments → Type 0
 RunSays v a r s =
-    SisaRunMeets v
-    (given (a .0) (now (a .1 .0)) (now (a .1 .1 .0)) (now (a .1 .1 .1 .0)) (now (a .1 .1 .1 .1 .0)) (a .1 .1 .1 .1 .1 .0) (now (a .1 .1 .1 .1 .1 .1 .0)))
+    SisaRunMeets v (givenBy a)
     (sisaLeft r (now (s .1 .0)) (now (s .1 .1 .0)) (now (s .1 .1 .1 .0)) (now (s .1 .1 .1 .1 .0)) (now (s .1 .1 .1 .1 .1 .1 .0)))
 
 pub record Exports : Type 1 where
@@ -79,6 +78,9 @@ pub record Exports : Type 1 where
   -- sisa_run_by_table, the same
   pub run-by-table-asks : (κs : Lfts 5) (a : _) → run-by-table.Asked κs a
   pub run-by-table : (κs : Lfts 5) (a : _) (r : _) (s : _) → run-by-table.Learnt κs a r s ↔ RunSays byTable a r s
+  -- sisa_feed(sheet, run_refusal, usage)
+  pub feed-asks : (κs : Lfts 0) (a : _) → feed.Asked κs a
+  pub feed : (κs : Lfts 0) (a : _) (r : _) (s : _) → feed.Learnt κs a r s ↔ (r ≡ sisaFeed (a .0) (a .1 .0) (a .1 .1 .0))
   -- sisa_read(word)
   pub read-asks : (κs : Lfts 0) (a : _) → read.Asked κs a
   pub read : (κs : Lfts 0) (a : _) (r : _) (s : _) → read.Learnt κs a r s ↔ (r ≡ sisaInstruction (decodingOf (a .0)))

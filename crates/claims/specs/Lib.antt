@@ -14,3 +14,4 @@ pub mod Saved
 pub mod Session
 pub mod Steps
 pub mod Texts
+pub mod Usage

@@ -19,10 +19,7 @@ use Rattle.machine.specs.Machine.{Machine, R, putR, onState}
 use Rattle.machine.specs.Step.{write, Next, cannot, to, fetched, step}
 use Rattle.statement.specs.Syntax.{Register, a-register, b-register, d-register}
 use Rattle.listing.specs.Listing.{partOf}
-
--- the masks of what m does next: those of the word fetched
-abbrev pub masksAt : Machine → Masks
-masksAt m = masksOf (fetched m)
+use Rattle.usage.specs.Usage.{masksAt}
 
 -- ---- Machines alike but for registers outside a mask
 

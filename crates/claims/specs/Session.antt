@@ -9,12 +9,14 @@ use Rattle.refusal.specs.Refusals.{Verdict, accepted, refused}
 use Rattle.word.specs.Word.{pick}
 use Rattle.machine.specs.declared.State.{State}
 use Rattle.machine.specs.Machine.{Machine, putI}
-use Rattle.machine.specs.Run.{Stepper, byRules, Outcome, run}
+use Rattle.machine.specs.Run.{Stepper, byRules, Outcome, run, trace}
+use Rattle.usage.specs.declared.Usage.{Usage}
+use Rattle.usage.specs.Usage.{unused, usageOf}
 use Rattle.panel.specs.Calls.{SetGiven, SetLeft, setLeft}
 use Rattle.image.specs.Image.{LoadGiven, LoadLeft, loaded, loadLeft}
 use Rattle.report.specs.Example.{exampleFile}
 use Rattle.control.specs.Control.{byTable}
-use Rattle.run.specs.Runs.{Given, given, Left, RunReply, stopped, refused as run-refused, verdictOn, RunMeets}
+use Rattle.run.specs.Runs.{Given, given, Left, RunReply, stopped, refused as run-refused, verdictOn, CountedLeft, CountedMeets}
 
 -- ---- The calls
 
@@ -35,9 +37,9 @@ pub data Call : Type 0 where
   runs : Engine → Lent → Call
   sets : ℕ → ℕ → Call
 
--- what comes back: a run's reply and the log as it was returned; a setting's reply
+-- what comes back: a run's reply, its counts and the log as it was returned; a setting's reply
 pub data Reply : Type 0 where
-  of-run : RunReply → List ℕ → Reply
+  of-run : RunReply → Usage → List ℕ → Reply
   of-set : Verdict → Reply
 
 -- Lists that are alike have the same settings, budgets and lent logs: the engines are forgotten.
@@ -75,8 +77,8 @@ afterSet h l = record { state = h .state; P = h .P; D = h .D; I = l .I; O = h .O
 -- one call, of which only its contract is known (the theorem `contracts` says that it is this relation)
 pub data CallMeets : Host → Call → Reply → Host → Type 0 where
   a-run :
-      (h : Host) (e : Engine) (lent : Lent) (l : Left) → RunMeets (stepperOf e) (givenTo h lent) l
-      → CallMeets h (runs e lent) (of-run (l .reply) (l .log)) (afterRun l)
+      (h : Host) (e : Engine) (lent : Lent) (l : CountedLeft) → CountedMeets (stepperOf e) (givenTo h lent) l
+      → CallMeets h (runs e lent) (of-run (l .left .reply) (l .usage) (l .left .log)) (afterRun (l .left))
   a-setting :
       (h : Host) (port value : ℕ) (l : SetLeft) → l ≡ setLeft (record { I = h .I; port = port; value = value })
       → CallMeets h (sets port value) (of-set (l .reply)) (afterSet h l)
@@ -90,8 +92,8 @@ pub data Calls : Host → List Call → List Reply → Host → Type 0 where
 
 -- the joining, in the order of the calls, of what the accepted runs wrote, each taken as its run returned
 abbrev pub wrote : Reply → List ℕ
-wrote (of-run (stopped q steps entries) log) = take entries log
-wrote (of-run (run-refused k) log) = []
+wrote (of-run (stopped q steps entries) u log) = take entries log
+wrote (of-run (run-refused k) u log) = []
 wrote (of-set r) = []
 
 unfoldable pub joined : List Reply → List ℕ
@@ -120,14 +122,15 @@ unfoldable pub machineCalls : Machine → List Call → Machine
 machineCalls m [] = m
 machineCalls m (c ∷ cs) = machineCalls (machineCall m c) cs
 
--- What it says of a run: the first test that held is the stop reason, and the steps and entries are by how much n and L grew;
--- the log as returned has the new entries, then the lent places as they were.
+-- What it says of a run: the first test that held is the stop reason, the steps and entries are by how much n and L grew, and the
+-- counts are over the steps that it took; the log as returned has the new entries, then the lent places as they were.
 abbrev pub saidBy : Verdict → Machine → Lent → Reply
 saidBy accepted m lent =
     let z = outcome m lent in
     let new = drop (length (m .L)) (z .after .L) in
-    of-run (stopped (z .reason) (z .after .state .n - m .state .n) (length (z .after .L) - length (m .L))) (new ++ drop (length new) (lent .log))
-saidBy (refused k) m lent = of-run (run-refused k) (lent .log)
+    of-run (stopped (z .reason) (z .after .state .n - m .state .n) (length (z .after .L) - length (m .L)))
+    (usageOf (trace byRules (lent .budget) (length (lent .log)) m)) (new ++ drop (length new) (lent .log))
+saidBy (refused k) m lent = of-run (run-refused k) unused (lent .log)
 
 unfoldable pub machineSays : Machine → Call → Reply
 machineSays m (runs e lent) = saidBy (verdictOn (givenOf m lent)) m lent
@@ -154,8 +157,8 @@ pub record Agreed (file : List ℕ) (cs : List Call) (rs₁ rs₂ : List Reply) 
 
 -- a refused run in a list is refused with 6, and no setting is refused
 abbrev pub Only6 : Reply → Type 0
-Only6 (of-run (stopped q s k) log) = Unit {0}
-Only6 (of-run (run-refused k) log) = k ≡ 6
+Only6 (of-run (stopped q s k) u log) = Unit {0}
+Only6 (of-run (run-refused k) u log) = k ≡ 6
 Only6 (of-set r) = r ≡ accepted
 
 pub data All (Q : Reply → Type 0) : List Reply → Type 0 where

@@ -1,5 +1,7 @@
 // A case: its load, its calls and its saves.
 use crate::saves;
+use calls::Kept;
+use calls::sheets;
 use machine::State;
 use numbers::number;
 use player::file;
@@ -62,7 +64,10 @@ fn play_calls(
     outputs: &mut Ports,
     log: &mut Log,
 ) {
-    let mut kept = loaded;
+    let mut kept = Kept {
+        state: loaded,
+        sheet: sheets::first(c),
+    };
     for i in 0..16 {
         kept = calls::call(c, i, kept, program, memory, inputs, outputs, log);
     }

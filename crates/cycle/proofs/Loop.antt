@@ -2,7 +2,7 @@
 -- Assumes nothing.
 use mathlib.Core.Path.{_≡_, refl, sym, ap, subst, _∙_}
 use mathlib.Core.Bool.{Bool, true, false, _&&_}
-use mathlib.Core.List.{List, [], _++_}
+use mathlib.Core.List.{List, [], _∷_, _++_}
 use Prim.Native.Nat.{ℕ, suc, _+_, _-_, _%_, _<_, _≤_}
 use native.Mathlib.Nat.{sub-zero, zero-add}
 use native.Mathlib.Omega.{arith}
@@ -12,12 +12,16 @@ use lib.Seq.{length-take-le, drop-drop}
 use Rattle.word.proofs.Tests.{never}
 use Rattle.machine.specs.Machine.{Machine, wordAt}
 use Rattle.machine.specs.Step.{choice, Next, cannot, to, stepBy, fetched, step}
-use Rattle.machine.specs.Run.{Stepper, Outcome, isOut, noPlace, unless, runFrom, run}
+use Rattle.machine.specs.Run.{Stepper, Outcome, isOut, noPlace, unless, runFrom, run, traceFrom, trace}
 use Rattle.machine.specs.Held.{Held, machineOf, isFull, Ready, outcomeOf, StepMeets}
-use Rattle.machine.proofs.Runs.{Lawful, run-none, run-stops, run-goes}
+use Rattle.machine.proofs.Runs.{Lawful, run-none, trace-none, run-stops, trace-stops, run-goes}
+use Rattle.isa.specs.Masks.{masksOf}
+use Rattle.usage.specs.declared.Usage.{Usage}
+use Rattle.usage.specs.Usage.{wordIs, counted, unused, usageOf, Countable}
+use Rattle.usage.proofs.Sums.{plus, counted-plus, Sized, unused-sized, counted-sized, trace-sized, plus-unused, unused-plus, AtMost, counted-most, unused-most, countable}
 use Rattle.control.specs.Control.{controlIn, controlStep, writesPort}
 use Rattle.control.proofs.Laws.{lawful-control, lawful-rules}
-use Rattle.run.specs.Runs.{Given, Left, left, stopped, machineAt, acceptedLeft}
+use Rattle.run.specs.Runs.{Given, Left, left, stopped, machineAt, acceptedLeft, CountedLeft, acceptedCounted}
 use Rattle.cycle.specs.Loops.{CanRun, chosen, stepOf, writesOf}
 
 -- what is held at the start of a run
@@ -25,10 +29,21 @@ abbrev pub startOf : Given → Held
 startOf g = record { state = g .state; D = g .D; I = g .I; O = g .O; log = g .log; entries = 0 }
 
 -- what a run replies that stops here, with reason q after so many steps
-abbrev pub replied : Given → ℕ → ℕ → Held → Left
+abbrev replied : Given → ℕ → ℕ → Held → Left
 replied g q steps h = left (stopped q steps (h .entries)) (h .state) (g .P) (h .D) (h .I) (h .O) (h .log)
 
-pub record Going (v : Stepper) (g : Given) (h : Held) (steps : ℕ) : Type 0 where
+-- and with the counts u
+abbrev pub reported : Given → ℕ → ℕ → Held → Usage → CountedLeft
+reported g q steps h u = record { left = replied g q steps h; usage = u }
+
+-- the counts of the run from the start, and of what is left to run from here
+abbrev countsOf : Stepper → Given → Usage
+countsOf v g = usageOf (trace v (g .budget) (length (g .log)) (machineAt g))
+
+abbrev restOf : Stepper → Given → Held → ℕ → List Machine
+restOf v g h left = traceFrom v left (length (g .log)) (machineOf (g .P) h)
+
+pub record Going (v : Stepper) (g : Given) (h : Held) (steps : ℕ) (u : Usage) : Type 0 where
   pub program : length (g .P) ≡ 65536
   pub memory : length (h .D) ≡ 65536
   pub inputs : length (h .I) ≡ 256
@@ -44,8 +59,11 @@ pub record Going (v : Stepper) (g : Given) (h : Held) (steps : ℕ) : Type 0 whe
   pub counts : g .state .n + g .budget ≤ 4294967295
   pub rest : drop (h .entries) (h .log) ≡ drop (h .entries) (g .log)
   pub same : runFrom v (g .budget - steps) (length (g .log)) (machineOf (g .P) h) ≡ run v (g .budget) (length (g .log)) (machineAt g)
+  pub few : AtMost steps u
+  pub sized : Sized u
+  pub tallied : plus u (usageOf (restOf v g h (g .budget - steps))) ≡ countsOf v g
 
-pub start : (v : Stepper) (g : Given) → CanRun g → Going v g (startOf g) 0
+pub start : (v : Stepper) (g : Given) → CanRun g → Going v g (startOf g) 0 unused
 start v g c =
     record {
       program = c .program;
@@ -63,6 +81,9 @@ start v g c =
       counts = c .counts;
       rest = refl;
       same = rw (sub-zero (g .budget), zero-add (length (g .log)));
+      few = unused-most;
+      sized = unused-sized;
+      tallied = rw (sub-zero (g .budget), zero-add (length (g .log))) (unused-plus (trace-sized _));
     }
 
 -- logs that are alike past k are alike past any later place
@@ -115,11 +136,36 @@ tests false words w full m b f e = rw (f, e)
 abbrev hereOf : Given → Held → Machine
 hereOf g h = machineOf (g .P) h
 
-module _ (t : Bool) (words : List ℕ) {g : Given} {h : Held} {steps : ℕ} (v : Going (chosen t words) g h steps) where
-  pub ends-budget : g .budget ≤ steps → replied g 0 steps h ≡ acceptedLeft (chosen t words) g
+-- where nothing is left to run, the counts are those of the run
+counted-out : (v : Stepper) (g : Given) (h : Held) (left : ℕ) (u : Usage) → Sized u → restOf v g h left ≡ []
+    → plus u (usageOf (restOf v g h left)) ≡ countsOf v g → u ≡ countsOf v g
+unfolding usageOf
+counted-out v g h left u s e c = sym (plus-unused s) ∙ sym (ap (λ (ms : List Machine). plus u (usageOf ms)) e) ∙ c
+
+-- a step more that was counted
+turned : (m : Machine) (w : ℕ) (u : Usage) {ms rest : List Machine} {total : Usage} → fetched m ≡ w → ms ≡ m ∷ rest → plus u (usageOf ms) ≡ total
+    → plus (counted (wordIs w) (masksOf w) u) (usageOf rest) ≡ total
+unfolding usageOf
+turned m w u {rest = rest} f e c =
+    counted-plus (wordIs w) (masksOf w) u (usageOf rest)
+    ∙ ap (λ (w : ℕ). plus u (counted (wordIs w) (masksOf w) (usageOf rest))) (sym f)
+    ∙ sym (ap (λ (ms : List Machine). plus u (usageOf ms)) e)
+    ∙ c
+
+both-parts : (v : Stepper) (g : Given) {l : Left} {u : Usage} → l ≡ acceptedLeft v g → u ≡ countsOf v g → record { left = l; usage = u } ≡ acceptedCounted v g
+both-parts v g p q = λ i. record { left = p i; usage = q i }
+
+module _ (t : Bool) (words : List ℕ) {g : Given} {h : Held} {steps : ℕ} {u : Usage} (v : Going (chosen t words) g h steps u) where
+  pub ends-budget : g .budget ≤ steps → reported g 0 steps h u ≡ acceptedCounted (chosen t words) g
   ends-budget b =
       let z : g .budget - steps ≡ 0 = omega arith in
-      ends (chosen t words) g h 0 steps (v .filled) (v .rest) (v .counted) (sym (v .same) ∙ rw z (run-none (chosen t words) _ (hereOf g h)))
+      both-parts (chosen t words) g
+      (ends (chosen t words) g h 0 steps (v .filled) (v .rest) (v .counted) (sym (v .same) ∙ rw z (run-none (chosen t words) _ (hereOf g h))))
+      (counted-out (chosen t words) g h (g .budget - steps) u (v .sized) (rw z (trace-none (chosen t words) _ (hereOf g h))) (v .tallied))
+
+  -- no counter is at its limit
+  pub room : steps < g .budget → Countable u
+  room b = countable (omega arith) (v .few)
 
   pub ready : steps < g .budget → Ready h
   ready b = record { counts = omega arith; memory = v .memory; inputs = v .inputs; outputs = v .outputs; filled = v .filled }
@@ -144,21 +190,26 @@ module _ (t : Bool) (words : List ℕ) {g : Given} {h : Held} {steps : ℕ} (v :
     filled-after : length (machineOf (g .P) after .L) ≡ after .entries
     filled-after = entries-are (g .P) after (met .filled)
 
+    counts-here : plus u (usageOf (restOf (chosen t words) g h (suc (g .budget - (steps + 1))))) ≡ countsOf (chosen t words) g
+    counts-here = rw one-left at (v .tallied)
+
     -- the step was not made
-    pub ends-stopped : (stop ≡ 0 → ⊥) → replied g stop steps after ≡ acceptedLeft (chosen t words) g
+    pub ends-stopped : (stop ≡ 0 → ⊥) → reported g stop steps after u ≡ acceptedCounted (chosen t words) g
     ends-stopped n =
         let same = stays (hereOf g h) (machineOf (g .P) after) stop (unless (noPlace (chosen t words) (length (g .log)) (hereOf g h)) (chosen t words .steps (hereOf g h))) n outcome in
         let entries : h .entries ≡ after .entries = sym (entries-are (g .P) h (v .filled)) ∙ ap (λ (m : Machine). length (m .L)) same ∙ filled-after in
         let count : h .state .n ≡ after .state .n = ap (λ (m : Machine). m .state .n) same in
-        ends (chosen t words) g after stop steps (met .filled)
+        both-parts (chosen t words) g
+        (ends (chosen t words) g after stop steps (met .filled)
         (met .rest ∙ further (h .entries) (after .entries) (h .log) (g .log) (omega arith) (v .rest)) (omega arith)
-        (sym from-here ∙ run-stops (chosen t words) _ _ (hereOf g h) stop outcome n)
+        (sym from-here ∙ run-stops (chosen t words) _ _ (hereOf g h) stop outcome n))
+        (counted-out (chosen t words) g h _ u (v .sized) (trace-stops (chosen t words) _ _ (hereOf g h) stop outcome n) counts-here)
 
-    -- the step was made
-    pub turns : stop ≡ 0
+    -- the step was made, and counted
+    pub turns : {next : Usage} → stop ≡ 0 → next ≡ counted (wordIs w) (masksOf w) u
         → length (after .D) ≡ length (h .D) → length (after .I) ≡ length (h .I) → length (after .O) ≡ length (h .O) → length (after .log) ≡ length (h .log)
-        → Going (chosen t words) g after (steps + 1)
-    turns z d i o l =
+        → Going (chosen t words) g after (steps + 1) next
+    turns z c d i o l =
         let law = lawful t words in
         let goes = run-goes (chosen t words) (g .budget - (steps + 1)) (length (g .log)) (hereOf g h) law (outcome ∙ ap (λ q. record { reason = q; after = machineOf (g .P) after }) z) in
         let more : h .entries ≤ after .entries = omega (arith, law .grows (hereOf g h) _ (goes .steps), entries-are (g .P) h (v .filled), filled-after) in
@@ -178,4 +229,7 @@ module _ (t : Bool) (words : List ℕ) {g : Given} {h : Held} {steps : ℕ} (v :
           counts = v .counts;
           rest = met .rest ∙ further (h .entries) (after .entries) (h .log) (g .log) more (v .rest);
           same = sym (goes .on) ∙ from-here;
+          few = rw c (counted-most _ _ (v .few));
+          sized = rw c (counted-sized _ _ (v .sized));
+          tallied = rw c (turned (hereOf g h) w u fetches (goes .traces) counts-here);
         }

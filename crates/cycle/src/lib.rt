@@ -1,13 +1,14 @@
-// The loop of a run: fetch and step.
+// The loop of a run: fetch, step and count.
 ghost use mathlib.Core.Path.{_≡_};
 ghost use Rattle.machine.specs.Held.{held, Ready, StepMeets};
-ghost use Rattle.run.specs.Runs.{Left, given, left, shownAnswer, acceptedLeft};
+ghost use Rattle.run.specs.Runs.{CountedLeft, given, left, shownAnswer, acceptedCounted};
 ghost use Rattle.cycle.specs.Loops.{CanRun, chosen, stepOf, writesOf};
 use machine::State;
 use machine::Stepped;
 use run::Answer;
-use run::Ran;
+use run::Counted;
 use run::Report;
+use usage::Usage;
 
 // The step of w by a table's word for it, or by the rules.
 fn step(
@@ -43,13 +44,16 @@ pub fn run_accepted(
     outputs: &mut [u16],
     budget: u32,
     log: &mut [u64],
-) -> Ran
+) -> Counted
     requires { ⌜ CanRun (given start (now program) (now memory) (now inputs) (now outputs) budget (now log)) ⌝ }
-    ensures { λ r. ⌜ _≡_ {A = Left} (left (shownAnswer (r .answer)) (r .state) (now (program .exit)) (now (memory .exit)) (now (inputs .exit)) (now (outputs .exit)) (now (log .exit))) (acceptedLeft (chosen «by_table» (now (table .entry))) (given start (now (program .entry)) (now (memory .entry)) (now (inputs .entry)) (now (outputs .entry)) budget (now (log .entry)))) ⌝ }
+    ensures { λ r. ⌜ _≡_ {A = CountedLeft} (record { left = left (shownAnswer (r .answer)) (r .state) (now (program .exit)) (now (memory .exit)) (now (inputs .exit)) (now (outputs .exit)) (now (log .exit)); usage = r .usage }) (acceptedCounted (chosen «by_table» (now (table .entry))) (given start (now (program .entry)) (now (memory .entry)) (now (inputs .entry)) (now (outputs .entry)) budget (now (log .entry)))) ⌝ }
 {
     let mut state = start;
     let mut steps: u32 = 0;
     let mut entries: usize = 0;
+    let mut kinds = [0u64; 25];
+    let mut reads = [0u64; 8];
+    let mut writes = [0u64; 8];
     while steps < budget {
         let w = bus::fetch(program, state.pc);
         let done = step(
@@ -66,23 +70,34 @@ pub fn run_accepted(
         state = done.state;
         entries = done.entries;
         if done.stop != 0 {
-            return Ran {
+            return Counted {
                 state,
                 answer: Answer::Stopped(Report {
                     stop: done.stop,
                     steps,
                     entries,
                 }),
+                usage: Usage {
+                    kinds,
+                    reads,
+                    writes,
+                },
             };
         }
+        usage::tally(w, &mut kinds, &mut reads, &mut writes);
         steps = steps + 1;
     }
-    Ran {
+    Counted {
         state,
         answer: Answer::Stopped(Report {
             stop: 0,
             steps,
             entries,
         }),
+        usage: Usage {
+            kinds,
+            reads,
+            writes,
+        },
     }
 }

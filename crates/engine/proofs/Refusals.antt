@@ -12,7 +12,9 @@ use Rattle.word.proofs.Tests.{clash, passed}
 use Rattle.machine.specs.Lengths.{lengthsFit}
 use Rattle.machine.specs.Run.{Stepper}
 use Rattle.control.specs.Control.{table, byControl, byTable}
-use Rattle.run.specs.Runs.{Given, Left, left, refused as run-refused-with, verdict, verdictOn, acceptedLeft, runLeft, RunMeets}
+use Rattle.usage.specs.declared.Usage.{Usage}
+use Rattle.usage.specs.Usage.{unused}
+use Rattle.run.specs.Runs.{Given, left, refused as run-refused-with, verdict, verdictOn, CountedLeft, acceptedCounted, countedLeft, CountedMeets}
 use Rattle.cycle.specs.Loops.{CanRun}
 
 -- what an accepted verdict says
@@ -37,14 +39,15 @@ accepted-fits g e =
 -- ---- The run, by its verdict
 
 module _ (v : Stepper) (g : Given) where
-  pub run-refused : {k : ℕ} → refused k ≡ verdictOn g → RunMeets v g (left (run-refused-with k) (g .state) (g .P) (g .D) (g .I) (g .O) (g .log))
-  unfolding runLeft
-  run-refused e = rw (← e)
+  pub run-refused : {k : ℕ} {u : Usage} → refused k ≡ verdictOn g → u ≡ unused
+      → CountedMeets v g (record { left = left (run-refused-with k) (g .state) (g .P) (g .D) (g .I) (g .O) (g .log); usage = u })
+  unfolding countedLeft
+  run-refused e c = rw (← e, c)
 
-  pub run-accepted : {l : Left} → accepted ≡ verdictOn g → l ≡ acceptedLeft v g → RunMeets v g l
-  unfolding runLeft
+  pub run-accepted : {l : CountedLeft} → accepted ≡ verdictOn g → l ≡ acceptedCounted v g → CountedMeets v g l
+  unfolding countedLeft
   run-accepted e h = rw (← e) h
 
 -- a run by a table that is the paper's
-pub by-paper : (words : List ℕ) (g : Given) {l : Left} → words ≡ table → RunMeets (byControl words) g l → RunMeets byTable g l
-by-paper words g e h = h ∙ ap (λ ws. runLeft (byControl ws) g) e
+pub by-paper : (words : List ℕ) (g : Given) {l : CountedLeft} → words ≡ table → CountedMeets (byControl words) g l → CountedMeets byTable g l
+by-paper words g e h = h ∙ ap (λ ws. countedLeft (byControl ws) g) e

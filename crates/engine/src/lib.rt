@@ -1,13 +1,15 @@
 // Runs of a trim, by the rules or by a control table.
 ghost use Rattle.machine.specs.Run.{byRules};
 ghost use Rattle.control.specs.Control.{byControl, byTable};
-ghost use Rattle.run.specs.Runs.{given, left, RunMeets, shownAnswer};
+ghost use Rattle.run.specs.Runs.{given, left, RunMeets, CountedMeets, shownAnswer};
 ghost use Rattle.cycle.specs.Loops.{chosen};
 use control::control_table;
 use machine::State;
 use run::Answer;
 use run::Check;
+use run::Counted;
 use run::Ran;
+use usage::Usage;
 
 // A run by a table or by the rules: its refusals, then its loop.
 fn run(
@@ -20,8 +22,8 @@ fn run(
     outputs: &mut [u16],
     budget: u32,
     log: &mut [u64],
-) -> Ran
-    ensures { λ r. ⌜ RunMeets (chosen «by_table» (now (table .entry))) (given state (now (program .entry)) (now (memory .entry)) (now (inputs .entry)) (now (outputs .entry)) budget (now (log .entry))) (left (shownAnswer (r .answer)) (r .state) (now (program .exit)) (now (memory .exit)) (now (inputs .exit)) (now (outputs .exit)) (now (log .exit))) ⌝ }
+) -> Counted
+    ensures { λ r. ⌜ CountedMeets (chosen «by_table» (now (table .entry))) (given state (now (program .entry)) (now (memory .entry)) (now (inputs .entry)) (now (outputs .entry)) budget (now (log .entry))) (record { left = left (shownAnswer (r .answer)) (r .state) (now (program .exit)) (now (memory .exit)) (now (inputs .exit)) (now (outputs .exit)) (now (log .exit)); usage = r .usage }) ⌝ }
 {
     match run::checked(state, program, memory, inputs, outputs, budget) {
         Check::Accepted => cycle::run_accepted(
@@ -35,9 +37,10 @@ fn run(
             budget,
             log,
         ),
-        Check::Refused(refusal) => Ran {
+        Check::Refused(refusal) => Counted {
             state,
             answer: Answer::Refused(refusal),
+            usage: Usage::none(),
         },
     }
 }
@@ -51,8 +54,8 @@ pub fn run_by_rules(
     outputs: &mut [u16],
     budget: u32,
     log: &mut [u64],
-) -> Ran
-    ensures { λ r. ⌜ RunMeets byRules (given state (now (program .entry)) (now (memory .entry)) (now (inputs .entry)) (now (outputs .entry)) budget (now (log .entry))) (left (shownAnswer (r .answer)) (r .state) (now (program .exit)) (now (memory .exit)) (now (inputs .exit)) (now (outputs .exit)) (now (log .exit))) ⌝ }
+) -> Counted
+    ensures { λ r. ⌜ CountedMeets byRules (given state (now (program .entry)) (now (memory .entry)) (now (inputs .entry)) (now (outputs .entry)) budget (now (log .entry))) (record { left = left (shownAnswer (r .answer)) (r .state) (now (program .exit)) (now (memory .exit)) (now (inputs .exit)) (now (outputs .exit)) (now (log .exit)); usage = r .usage }) ⌝ }
 {
     run(
         false,
@@ -67,7 +70,7 @@ pub fn run_by_rules(
     )
 }
 
-// A run by any table of 32 control words.
+// A run by any table of 32 control words. Its counts are not reported.
 pub fn run_by_control(
     words: &[u16; 32],
     state: State,
@@ -80,7 +83,7 @@ pub fn run_by_control(
 ) -> Ran
     ensures { λ r. ⌜ RunMeets (byControl (now (words .entry))) (given state (now (program .entry)) (now (memory .entry)) (now (inputs .entry)) (now (outputs .entry)) budget (now (log .entry))) (left (shownAnswer (r .answer)) (r .state) (now (program .exit)) (now (memory .exit)) (now (inputs .exit)) (now (outputs .exit)) (now (log .exit))) ⌝ }
 {
-    run(
+    let ran = run(
         true,
         words,
         state,
@@ -90,7 +93,10 @@ pub fn run_by_control(
         outputs,
         budget,
         log,
-    )
+    );
+    let state = ran.state;
+    let answer = ran.answer;
+    Ran { state, answer }
 }
 
 // A run by the control table.
@@ -102,10 +108,11 @@ pub fn run_by_table(
     outputs: &mut [u16],
     budget: u32,
     log: &mut [u64],
-) -> Ran
-    ensures { λ r. ⌜ RunMeets byTable (given state (now (program .entry)) (now (memory .entry)) (now (inputs .entry)) (now (outputs .entry)) budget (now (log .entry))) (left (shownAnswer (r .answer)) (r .state) (now (program .exit)) (now (memory .exit)) (now (inputs .exit)) (now (outputs .exit)) (now (log .exit))) ⌝ }
+) -> Counted
+    ensures { λ r. ⌜ CountedMeets byTable (given state (now (program .entry)) (now (memory .entry)) (now (inputs .entry)) (now (outputs .entry)) budget (now (log .entry))) (record { left = left (shownAnswer (r .answer)) (r .state) (now (program .exit)) (now (memory .exit)) (now (inputs .exit)) (now (outputs .exit)) (now (log .exit)); usage = r .usage }) ⌝ }
 {
-    run_by_control(
+    run(
+        true,
         &control_table(),
         state,
         program,

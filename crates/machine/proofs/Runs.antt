@@ -2,12 +2,13 @@
 -- Assumes nothing.
 use mathlib.Core.Path.{_≡_, refl, sym, ap, _∙_}
 use mathlib.Core.Bool.{Bool, true, false}
+use mathlib.Core.List.{List, [], _∷_}
 use Prim.Native.Nat.{ℕ, suc, _+_, _%_, _≤_}
 use native.Mathlib.Omega.{arith}
 use lib.ListN.{length}
 use Rattle.machine.specs.Machine.{Machine}
 use Rattle.machine.specs.Step.{PC, Next, cannot, to}
-use Rattle.machine.specs.Run.{Stepper, Outcome, noPlace, unless, runFrom}
+use Rattle.machine.specs.Run.{Stepper, Outcome, noPlace, unless, runFrom, traceFrom}
 use Rattle.machine.specs.Held.{outcomeOf}
 
 -- what a run makes of the next step
@@ -17,6 +18,18 @@ turn v budget full m x = elim x [ cannot q ↦ record { reason = q; after = m } 
 pub run-none : (v : Stepper) (full : ℕ) (m : Machine) → runFrom v 0 full m ≡ record { reason = 0; after = m }
 unfolding runFrom
 run-none v full m = refl
+
+pub trace-none : (v : Stepper) (full : ℕ) (m : Machine) → traceFrom v 0 full m ≡ []
+unfolding traceFrom
+trace-none v full m = refl
+
+-- what the trace makes of it
+abbrev traced : Stepper → ℕ → ℕ → Machine → Next → List Machine
+traced v budget full m x = elim x [ cannot q ↦ [] | to next ↦ m ∷ traceFrom v budget full next ]
+
+trace-turned : (v : Stepper) (budget full : ℕ) (m : Machine) {x : Next} → unless (noPlace v full m) (v .steps m) ≡ x → traceFrom v (suc budget) full m ≡ traced v budget full m x
+unfolding traceFrom
+trace-turned v budget full m e = ap (traced v budget full m) e
 
 turned : (v : Stepper) (budget full : ℕ) (m : Machine) {x : Next} → unless (noPlace v full m) (v .steps m) ≡ x → runFrom v (suc budget) full m ≡ turn v budget full m x
 unfolding runFrom
@@ -36,6 +49,16 @@ module _ (v : Stepper) (budget full : ℕ) (m : Machine) where
 
   pub run-on : (next : Machine) → v .steps m ≡ to next → noPlace v full m ≡ false → runFrom v (suc budget) full m ≡ runFrom v budget full next
   run-on next e t = turned v budget full m (both v full m e t)
+
+  -- the trace likewise
+  pub trace-cannot : (q : ℕ) → v .steps m ≡ cannot q → traceFrom v (suc budget) full m ≡ []
+  trace-cannot q e = trace-turned v budget full m (both v full m e refl)
+
+  pub trace-full : (next : Machine) → v .steps m ≡ to next → noPlace v full m ≡ true → traceFrom v (suc budget) full m ≡ []
+  trace-full next e t = trace-turned v budget full m (both v full m e t)
+
+  pub trace-on : (next : Machine) → v .steps m ≡ to next → noPlace v full m ≡ false → traceFrom v (suc budget) full m ≡ m ∷ traceFrom v budget full next
+  trace-on next e t = trace-turned v budget full m (both v full m e t)
 
 -- ---- What a run's loop relies on
 
@@ -59,10 +82,20 @@ module _ (v : Stepper) (budget full : ℕ) (m : Machine) where
       by-next (cannot p) s e = turned v budget full m s ∙ e
       by-next (to next) s e = let z : 0 ≡ q = ap (λ (o : Outcome). o .reason) e in absurd (n (sym z))
 
+  -- and its trace
+  pub trace-stops : (q : ℕ) {after : Machine} → outcomeOf m (unless (noPlace v full m) (v .steps m)) ≡ record { reason = q; after = after } → (q ≡ 0 → ⊥)
+      → traceFrom v (suc budget) full m ≡ []
+  trace-stops q {after} e n = by-next (unless (noPlace v full m) (v .steps m)) refl e
+    where
+      by-next : (x : Next) → unless (noPlace v full m) (v .steps m) ≡ x → outcomeOf m x ≡ record { reason = q; after = after } → traceFrom v (suc budget) full m ≡ []
+      by-next (cannot p) s e = trace-turned v budget full m s
+      by-next (to next) s e = let z : 0 ≡ q = ap (λ (o : Outcome). o .reason) e in absurd (n (sym z))
+
   -- with 0 it goes on from there
   pub record Goes (after : Machine) : Type 0 where
     pub steps : v .steps m ≡ to after
     pub on : runFrom v (suc budget) full m ≡ runFrom v budget full after
+    pub traces : traceFrom v (suc budget) full m ≡ m ∷ traceFrom v budget full after
 
   pub run-goes : Lawful v → {after : Machine} → outcomeOf m (unless (noPlace v full m) (v .steps m)) ≡ record { reason = 0; after = after } → Goes after
   run-goes lawful {after} e = by-next (v .steps m) refl (noPlace v full m) refl e
@@ -72,4 +105,8 @@ module _ (v : Stepper) (budget full : ℕ) (m : Machine) where
       by-next (to next) s true f e = absurd (omega (arith, ap (λ (o : Outcome). o .reason) e))
       by-next (to next) s false f e =
           let a : next ≡ after = ap (λ (o : Outcome). o .after) e in
-          record { steps = s ∙ ap to a; on = run-on v budget full m next s f ∙ ap (runFrom v budget full) a }
+          record {
+            steps = s ∙ ap to a;
+            on = run-on v budget full m next s f ∙ ap (runFrom v budget full) a;
+            traces = trace-on v budget full m next s f ∙ ap (λ (x : Machine). m ∷ traceFrom v budget full x) a;
+          }

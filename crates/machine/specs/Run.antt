@@ -1,6 +1,7 @@
 -- A run (01, "Runs"), over what steps the machine and what writes a port.
 use Prim.Native.Nat.{ℕ, zero, suc, _+_}
 use mathlib.Core.Bool.{Bool, true, false, _&&_}
+use mathlib.Core.List.{List, [], _∷_}
 use lib.Dec.{eqb, leb}
 use lib.ListN.{length}
 use Rattle.word.specs.Fields.{opcode, e-of}
@@ -48,3 +49,16 @@ runFrom v (suc budget) full m =
 -- a run with a budget and a log of so many places
 abbrev pub run : Stepper → ℕ → ℕ → Machine → Outcome
 run v budget places m = runFrom v budget (length (m .L) + places) m
+
+-- ---- The trace of a run: the machines before each step that it takes
+
+unfoldable pub traceFrom : Stepper → ℕ → ℕ → Machine → List Machine
+traceFrom v zero full m = []
+traceFrom v (suc budget) full m =
+    elim (unless (noPlace v full m) (v .steps m)) [
+      | cannot q ↦ []
+      | to next ↦ m ∷ traceFrom v budget full next
+    ]
+
+abbrev pub trace : Stepper → ℕ → ℕ → Machine → List Machine
+trace v budget places m = traceFrom v budget (length (m .L) + places) m

@@ -38,7 +38,7 @@ fn place(digest: u32, x: u64) -> u32 {
     taken(taken(digest, low), high)
 }
 
-fn places(digest: u32, log: &[u64]) -> u32 {
+pub fn places(digest: u32, log: &[u64]) -> u32 {
     let mut after = digest;
     for i in 0..log.len() {
         after = place(after, log[i]);

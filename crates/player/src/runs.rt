@@ -54,7 +54,8 @@ pub fn request_of(c: u16, i: u16, kept: State, n: u32, places: usize) -> Request
     }
 }
 
-fn kept_after(kept: State, reply: Reply) -> State {
+// The state that the host keeps.
+pub fn kept_after(kept: State, reply: Reply) -> State {
     if reply.refusal != 0 {
         return kept;
     }
@@ -65,7 +66,8 @@ fn kept_after(kept: State, reply: Reply) -> State {
     state
 }
 
-fn print_reply(c: u16, i: u16, reply: Reply) {
+// What follows the engine's name on the line of a run, but for its digests.
+pub fn print_reply(c: u16, i: u16, reply: Reply) {
     print::field(c as u64);
     print::field(i as u64);
     print::field(reply.refusal as u64);

@@ -15,6 +15,7 @@ pub enum Refusal {
     TextLine,
     TextName,
     TextValue,
+    FullSheet,
 }
 
 // The refusal's number in the table.
@@ -34,5 +35,6 @@ pub fn number(refusal: Refusal) -> u8
         Refusal::TextLine => 10,
         Refusal::TextName => 11,
         Refusal::TextValue => 12,
+        Refusal::FullSheet => 13,
     }
 }

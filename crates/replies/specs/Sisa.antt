@@ -1,5 +1,5 @@
 -- What each function of include/sisa.h replies and leaves, of what it is given. The crates that do the work decide it
--- (`loadLeft`, `saveLeft`, `assembleLeft`, `setLeft`, `runLeft`, `decodingOf`, `writeOf`, `windowOf`); here their replies become the numbers of the header's
+-- (`loadLeft`, `saveLeft`, `assembleLeft`, `setLeft`, `countedLeft`, `decodingOf`, `writeOf`, `windowOf`); here their replies become the numbers of the header's
 -- structs. A refusal of 0 is an accepted call; a field that a case does not speak of is 0.
 use Prim.Native.Nat.{ℕ, _+_}
 use mathlib.Core.Bool.{_&&_, not}
@@ -21,7 +21,10 @@ use Rattle.image.specs.Image.{LoadGiven, LoadLeft, loadLeft}
 use Rattle.save.specs.Saved.{SaveReply, saved, refused as save-refused, SaveGiven, SaveLeft, saveLeft}
 use Rattle.assembler.specs.Text.{Reply, words, turned-away, AssembleLeft, assembleLeft}
 use Rattle.control.specs.Control.{byTable}
-use Rattle.run.specs.Runs.{Given, given, RunReply, stopped, refused as run-refused, Left, runLeft}
+use Rattle.usage.specs.declared.Usage.{Usage}
+use Rattle.sheet.specs.declared.Sheet.{Sheet}
+use Rattle.sheet.specs.Sheet.{FeedLeft, feedBy}
+use Rattle.run.specs.Runs.{Given, given, RunReply, stopped, refused as run-refused, CountedLeft, countedLeft}
 use Rattle.replies.specs.declared.SisaLoad.{SisaLoad}
 use Rattle.replies.specs.declared.SisaSaved.{SisaSaved}
 use Rattle.replies.specs.declared.SisaAssembly.{SisaAssembly}
@@ -30,6 +33,7 @@ use Rattle.replies.specs.declared.SisaAnswer.{SisaAnswer}
 use Rattle.replies.specs.declared.SisaInstruction.{SisaInstruction}
 use Rattle.replies.specs.declared.SisaWord.{SisaWord}
 use Rattle.replies.specs.declared.SisaWindow.{SisaWindow}
+use Rattle.replies.specs.declared.SisaFed.{SisaFed}
 
 -- 0, or the refusal's number
 abbrev pub verdictNumber : Verdict → ℕ
@@ -102,10 +106,10 @@ sisaSetLeft g = setInNumbers (setLeft g)
 
 -- ---- sisa_run_by_rules, sisa_run_by_table and sisa_host_step
 
--- q is the stop reason, s the steps, e the entries
-abbrev pub sisaRun : RunReply → State → SisaRun
-sisaRun (stopped q s e) state = record { state = state; refusal = 0; stop = q; steps = s; entries = e }
-sisaRun (run-refused k) state = record { state = state; refusal = k; stop = 0; steps = 0; entries = 0 }
+-- q is the stop reason, s the steps, e the entries, u the counts
+abbrev pub sisaRun : RunReply → State → Usage → SisaRun
+sisaRun (stopped q s e) state u = record { state = state; refusal = 0; stop = q; steps = s; entries = e; usage = u }
+sisaRun (run-refused k) state u = record { state = state; refusal = k; stop = 0; steps = 0; entries = 0; usage = u }
 
 pub record SisaRunLeft : Type 0 where
   pub reply : SisaRun
@@ -118,11 +122,11 @@ pub record SisaRunLeft : Type 0 where
 abbrev pub sisaLeft : SisaRun → List ℕ → List ℕ → List ℕ → List ℕ → List ℕ → SisaRunLeft
 sisaLeft reply P D I O log = record { reply = reply; P = P; D = D; I = I; O = O; log = log }
 
-abbrev pub runInNumbers : Left → SisaRunLeft
-runInNumbers l = sisaLeft (sisaRun (l .reply) (l .state)) (l .P) (l .D) (l .I) (l .O) (l .log)
+abbrev pub runInNumbers : CountedLeft → SisaRunLeft
+runInNumbers c = let l = c .left in sisaLeft (sisaRun (l .reply) (l .state) (c .usage)) (l .P) (l .D) (l .I) (l .O) (l .log)
 
 unfoldable pub sisaRunLeft : Stepper → Given → SisaRunLeft
-sisaRunLeft v g = runInNumbers (runLeft v g)
+sisaRunLeft v g = runInNumbers (countedLeft v g)
 
 -- the contract of both runs, where v is what the run goes by
 abbrev pub SisaRunMeets : Stepper → Given → SisaRunLeft → Type 0
@@ -142,7 +146,7 @@ hostLent state P D I O log = record { state = state; P = P; D = D; I = I; O = O;
 
 -- the state that the host holds afterwards and the answer make up a run's reply
 abbrev pub withState : State → SisaAnswer → SisaRun
-withState s a = record { state = s; refusal = a .refusal; stop = a .stop; steps = a .steps; entries = a .entries }
+withState s a = record { state = s; refusal = a .refusal; stop = a .stop; steps = a .steps; entries = a .entries; usage = a .usage }
 
 -- A host step is a run by the table with budget 1 over registers that the host holds: its contract.
 abbrev pub HostStepMeets : HostLent → SisaAnswer → HostLent → Type 0
@@ -170,6 +174,15 @@ sisaWord (write-refused k) = record { refusal = k; word = 0 }
 unfoldable pub sisaWrite : ℕ → ℕ → ℕ → ℕ → ℤ → SisaWord
 sisaWrite kind a b d n =
     sisaWord (pick (leb kind 24) (writeOf (record { kind = getD kinds kind And; a = a; b = b; d = d; n = n })) (write-refused 7))
+
+-- ---- sisa_feed
+
+abbrev pub sisaFed : FeedLeft → SisaFed
+sisaFed l = record { sheet = l .sheet; refusal = verdictNumber (l .reply) }
+
+-- a run's refusal that is not 0: a refused run
+unfoldable pub sisaFeed : Sheet → ℕ → Usage → SisaFed
+sisaFeed s k u = sisaFed (feedBy (eqb k 0) s u)
 
 -- ---- sisa_window
 

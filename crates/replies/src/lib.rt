@@ -7,9 +7,10 @@ ghost use Rattle.save.specs.Saved.{shownSaving};
 ghost use Rattle.assembler.specs.Passes.{shownAssembly};
 ghost use Rattle.panel.specs.Calls.{shownSetting};
 ghost use Rattle.run.specs.Runs.{shownAnswer};
+ghost use Rattle.sheet.specs.Sheet.{shownFeeding};
 ghost use Rattle.isa.specs.Instructions.{shownWriting};
 ghost use Rattle.isa.specs.Masks.{shownDecoded};
-ghost use Rattle.replies.specs.Sisa.{sisaLoad, sisaSaved, sisaAssembly, verdictNumber, sisaRun, sisaInstruction, sisaWord, sisaWrite};
+ghost use Rattle.replies.specs.Sisa.{sisaLoad, sisaSaved, sisaAssembly, verdictNumber, sisaRun, sisaInstruction, sisaWord, sisaWrite, sisaFed};
 use assembler::Assembly;
 use image::Loaded;
 use image::Loading;
@@ -21,8 +22,12 @@ use machine::State;
 use panel::Setting;
 use refusal::Refusal;
 use run::Answer;
-use run::Ran;
+use run::Counted;
 use save::Saving;
+use sheet::Fed;
+use sheet::Feeding;
+use sheet::Sheet;
+use usage::Usage;
 
 #[repr(C)]
 pub struct SisaLoad {
@@ -37,6 +42,7 @@ pub struct SisaRun {
     pub stop: u8,
     pub steps: u32,
     pub entries: u64,
+    pub usage: Usage,
 }
 
 #[repr(C)]
@@ -45,6 +51,7 @@ pub struct SisaAnswer {
     pub stop: u8,
     pub steps: u32,
     pub entries: u64,
+    pub usage: Usage,
 }
 
 #[repr(C)]
@@ -75,6 +82,12 @@ pub struct SisaWindow {
 pub struct SisaSaved {
     pub refusal: u8,
     pub length: usize,
+}
+
+#[repr(C)]
+pub struct SisaFed {
+    pub sheet: Sheet,
+    pub refusal: u8,
 }
 
 #[repr(C)]
@@ -136,11 +149,12 @@ pub fn set(setting: Setting) -> u8
     }
 }
 
-pub fn run(ran: Ran) -> SisaRun
-    ensures { λ r. ⌜ r ≡ sisaRun (shownAnswer (ran .answer)) (ran .state) ⌝ }
+pub fn run(ran: Counted) -> SisaRun
+    ensures { λ r. ⌜ r ≡ sisaRun (shownAnswer (ran .answer)) (ran .state) (ran .usage) ⌝ }
 {
     let state = ran.state;
     let answer = ran.answer;
+    let usage = ran.usage;
     match answer {
         Answer::Stopped(report) => SisaRun {
             state,
@@ -148,6 +162,7 @@ pub fn run(ran: Ran) -> SisaRun
             stop: report.stop,
             steps: report.steps,
             entries: report.entries as u64,
+            usage,
         },
         Answer::Refused(refusal) => SisaRun {
             state,
@@ -155,6 +170,7 @@ pub fn run(ran: Ran) -> SisaRun
             stop: 0,
             steps: 0,
             entries: 0,
+            usage,
         },
     }
 }
@@ -214,6 +230,20 @@ pub fn write(kind: u8, a: u8, b: u8, d: u8, n: i16) -> SisaWord
     }
     let kind = kinds::kind_at(kind);
     word(isa::write(Instruction { kind, a, b, d, n }))
+}
+
+pub fn fed(fed: Fed) -> SisaFed
+    ensures { λ r. ⌜ r ≡ sisaFed (record { reply = shownFeeding (fed .reply); sheet = fed .sheet }) ⌝ }
+{
+    let sheet = fed.sheet;
+    let reply = fed.reply;
+    match reply {
+        Feeding::Taken => SisaFed { sheet, refusal: 0 },
+        Feeding::Refused(refusal) => SisaFed {
+            sheet,
+            refusal: refusal::number(refusal),
+        },
+    }
 }
 
 // A part of a memory: where it starts and how many bytes it has. An empty part starts at 0.

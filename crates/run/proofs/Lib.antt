@@ -1,1 +1,2 @@
+pub mod Uncounted
 mod Refusals

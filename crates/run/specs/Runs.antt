@@ -9,7 +9,9 @@ use Rattle.word.specs.Word.{pick}
 use Rattle.machine.specs.declared.State.{State}
 use Rattle.machine.specs.Machine.{Machine}
 use Rattle.machine.specs.Lengths.{lengthsFit}
-use Rattle.machine.specs.Run.{Stepper, Outcome, run}
+use Rattle.machine.specs.Run.{Stepper, Outcome, run, trace}
+use Rattle.usage.specs.declared.Usage.{Usage}
+use Rattle.usage.specs.Usage.{unused, usageOf}
 use Rattle.run.specs.declared.Report.{Report}
 use Rattle.run.specs.declared.Answer.{Answer}
 use Rattle.run.specs.declared.Answer.the-variants.{Stopped, Refused}
@@ -101,3 +103,25 @@ runLeft v g = leftBy v (verdictOn g) g
 -- the contract of a run: by the rules `byRules`, by a table `byControl` of it
 abbrev pub RunMeets : Stepper → Given → Left → Type 0
 RunMeets v g l = l ≡ runLeft v g
+
+-- ---- Counts (02, L5)
+
+-- what an accepted run leaves and its counts, over its trace
+pub record CountedLeft : Type 0 where
+  pub left : Left
+  pub usage : Usage
+
+abbrev pub acceptedCounted : Stepper → Given → CountedLeft
+acceptedCounted v g = record { left = acceptedLeft v g; usage = usageOf (trace v (g .budget) (length (g .log)) (machineAt g)) }
+
+-- A refused run's counts are zero.
+abbrev pub countedBy : Stepper → Verdict → Given → CountedLeft
+countedBy v accepted g = acceptedCounted v g
+countedBy v (turned-away k) g = record { left = leftBy v (turned-away k) g; usage = unused }
+
+unfoldable pub countedLeft : Stepper → Given → CountedLeft
+countedLeft v g = countedBy v (verdictOn g) g
+
+-- the contract of a run that counts
+abbrev pub CountedMeets : Stepper → Given → CountedLeft → Type 0
+CountedMeets v g l = l ≡ countedLeft v g

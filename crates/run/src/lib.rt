@@ -3,6 +3,7 @@ ghost use mathlib.Core.Path.{_≡_};
 ghost use Rattle.run.specs.Runs.{shownVerdict, verdict};
 use machine::State;
 use refusal::Refusal;
+use usage::Usage;
 
 // Why a run stopped, how many steps it took, and how many entries of the log it filled.
 pub struct Report {
@@ -21,6 +22,13 @@ pub enum Answer {
 pub struct Ran {
     pub state: State,
     pub answer: Answer,
+}
+
+// What a run that counts replies: also its counts, which are zero where it is refused.
+pub struct Counted {
+    pub state: State,
+    pub answer: Answer,
+    pub usage: Usage,
 }
 
 // Whether a run is refused.

@@ -10,7 +10,8 @@ use Rattle.panel.specs.Calls.{SetGiven, SetLeft, setLeft}
 use Rattle.image.specs.Image.{LoadGiven, LoadLeft, loadLeft}
 use Rattle.save.specs.Saved.{SaveReply, SaveGiven, SaveLeft, saveLeft}
 use Rattle.assembler.specs.Text.{Reply, AssembleLeft, assembleLeft}
-use Rattle.run.specs.Runs.{Given, left, RunReply, RunMeets}
+use Rattle.usage.specs.declared.Usage.{Usage}
+use Rattle.run.specs.Runs.{Given, left, RunReply, CountedMeets}
 use Rattle.replies.specs.declared.SisaLoad.{SisaLoad}
 use Rattle.replies.specs.declared.SisaSaved.{SisaSaved}
 use Rattle.replies.specs.declared.SisaAssembly.{SisaAssembly}
@@ -45,9 +46,9 @@ pub set-meets : (g : SetGiven) {reply : Verdict} {I : List ℕ} {r : ℕ}
 unfolding sisaSetLeft
 set-meets g e h = rw h (ap setInNumbers e)
 
-pub run-meets : (v : Stepper) (g : Given) {reply : RunReply} {state : State} {P D I O log : List ℕ} {r : SisaRun}
-    → RunMeets v g (left reply state P D I O log)
-    → r ≡ sisaRun reply state
+pub run-meets : (v : Stepper) (g : Given) {reply : RunReply} {state : State} {P D I O log : List ℕ} {u : Usage} {r : SisaRun}
+    → CountedMeets v g (record { left = left reply state P D I O log; usage = u })
+    → r ≡ sisaRun reply state u
     → SisaRunMeets v g (sisaLeft r P D I O log)
 unfolding sisaRunLeft
 run-meets v g e h = rw h (ap runInNumbers e)

@@ -23,5 +23,6 @@ pub extern "C" fn sisa_host_step(
         stop: ran.stop,
         steps: ran.steps,
         entries: ran.entries,
+        usage: ran.usage,
     }
 }

@@ -8,16 +8,19 @@ ghost use Rattle.panel.specs.Calls.{windowOf};
 ghost use Rattle.control.specs.Control.{byTable};
 ghost use Rattle.run.specs.Runs.{given};
 ghost use Rattle.isa.specs.Masks.{decodingOf};
-ghost use Rattle.replies.specs.Sisa.{SisaLoadLeft, sisaLoadLeft, SisaSaveLeft, sisaSaveLeft, SisaAssembleLeft, sisaAssembleLeft, SisaSetLeft, sisaSetLeft, sisaLeft, SisaRunMeets, sisaInstruction, sisaWrite, chosen, sisaWindow, bytesOf};
+ghost use Rattle.replies.specs.Sisa.{SisaLoadLeft, sisaLoadLeft, SisaSaveLeft, sisaSaveLeft, SisaAssembleLeft, sisaAssembleLeft, SisaSetLeft, sisaSetLeft, sisaLeft, SisaRunMeets, sisaInstruction, sisaWrite, sisaFeed, chosen, sisaWindow, bytesOf};
 use machine::Port;
 use machine::State;
 use replies::SisaAssembly;
+use replies::SisaFed;
 use replies::SisaInstruction;
 use replies::SisaLoad;
 use replies::SisaRun;
 use replies::SisaSaved;
 use replies::SisaWindow;
 use replies::SisaWord;
+use sheet::Sheet;
+use usage::Usage;
 
 pub mod host;
 
@@ -89,6 +92,14 @@ pub extern "C" fn sisa_run_by_table(
 {
     let ran = engine::run_by_table(state, program, memory, inputs, outputs, budget, log);
     replies::run(ran)
+}
+
+// A run_refusal that is not 0: a refused run.
+#[no_mangle]
+pub extern "C" fn sisa_feed(sheet: Sheet, run_refusal: u8, usage: Usage) -> SisaFed
+    ensures { λ r. ⌜ r ≡ sisaFeed sheet «run_refusal» usage ⌝ }
+{
+    replies::fed(sheet::feed_by(sheet, run_refusal == 0, usage))
 }
 
 #[no_mangle]

@@ -5,6 +5,7 @@
 mod calls;
 mod files;
 mod host;
+mod runs;
 mod saves;
 mod tables;
 pub mod texts;
@@ -12,6 +13,8 @@ pub mod texts;
 pub use calls::lines;
 pub use files::file;
 pub use tables::{lines as table_lines, table};
+
+use std::fmt;
 
 /// "Number k of case c"
 pub fn number(c: u64, k: u64) -> u64 {
@@ -34,6 +37,13 @@ impl Call {
     }
 }
 
+/// "c i"
+impl fmt::Display for Call {
+    fn fmt(&self, f: &mut fmt::Formatter) -> fmt::Result {
+        write!(f, "{} {}", self.c, self.i)
+    }
+}
+
 /// "A digest is a 32-bit number, 0 at the start"
 #[derive(Default)]
 pub struct Digest(u64);
@@ -43,6 +53,14 @@ impl Digest {
     /// 2^32"
     pub fn take(&mut self, x: u64) {
         self.0 = (self.0 * 16_777_619 + x + 1) % 4_294_967_296;
+    }
+
+    /// Takes in of each in order "the value mod 2^32, then the value / 2^32".
+    pub fn take_halves(&mut self, all: &[u64]) {
+        for x in all {
+            self.take(x % 4_294_967_296);
+            self.take(x / 4_294_967_296);
+        }
     }
 
     /// Takes in each in order.

@@ -1,5 +1,5 @@
 //! The SISA trim processor of paper 01, the SISA reference sheet (004) and
-//! requests L1, L2 and L4 of paper 02, written from those papers alone, to be
+//! requests L1, L2, L4 and L5 of paper 02, written from those papers alone, to be
 //! compared with another build.
 //!
 //! Sentences in quotation marks are paper 01's unless "sheet" is said.
@@ -19,4 +19,6 @@ pub mod report;
 pub mod run;
 pub mod save;
 pub mod set;
+pub mod sheet;
+pub mod usage;
 pub mod window;

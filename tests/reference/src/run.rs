@@ -2,6 +2,7 @@
 
 use crate::control::{self, control_word, Table};
 use crate::machine::{self, word, Places, State, Stepped};
+use crate::usage::Usage;
 
 /// What decides a step: "one engine from the rules, one from the control
 /// table".
@@ -65,6 +66,31 @@ impl Reply {
             Reply::Refused { state, .. } => state,
         }
     }
+
+    /// The refusal's number, 0 where the run was accepted.
+    pub fn refusal(&self) -> u8 {
+        match *self {
+            Reply::Done { .. } => 0,
+            Reply::Refused { number, .. } => number,
+        }
+    }
+
+    /// "a refused run takes no steps"
+    pub fn steps(&self) -> u32 {
+        match *self {
+            Reply::Done { steps, .. } => steps,
+            Reply::Refused { .. } => 0,
+        }
+    }
+}
+
+/// What a run by the rules, a run by the paper's table and a host step return.
+#[derive(Clone, Copy, Debug, PartialEq, Eq)]
+pub struct Returned {
+    pub reply: Reply,
+    /// Document 02, L5: "A run reports its counts". They are 0 where it is
+    /// refused.
+    pub usage: Usage,
 }
 
 /// The tests of the refusal table, "run 1, 5, 6": the places, or the number.
@@ -92,7 +118,7 @@ fn admit<'a>(
 }
 
 /// "A run gets a state, the memories and ports, a 32-bit budget and a log of
-/// any length that it fills from place 0."
+/// any length that it fills from place 0." Here by any engine, without counts.
 #[allow(clippy::too_many_arguments)] // the paper's, and the engine
 pub fn run(
     engine: Engine,
@@ -153,6 +179,53 @@ fn admitted(
     }
 }
 
+/// The run, and the counts of the plain machine's steps from the same start, as
+/// many as the run took.
+#[allow(clippy::too_many_arguments)] // as for `run`
+fn counted(
+    engine: Engine,
+    state: State,
+    p: &[u8],
+    d: &mut [u8],
+    i: &[u16],
+    o: &mut [u16],
+    budget: u32,
+    log: &mut [u64],
+) -> Returned {
+    let (mut first_d, mut first_o) = (d.to_vec(), o.to_vec());
+    let reply = run(engine, state, p, d, i, o, budget, log);
+    let usage = Places::of(p, &mut first_d, i, &mut first_o)
+        .map(|mut places| Usage::of_steps(state, &mut places, reply.steps()))
+        .unwrap_or_default();
+    Returned { reply, usage }
+}
+
+/// A run by the rules, and its counts.
+pub fn run_by_rules(
+    state: State,
+    p: &[u8],
+    d: &mut [u8],
+    i: &[u16],
+    o: &mut [u16],
+    budget: u32,
+    log: &mut [u64],
+) -> Returned {
+    counted(Engine::Rules, state, p, d, i, o, budget, log)
+}
+
+/// A run by the paper's table, and its counts.
+pub fn run_by_table(
+    state: State,
+    p: &[u8],
+    d: &mut [u8],
+    i: &[u16],
+    o: &mut [u16],
+    budget: u32,
+    log: &mut [u64],
+) -> Returned {
+    counted(Engine::PAPER_TABLE, state, p, d, i, o, budget, log)
+}
+
 /// "A host step is a run by the table with budget 1 over registers that the
 /// host holds."
 pub fn host_step(
@@ -162,8 +235,8 @@ pub fn host_step(
     i: &[u16],
     o: &mut [u16],
     log: &mut [u64],
-) -> Reply {
-    let reply = run(Engine::PAPER_TABLE, *held, p, d, i, o, 1, log);
-    *held = reply.state();
-    reply
+) -> Returned {
+    let returned = run_by_table(*held, p, d, i, o, 1, log);
+    *held = returned.reply.state();
+    returned
 }

@@ -3,20 +3,22 @@
 use mathlib.Core.Path.{_∙_}
 use Prim.Native.Nat.{_-_}
 use native.Mathlib.Omega.{arith}
+use Rattle.usage.specs.Usage.{held}
 use Rattle.cycle.specs.Loops.{chosen}
-use Rattle.cycle.proofs.Loop.{Going, start, ends-budget, ready, ends-stopped, turns}
+use Rattle.cycle.proofs.Loop.{Going, start, ends-budget, room, ready, ends-stopped, turns}
 use Rattle.cycle.proofs.run_accepted.Statement.{statement}
 use Rattle.cycle.proofs.run_accepted.Tie as tie
 
 abbrev Inv-loop : tie.InvT-loop
-Inv-loop by-table words program memory₀ inputs₀ outputs₀ budget log₀ state₀ steps₀ entries₀ memory inputs outputs log state steps entries =
+Inv-loop by-table words program memory₀ inputs₀ outputs₀ budget log₀ state₀ steps₀ entries₀ kinds₀ reads₀ writes₀ memory inputs outputs log state steps entries kinds reads writes =
     Going (chosen by-table words)
     (record { state = state₀; P = program; D = memory₀; I = inputs₀; O = outputs₀; budget = budget; log = log₀ })
     (record { state = state; D = memory; I = inputs; O = outputs; log = log; entries = entries })
     steps
+    (held kinds reads writes)
 
 abbrev μ-loop : tie.MeasureT-loop
-μ-loop by-table words program memory₀ inputs₀ outputs₀ budget log₀ state₀ steps₀ entries₀ memory inputs outputs log state steps entries =
+μ-loop by-table words program memory₀ inputs₀ outputs₀ budget log₀ state₀ steps₀ entries₀ kinds₀ reads₀ writes₀ memory inputs outputs log state steps entries kinds reads writes =
     budget - steps
 
 loop-holds : tie.Need-loop-holds Inv-loop μ-loop
@@ -39,13 +41,20 @@ returns c =
     let a = l .before .before .before .before .before .before .before .args in
     ends-stopped (a .by-table) (a .table .now) (l .before .loop .inv) (l .loop-test .taken) (f .fetch .ensures) (k .step .ensures) (c .if1 .taken)
 
+tally-requires : tie.Need-tally-requires Inv-loop μ-loop
+tally-requires c κs =
+    let l = c .before .before .before .before .before .before .before .before .before .before .before .before .before .before .before .before .before .before .before .before in
+    let a = l .before .before .before .before .before .before .before .args in
+    room (a .by-table) (a .table .now) (l .before .loop .inv) (l .loop-test .taken)
+
 loop-again : tie.Need-loop-again Inv-loop μ-loop
 loop-again c =
-    let k = c .before .before .before .before .before .before .before .before .before .before .before in
+    let e = c .before .before .before .before in
+    let k = e .before .before .before .before .before .before .before .before .before .before .before in
     let f = k .before .before .before .before .before in
     let l = f .before in
     let a = l .before .before .before .before .before .before .before .args in
-    turns (a .by-table) (a .table .now) (l .before .loop .inv) (l .loop-test .taken) (f .fetch .ensures) (k .step .ensures) (c .if1 .left)
+    turns (a .by-table) (a .table .now) (l .before .loop .inv) (l .loop-test .taken) (f .fetch .ensures) (k .step .ensures) (e .if1 .left) (c .tally .ensures)
     (k .step .kept .1 .1 .1 .1 .0)
     (k .step .kept .1 .1 .1 .1 .1 .0)
     (k .step .kept .1 .1 .1 .1 .1 .1 .0)
@@ -68,6 +77,7 @@ run-accepted-spec =
     (λ c. let k = c .before .before .before .before .before .before .before .before .before .before .before in k .step .kept .1 .1 .1 .1 .1 .1 .0 ∙ k .before .before .before .before .before .before .before .loop .inv .outputs-kept)
     (λ c. let k = c .before .before .before .before .before .before .before .before .before .before .before in k .step .kept .1 .1 .1 .1 .1 .1 .1 .0 ∙ k .before .before .before .before .before .before .before .loop .inv .log-kept)
     returns
+    tally-requires
     (λ c. omega arith)
     (λ c. omega arith)
     loop-again

@@ -19,7 +19,8 @@ returns c =
     run-accepted _ _ (sym (ap shownVerdict (k .enum-told .given .1)) ∙ k .before .before .checked .ensures) (r .run-accepted .ensures)
 
 returns-2 : tie.Need-returns-2
-returns-2 c = run-refused _ _ (sym (ap shownVerdict (c .before .refusal .given .1)) ∙ c .before .before .before .checked .ensures)
+returns-2 c =
+    run-refused _ _ (sym (ap shownVerdict (c .before .before .refusal .given .1)) ∙ c .before .before .before .before .checked .ensures) (c .none .ensures)
 
 pub run-spec : {M : Type 1} → statement M
 run-spec =
@@ -29,6 +30,7 @@ run-spec =
     (λ c. search needs)
     run-accepted-requires
     (λ c. search needs)
+    (λ c κs. search needs)
     (λ c. search needs)
     (λ c. search needs)
     (λ c. search needs)

@@ -8,7 +8,7 @@ use Rattle.engine.proofs.run_by_table.Tie as tie
 returns : tie.Need-returns
 returns c =
     let r = c .before .before .before .before .before .before .before .before in
-    by-paper _ _ (r .before .before .before .before .before .before .control-table .ensures) (r .run-by-control .ensures)
+    by-paper _ _ (r .before .before .before .before .before .before .control-table .ensures) (r .run .ensures)
 
 pub run-by-table-spec : {M : Type 1} → statement M
 run-by-table-spec =

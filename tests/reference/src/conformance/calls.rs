@@ -1,13 +1,13 @@
 //! "`conformance`: the calls of case c", and the printed runs.
 
 use super::files::{file, undamaged};
-use super::host::{By, Host};
+use super::host::Host;
+use super::runs::{first_sheet, By};
 use super::{number, Call, Digest};
 use crate::instruction::{read, write_numbered};
 use crate::machine::{MEMORY, PORTS};
 use crate::masks::masks;
 use crate::report;
-use crate::run::Engine;
 use crate::set::set;
 use crate::window::{window, Memory};
 
@@ -38,24 +38,22 @@ impl Host {
         let refusal = self.load(&file(c), memory);
         let mut lines = vec![format!("load {c} {refusal} {}", self.digest(self.kept))];
         if refusal == 0 {
-            lines.extend((0..CALLS).map(|i| self.call(Call { c, i })));
+            self.sheet = first_sheet(c);
+            lines.extend((0..CALLS).flat_map(|i| self.call(Call { c, i })));
             lines.extend(self.saves(c));
         }
         lines
     }
 
-    fn call(&mut self, call: Call) -> String {
-        let at = format!("{} {}", call.c, call.i);
-        let rules = By::Engine(Engine::Rules);
-        let table = By::Engine(Engine::PAPER_TABLE);
+    /// The call's line, and after a run that of the feeding.
+    fn call(&mut self, call: Call) -> Vec<String> {
         match call.number(0) % 8 {
-            0 => format!("set {at} {}", self.set(call)),
-            1 | 2 => format!("run rules {at} {}", self.run(rules, 40, call)),
-            3 | 4 => format!("run table {at} {}", self.run(table, 40, call)),
-            // "for a host step mod 2"
-            5 => format!("run host {at} {}", self.run(By::HostStep, 2, call)),
-            6 => format!("window {at} {}", self.window(call)),
-            _ => format!("instruction {at} {}", instruction(call)),
+            0 => vec![format!("set {call} {}", self.set(call))],
+            1 | 2 => self.run_and_feed(By::Rules, call),
+            3 | 4 => self.run_and_feed(By::Table, call),
+            5 => self.run_and_feed(By::HostStep, call),
+            6 => vec![format!("window {call} {}", self.window(call))],
+            _ => vec![format!("instruction {call} {}", instruction(call))],
         }
     }
 

@@ -1,19 +1,25 @@
-//! The host: what it lends, the state it keeps, its loads and its runs.
+//! The host: what it lends, the state and the sheet it keeps, and its loads.
 
 use super::{Call, Digest};
 use crate::load::load;
 use crate::machine::{State, MEMORY, PORTS};
-use crate::run::{host_step, run, Engine, Reply};
+use crate::run::Reply;
+use crate::sheet::Sheet;
 
-/// What a run is made by.
-#[derive(Clone, Copy)]
-pub enum By<'a> {
-    Engine(Engine<'a>),
-    HostStep,
+/// What a run of a call is handed and lent.
+pub struct Lent<'a> {
+    pub state: State,
+    pub p: &'a [u8],
+    pub d: &'a mut [u8],
+    pub i: &'a [u16],
+    pub o: &'a mut [u16],
+    pub budget: u32,
+    pub log: &'a mut [u64],
 }
 
 pub struct Host {
     pub kept: State,
+    pub sheet: Sheet,
     pub program: Vec<u8>,
     pub memory: Vec<u8>,
     pub inputs: Vec<u16>,
@@ -22,10 +28,11 @@ pub struct Host {
 }
 
 impl Host {
-    /// What is lent "At the start of either program, before any case".
+    /// What is lent at the start, "before any case".
     pub fn at_the_start() -> Host {
         Host {
             kept: State::reset(),
+            sheet: Sheet::empty(),
             program: (0..MEMORY).map(|at| (at % 251) as u8).collect(),
             memory: vec![0; MEMORY],
             inputs: (0..PORTS).map(|at| 7 * at as u16).collect(),
@@ -44,10 +51,7 @@ impl Host {
         digest.take_all(&self.memory);
         digest.take_all(&self.inputs);
         digest.take_all(&self.outputs);
-        for place in &self.log {
-            digest.take(place % 4_294_967_296);
-            digest.take(place / 4_294_967_296);
-        }
+        digest.take_halves(&self.log);
         digest.value()
     }
 
@@ -66,44 +70,33 @@ impl Host {
         loaded.err().unwrap_or(0)
     }
 
-    /// The run of a call: "REFUSAL STOP STEPS ENTRIES DIGEST". "the log lent is
-    /// the first number(c, q + 2) mod" `log` places.
-    pub fn run(&mut self, by: By, log: u64, call: Call) -> String {
-        let mut handed = self.kept;
+    /// For the run of a call. `n` is what is handed where number(c, q + 3) mod 16
+    /// is 1, and "the log lent is the first number(c, q + 2) mod" `log` places.
+    pub fn lend(&mut self, call: Call, n: u32, log: u64) -> Lent<'_> {
+        let mut state = self.kept;
         let (mut memory, mut outputs) = (MEMORY, PORTS);
-        match (call.number(3) % 16, by) {
-            (0, _) => handed.pc = handed.pc.wrapping_add(1),
-            (1, By::Engine(_)) => handed.n = 4_294_967_000,
-            (1, By::HostStep) => handed.n = 4_294_967_295,
-            (2, _) => memory = 65_535,
-            (3, _) => outputs = 255,
+        match call.number(3) % 16 {
+            0 => state.pc = state.pc.wrapping_add(1),
+            1 => state.n = n,
+            2 => memory = 65_535,
+            3 => outputs = 255,
             _ => {}
         }
-        let (p, i) = (&self.program, &self.inputs);
-        let (d, o) = (&mut self.memory[..memory], &mut self.outputs[..outputs]);
-        let budget = (call.number(1) % 2_000) as u32;
-        let log = &mut self.log[..(call.number(2) % log) as usize];
-        let reply = match by {
-            By::Engine(engine) => run(engine, handed, p, d, i, o, budget, log),
-            By::HostStep => host_step(&mut handed, p, d, i, o, log),
-        };
-        self.keep(reply);
-        let numbers = match reply {
-            Reply::Done {
-                stop,
-                steps,
-                entries,
-                ..
-            } => format!("0 {stop} {steps} {entries}"),
-            Reply::Refused { number, .. } => format!("{number} 0 0 0"),
-        };
-        format!("{numbers} {}", self.digest(reply.state()))
+        Lent {
+            state,
+            p: &self.program,
+            d: &mut self.memory[..memory],
+            i: &self.inputs,
+            o: &mut self.outputs[..outputs],
+            budget: (call.number(1) % 2_000) as u32,
+            log: &mut self.log[..(call.number(2) % log) as usize],
+        }
     }
 
     /// "Where the call was accepted the host keeps that state, after a stop 1
     /// with PC moved on by 2 (modulo 65,536); where it was refused it keeps
     /// the one it had."
-    fn keep(&mut self, reply: Reply) {
+    pub fn keep(&mut self, reply: Reply) {
         if let Reply::Done { state, stop, .. } = reply {
             self.kept = state;
             if stop == 1 {

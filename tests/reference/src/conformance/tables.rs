@@ -1,11 +1,12 @@
 //! "`conformance_tables`: runs by any table"
 
 use super::files::undamaged;
-use super::host::{By, Host};
+use super::host::Host;
+use super::runs::numbers_of;
 use super::{number, Call};
 use crate::control::{Table, TABLE};
 use crate::machine::{MEMORY, PORTS};
-use crate::run::Engine;
+use crate::run::{run, Engine};
 
 /// "Tables are 0 to 127"
 const TABLES: u64 = 128;
@@ -60,9 +61,17 @@ impl Host {
         // "with Rk made number(c, 60 + k)"
         self.kept.r = numbers(c, 60);
         let table = table(t);
-        let by = By::Engine(Engine::Table(&table));
         (0..RUNS)
-            .map(|i| format!("run control {t} {i} {}", self.run(by, 8, Call { c, i })))
+            .map(|i| format!("run control {t} {i} {}", self.run(&table, Call { c, i })))
             .collect()
+    }
+
+    /// "REFUSAL STOP STEPS ENTRIES DIGEST"
+    fn run(&mut self, table: &Table, call: Call) -> String {
+        let x = self.lend(call, 4_294_967_000, 8);
+        let engine = Engine::Table(table);
+        let reply = run(engine, x.state, x.p, x.d, x.i, x.o, x.budget, x.log);
+        self.keep(reply);
+        format!("{} {}", numbers_of(reply), self.digest(reply.state()))
     }
 }

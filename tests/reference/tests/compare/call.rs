@@ -5,9 +5,10 @@ use crate::world::{first, Lengths, World, GUARD};
 use reference::assemble::{assemble, Refused};
 use reference::load::load;
 use reference::machine::State;
-use reference::run::{host_step, run, Engine, Reply};
+use reference::run::{host_step, run_by_rules, run_by_table, Engine, Reply, Returned};
 use reference::save::save;
 use reference::set::set;
+use reference::usage::Usage;
 use reference::window::{window, Memory};
 use std::fmt;
 
@@ -84,6 +85,15 @@ impl Answer {
             Answer::Assemble(assembly) => assembly.refusal,
         }
     }
+
+    /// Of a run by either engine or a host step, all but the state.
+    pub fn of_run(&self) -> Option<ffi::Answer> {
+        match self {
+            Answer::Run(run) => Some(run.without_state()),
+            Answer::HostStep(_, answer) => Some(*answer),
+            _ => None,
+        }
+    }
 }
 
 pub fn header_state(state: State) -> ffi::State {
@@ -94,16 +104,25 @@ pub fn header_state(state: State) -> ffi::State {
     }
 }
 
+pub fn header_usage(usage: Usage) -> ffi::Usage {
+    ffi::Usage {
+        kinds: usage.kinds,
+        reads: usage.reads,
+        writes: usage.writes,
+    }
+}
+
 /// "Fields that a case does not speak of are 0."
-fn header_run(reply: Reply) -> ffi::Run {
+fn header_run(returned: Returned) -> ffi::Run {
     let mut answer = ffi::Run {
-        state: header_state(reply.state()),
+        state: header_state(returned.reply.state()),
         refusal: 0,
         stop: 0,
         steps: 0,
         entries: 0,
+        usage: header_usage(returned.usage),
     };
-    match reply {
+    match returned.reply {
         Reply::Refused { number, .. } => answer.refusal = number,
         Reply::Done {
             stop,
@@ -185,7 +204,11 @@ pub fn of_reference(call: &Call, lent: &mut Lent) -> Answer {
         }
         Call::Set(port, value) => Answer::Set(set(i, port, value).err().unwrap_or(0)),
         Call::Run(engine, state, budget) => {
-            Answer::Run(header_run(run(engine, state, p, d, i, o, budget, lent.log)))
+            let run = match engine {
+                Engine::Rules => run_by_rules,
+                Engine::Table(_) => run_by_table,
+            };
+            Answer::Run(header_run(run(state, p, d, i, o, budget, lent.log)))
         }
         Call::HostStep(state) => {
             let mut held = state;

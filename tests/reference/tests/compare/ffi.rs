@@ -24,6 +24,33 @@ pub struct Load {
     pub refusal: u8,
 }
 
+/// `SisaUsage`
+#[repr(C)]
+#[derive(Clone, Copy, Debug, PartialEq, Eq)]
+pub struct Usage {
+    pub kinds: [u64; 25],
+    pub reads: [u64; 8],
+    pub writes: [u64; 8],
+}
+
+/// `SisaSheet`
+#[repr(C)]
+#[derive(Clone, Copy, Debug, PartialEq, Eq)]
+pub struct Sheet {
+    pub kinds: [u64; 25],
+    pub reads: [u64; 8],
+    pub writes: [u64; 8],
+    pub runs: u16,
+}
+
+/// `SisaFed`
+#[repr(C)]
+#[derive(Clone, Copy, Debug, PartialEq, Eq)]
+pub struct Fed {
+    pub sheet: Sheet,
+    pub refusal: u8,
+}
+
 /// `SisaRun`
 #[repr(C)]
 #[derive(Clone, Copy, Debug, PartialEq, Eq)]
@@ -33,6 +60,7 @@ pub struct Run {
     pub stop: u8,
     pub steps: u32,
     pub entries: u64,
+    pub usage: Usage,
 }
 
 /// `SisaAnswer`
@@ -43,6 +71,7 @@ pub struct Answer {
     pub stop: u8,
     pub steps: u32,
     pub entries: u64,
+    pub usage: Usage,
 }
 
 impl Run {
@@ -53,6 +82,7 @@ impl Run {
             stop: self.stop,
             steps: self.steps,
             entries: self.entries,
+            usage: self.usage,
         }
     }
 }
@@ -185,6 +215,7 @@ extern "C" {
         log: *mut u64,
         log_len: usize,
     ) -> Answer;
+    fn sisa_feed(sheet: Sheet, run_refusal: u8, usage: Usage) -> Fed;
     fn sisa_read(word: u16) -> Instruction;
     fn sisa_write(kind: u8, a: u8, b: u8, d: u8, n: i16) -> Word;
     fn sisa_window(
@@ -282,6 +313,11 @@ pub fn host_step(state: &mut State, lent: &mut Lent) -> Answer {
             lent.log.len(),
         )
     }
+}
+
+pub fn feed(sheet: Sheet, run_refusal: u8, usage: Usage) -> Fed {
+    // SAFETY: every sheet, number and count is allowed.
+    unsafe { sisa_feed(sheet, run_refusal, usage) }
 }
 
 pub fn read(word: u16) -> Instruction {

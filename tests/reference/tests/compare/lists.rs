@@ -4,6 +4,7 @@ use crate::call::{of_reference, Answer, Bytes, Call, Sides, Text};
 use crate::ffi;
 use crate::make;
 use crate::random::Random;
+use crate::sheets::any_order;
 use crate::tally::Tally;
 use crate::texts;
 use crate::world::{Lengths, World};
@@ -52,6 +53,8 @@ struct List {
     stuck: bool,
     /// The file last loaded.
     loaded: Option<Bytes>,
+    /// What the runs returned.
+    returned: Vec<ffi::Answer>,
 }
 
 impl List {
@@ -65,6 +68,7 @@ impl List {
             kept: State::reset(),
             stuck: false,
             loaded: None,
+            returned: Vec::new(),
         }
     }
 
@@ -79,9 +83,10 @@ impl List {
                 )
             })?;
             tally.count(&call, &answer);
+            self.returned.extend(answer.of_run());
             self.keep(call, answer);
         }
-        Ok(())
+        any_order(&mut self.random, &mut self.returned)
     }
 
     fn next(&mut self, at: u64) -> (Call, Lengths) {

@@ -14,6 +14,7 @@ mod random;
 #[path = "../shared/registers.rs"]
 mod registers;
 mod saves;
+mod sheets;
 mod steps;
 mod tally;
 mod texts;

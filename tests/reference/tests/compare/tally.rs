@@ -1,6 +1,7 @@
 //! What was compared, counted from the reference's answers.
 
 use crate::call::{Answer, Call};
+use crate::ffi::Usage;
 use reference::run::Engine;
 use std::collections::BTreeMap;
 use std::fmt;
@@ -12,6 +13,13 @@ pub struct Tally {
     entries: u64,
     /// By export and outcome.
     outcomes: BTreeMap<(&'static str, String), u64>,
+    /// The sums of all runs' counts, by export.
+    counts: BTreeMap<&'static str, [u64; 41]>,
+}
+
+/// All counts: kinds, reads, writes.
+fn all(usage: &Usage) -> impl Iterator<Item = &u64> {
+    usage.kinds.iter().chain(&usage.reads).chain(&usage.writes)
 }
 
 impl Tally {
@@ -30,15 +38,14 @@ impl Tally {
             0 => "accepted".to_string(),
             refusal => format!("refused {refusal}"),
         };
-        let run = match answer {
-            Answer::Run(run) => Some((run.refusal, run.stop, run.steps, run.entries)),
-            Answer::HostStep(_, x) => Some((x.refusal, x.stop, x.steps, x.entries)),
-            _ => None,
-        };
-        if let Some((0, stop, steps, entries)) = run {
-            outcome = format!("stop {stop}");
-            self.steps += u64::from(steps);
-            self.entries += entries;
+        if let Some(run) = answer.of_run().filter(|run| run.refusal == 0) {
+            outcome = format!("stop {}", run.stop);
+            self.steps += u64::from(run.steps);
+            self.entries += run.entries;
+            let counts = self.counts.entry(export).or_insert([0; 41]);
+            for (sum, count) in counts.iter_mut().zip(all(&run.usage)) {
+                *sum += count;
+            }
         }
         if let Answer::Window(window) = answer {
             outcome = if window.count == 0 { "empty" } else { "part" }.to_string();
@@ -47,7 +54,8 @@ impl Tally {
         *self.outcomes.entry((export, outcome)).or_default() += 1;
     }
 
-    /// That enough was compared, and every outcome of every export.
+    /// That enough was compared, every outcome of every export, and every count
+    /// of those that step.
     pub fn check(&self) {
         assert!(self.calls >= 100_000, "{} calls", self.calls);
         assert!(self.steps >= 10_000_000, "{} steps", self.steps);
@@ -87,6 +95,13 @@ impl Tally {
                 let key = (export, outcome.to_string());
                 assert!(self.outcomes.contains_key(&key), "no {key:?}");
             }
+        }
+        for export in ["rules", "table", "host"] {
+            let counts = self.counts[export];
+            assert!(
+                counts.iter().all(|&count| count > 0),
+                "{export}, {counts:?}"
+            );
         }
     }
 }

@@ -3,7 +3,7 @@
 use crate::random::Random;
 use reference::control::{Table, TABLE};
 use reference::machine::{Places, State, Stepped, MEMORY, PORTS};
-use reference::run::{run, Reply};
+use reference::run::{host_step, run, run_by_rules, run_by_table, Reply, Returned};
 
 pub use reference::run::Engine;
 
@@ -32,6 +32,16 @@ pub const ENGINES: [Engine; 3] = [
     Engine::Rules,
     Engine::PAPER_TABLE,
     Engine::Table(&WITH_BIT_15),
+];
+
+/// A run that reports its counts.
+pub type Counted = fn(State, &[u8], &mut [u8], &[u16], &mut [u16], u32, &mut [u64]) -> Returned;
+
+/// The last is a host step, whatever the budget.
+pub const COUNTED: [Counted; 3] = [
+    run_by_rules,
+    run_by_table,
+    |mut held, p, d, i, o, _, log| host_step(&mut held, p, d, i, o, log),
 ];
 
 impl Board {
@@ -117,6 +127,14 @@ impl Board {
         );
         self.s = reply.state();
         reply
+    }
+
+    /// The same with the counts.
+    pub fn counted(&mut self, run: Counted, budget: u32, log: &mut [u64]) -> Returned {
+        let (p, d, i, o) = (&self.p, &mut self.d, &self.i, &mut self.o);
+        let returned = run(self.s, p, d, i, o, budget, log);
+        self.s = returned.reply.state();
+        returned
     }
 }
 

@@ -84,9 +84,7 @@ fn random_runs() {
 /// The opcodes 0 to 15 in any order.
 fn random_order(random: &mut Random) -> [u16; 16] {
     let mut order: [u16; 16] = std::array::from_fn(|k| k as u16);
-    for k in 1..16 {
-        order.swap(k, random.below(k as u64 + 1) as usize);
-    }
+    random.shuffle(&mut order);
     order
 }
 

@@ -14,7 +14,7 @@ const R5: u8 = 0b0010_0000;
 const R6: u8 = 0b0100_0000;
 
 /// What the words of `BY_HAND` read and write.
-const MASKS: [(u8, u8); 25] = [
+pub const MASKS: [(u8, u8); 25] = [
     (R5 | R6, R3), // AND R3,R5,R6
     (R5 | R6, R3), // OR
     (R5 | R6, R3), // XOR

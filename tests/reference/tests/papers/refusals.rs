@@ -273,7 +273,8 @@ fn a_host_step_is_refused_like_a_run() {
             &board.i,
             &mut board.o,
             &mut [0; 2],
-        );
+        )
+        .reply;
         assert_eq!(
             reply,
             Reply::Refused {

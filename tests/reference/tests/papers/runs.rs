@@ -130,7 +130,8 @@ fn a_host_step_is_a_run_by_the_table_with_budget_1() {
             &board.i,
             &mut board.o,
             &mut log,
-        );
+        )
+        .reply;
         assert_eq!(done(reply), expected);
         assert_eq!(reply.state(), held);
         assert_eq!(held.pc, pc);

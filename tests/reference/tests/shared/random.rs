@@ -20,6 +20,13 @@ impl Random {
         (self.next() >> 11) % limit
     }
 
+    /// Puts them in any order.
+    pub fn shuffle<T>(&mut self, all: &mut [T]) {
+        for k in 1..all.len() {
+            all.swap(k, self.below(k as u64 + 1) as usize);
+        }
+    }
+
     pub fn word(&mut self) -> u16 {
         self.below(65_536) as u16
     }

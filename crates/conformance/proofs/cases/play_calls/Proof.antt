@@ -11,6 +11,7 @@ play-calls-spec =
     (tie.spec
     (λ _ _ _ _ _ _ _ _ _ _ _ _ _ _. Unit {0})
     (λ _ _ _ _ _ _ _ _ _ _ _ _ _ i. 16 - i)
+    (λ c κs. tt)
     (λ c. tt)
     (λ c κs. tt)
     (λ c. omega arith)

@@ -102,7 +102,7 @@ sv x = sliceVal (x .ptr) (length (x .now))
 
 -- the answer that is made of a run's reply
 abbrev answer : SisaRun → SisaAnswer
-answer r = record { refusal = r .refusal; stop = r .stop; steps = r .steps; entries = r .entries }
+answer r = record { refusal = r .refusal; stop = r .stop; steps = r .steps; entries = r .entries; usage = r .usage }
 
 module _ {M : Type 1} (𝓤 : URA M) (H : Heap 𝓤) (A : Atoms 𝓤) (W : Given 𝓤 H A) (at-mem : Memory → SProp 𝓤) (go : Routine → Fun 𝓤)
     (κ κp κd κi κu κl : Lft) (q qp qd qi qu ql : Share) (b o : ℕ) (γ : GName) (h : State) (p d i u l : Ref) where
@@ -212,11 +212,11 @@ module _ {M : Type 1} (𝓤 : URA M) (H : Heap 𝓤) (A : Atoms 𝓤) (W : Given
         -- [the last list of log; true; of outputs; of inputs; of memory; the tokens and the reply; the state's cell; …]
         move ! (5 ∷ []) $ split ! $ move ! (1 ∷ []) $ peeks ! R.the-row (Is R.the-row) (shows 𝓤 H A R.the-row) r (v ∷ []) (λ is.
         land ! (from ! (stop !)) (init ! 29 refl (LL.lawful R.the-type R′.the-laws 𝓤 H A W .typed r _ is .0)) $
-        use1 W (given (v ∷ [] ≡ LL.vals R.the-type R′.the-laws r) (‵ (all-own (R.the-type .parts) R′.the-laws (r .state, (r .refusal, (r .stop, (r .steps, (r .entries, tt)))))))) (own-open 𝓤 H A W R.the-type R′.the-laws (r .state, (r .refusal, (r .stop, (r .steps, (r .entries, tt))))) v) $ learn ! (λ ev.
+        use1 W (given (v ∷ [] ≡ LL.vals R.the-type R′.the-laws r) (‵ (all-own (R.the-type .parts) R′.the-laws (r .state, (r .refusal, (r .stop, (r .steps, (r .entries, (r .usage, tt))))))))) (own-open 𝓤 H A W R.the-type R′.the-laws (r .state, (r .refusal, (r .stop, (r .steps, (r .entries, (r .usage, tt)))))) v) $ learn ! (λ ev.
         rewrite ! 29 (λ (z : Val). ‵ (fat fullShare R′.mir l₇ 0 z)) (ap only ev) refl $ fsplit ! $ move ! (1 ∷ []) $ drop ! $
         -- [the reply's state; the tokens; the last list of log; true; of outputs; of inputs; of memory; the state's cell; the open borrow; obs; auth; _16; …]: local k stands at 11 + 2 (16 - k)
         assigns ! (of-opd ! (load ! (from ! (fld ! refl (stop !))) (look-in ! 29 (sub ! 0 refl (whole !))))) (from ! (hop ! (look ! 41 refl) (stop !))) (store-raw ! 7 refl (LL.lawful T.the-type T′.the-laws 𝓤 H A W .typed (r .state) _ (LL.owed R.the-type R′.the-laws r _ is .0) .0)) $
-        assigns ! (agg ! (and-then ! (load ! (from ! (fld ! refl (stop !))) (look-in ! 29 (sub ! 1 refl (whole !)))) (and-then ! (load ! (from ! (fld ! refl (stop !))) (look-in ! 29 (sub ! 2 refl (whole !)))) (and-then ! (load ! (from ! (fld ! refl (stop !))) (look-in ! 29 (sub ! 3 refl (whole !)))) (and-then ! (load ! (from ! (fld ! refl (stop !))) (look-in ! 29 (sub ! 4 refl (whole !)))) (no-more !)))))) (from ! (stop !)) (init ! 43 refl (LL.lawful E.the-type E′.the-laws 𝓤 H A W .typed (answer r) _ (made r is) .0)) $
+        assigns ! (agg ! (and-then ! (load ! (from ! (fld ! refl (stop !))) (look-in ! 29 (sub ! 1 refl (whole !)))) (and-then ! (load ! (from ! (fld ! refl (stop !))) (look-in ! 29 (sub ! 2 refl (whole !)))) (and-then ! (load ! (from ! (fld ! refl (stop !))) (look-in ! 29 (sub ! 3 refl (whole !)))) (and-then ! (load ! (from ! (fld ! refl (stop !))) (look-in ! 29 (sub ! 4 refl (whole !)))) (and-then ! (load ! (from ! (fld ! refl (stop !))) (look-in ! 29 (sub ! 5 refl (whole !)))) (no-more !))))))) (from ! (stop !)) (init ! 43 refl (LL.lawful E.the-type E′.the-laws 𝓤 H A W .typed (answer r) _ (made r is) .0)) $
         -- the borrow is closed at the new state
         move ! (7 ∷ 0 ∷ 8 ∷ 9 ∷ 10 ∷ []) $ closes ! tt T.the-row (r .state) (mach (r .state) ∷ []) b o $
         -- [obs; the borrow; its token; the slices' tokens; the last list of log; true; of outputs; of inputs; of memory; _16; …]: local k stands at 9 + 2 (16 - k)

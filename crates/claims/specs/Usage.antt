@@ -1,0 +1,124 @@
+-- A usage sheet for a show (02, L5): over any runs, fed in any order to an empty sheet, it is the sum of the counts worked out from the
+-- plain machine's steps.
+use mathlib.Core.Logic.{_↔_}
+use mathlib.Core.Bool.{true}
+use mathlib.Core.Path.{_≡_}
+use mathlib.Core.List.{List, [], _∷_}
+use Prim.Native.Nat.{ℕ, _+_, _*_, _≤_}
+use lib.ListN.{length, getD}
+use Rattle.refusal.specs.Refusals.{Verdict, accepted, refused}
+use Rattle.machine.specs.Run.{byRules, trace}
+use Rattle.usage.specs.declared.Usage.{Usage}
+use Rattle.usage.specs.Usage.{unused, usageOf}
+use Rattle.run.specs.Runs.{Given, RunReply, stopped, refused as run-refused, verdictOn, machineAt, CountedLeft, CountedMeets}
+use Rattle.sheet.specs.declared.Sheet.{Sheet}
+use Rattle.sheet.specs.Sheet.{empty, wasAccepted, feedLeft}
+use Rattle.claims.specs.Session.{Engine, stepperOf}
+
+-- ---- Runs, and what each returned
+
+-- a run, by the rules or by the table, of whatever it is given
+pub record Run : Type 0 where
+  pub engine : Engine
+  pub of : Given
+
+-- what is fed: a run's reply and its counts
+pub record Fed : Type 0 where
+  pub reply : RunReply
+  pub usage : Usage
+
+-- what runs returned, each known by its contract alone
+pub data Returned : List Run → List Fed → Type 0 where
+  none : Returned [] []
+  more :
+      {rs : List Run} {fs : List Fed} (r : Run) (l : CountedLeft) → CountedMeets (stepperOf (r .engine)) (r .of) l → Returned rs fs
+      → Returned (r ∷ rs) (record { reply = l .left .reply; usage = l .usage } ∷ fs)
+
+-- ---- The same, worked out from the plain machine's steps
+
+-- counts added place by place
+unfoldable pub plus : List ℕ → List ℕ → List ℕ
+plus [] ys = ys
+plus (x ∷ xs) [] = x ∷ xs
+plus (x ∷ xs) (y ∷ ys) = (x + y) ∷ plus xs ys
+
+abbrev pub plusUsage : Usage → Usage → Usage
+plusUsage u v = record { kinds = plus (u .kinds) (v .kinds); reads = plus (u .reads) (v .reads); writes = plus (u .writes) (v .writes) }
+
+-- an accepted run counts its steps, a refused one adds nothing
+abbrev pub countsBy : Verdict → Given → Usage
+countsBy accepted g = usageOf (trace byRules (g .budget) (length (g .log)) (machineAt g))
+countsBy (refused k) g = unused
+
+abbrev pub oneBy : Verdict → ℕ
+oneBy accepted = 1
+oneBy (refused k) = 0
+
+unfoldable pub countsOf : List Run → Usage
+countsOf [] = unused
+countsOf (r ∷ rs) = plusUsage (countsBy (verdictOn (r .of)) (r .of)) (countsOf rs)
+
+-- the number of accepted ones
+unfoldable pub acceptedOf : List Run → ℕ
+acceptedOf [] = 0
+acceptedOf (r ∷ rs) = oneBy (verdictOn (r .of)) + acceptedOf rs
+
+-- ---- Feeding
+
+-- the lists have the same elements, in any order
+pub data Reordered {A : Type 0} : List A → List A → Type 0 where
+  nothing : Reordered [] []
+  same : {xs ys : List A} (x : A) → Reordered xs ys → Reordered (x ∷ xs) (x ∷ ys)
+  swapped : (x y : A) (xs : List A) → Reordered (x ∷ y ∷ xs) (y ∷ x ∷ xs)
+  then : {xs ys zs : List A} → Reordered xs ys → Reordered ys zs → Reordered xs zs
+
+-- a sheet fed one after the other, none refused
+pub data Feeds : Sheet → List Fed → Sheet → Type 0 where
+  done : {s : Sheet} → Feeds s [] s
+  feed : {s next last : Sheet} {fs : List Fed} (f : Fed)
+      → feedLeft s (f .reply) (f .usage) ≡ record { reply = accepted; sheet = next } → Feeds next fs last → Feeds s (f ∷ fs) last
+
+-- ---- The claim
+
+unfoldable pub total : List ℕ → ℕ
+total [] = 0
+total (x ∷ xs) = x + total xs
+
+-- the steps that the runs reported
+abbrev pub stepsIn : RunReply → ℕ
+stepsIn (stopped q steps entries) = steps
+stepsIn (run-refused k) = 0
+
+unfoldable pub stepsOf : List Fed → ℕ
+stepsOf [] = 0
+stepsOf (f ∷ fs) = stepsIn (f .reply) + stepsOf fs
+
+-- the sheet that has these counts
+abbrev pub sheetOf : Usage → ℕ → Sheet
+sheetOf u n = record { kinds = u .kinds; reads = u .reads; writes = u .writes; runs = n }
+
+pub record Sheets : Type 0 where
+  -- such returns exist for every list of runs
+  pub returns-exist : (rs : List Run) → (fs : List Fed) × Returned rs fs
+  -- In whichever order what the runs returned is fed to an empty sheet, no feeding is refused, and the sheet is the one worked out
+  -- from the plain machine's steps. (Its counts are sums of numbers and not of numbers modulo 2^64: an accepted run has at most
+  -- 4,294,967,295 steps, and there are at most 65,535 of them.)
+  pub any-order :
+      (rs : List Run) (fs order : List Fed) → Returned rs fs → acceptedOf rs ≤ 65535 → Reordered fs order
+      → Feeds empty order (sheetOf (countsOf rs) (acceptedOf rs))
+  -- and no other sheet comes of it
+  pub one-sheet : (s a b : Sheet) (fs : List Fed) → Feeds s fs a → Feeds s fs b → a ≡ b
+  -- kind counts sum to the steps that the runs reported
+  pub kinds-sum : (rs : List Run) (fs : List Fed) → Returned rs fs → total (countsOf rs .kinds) ≡ stepsOf fs
+  -- a register is counted at most once a step
+  pub reads-at-most : (rs : List Run) (fs : List Fed) (j : ℕ) → Returned rs fs → getD (countsOf rs .reads) j 0 ≤ stepsOf fs
+  pub writes-at-most : (rs : List Run) (fs : List Fed) (j : ℕ) → Returned rs fs → getD (countsOf rs .writes) j 0 ≤ stepsOf fs
+  -- why no count wraps
+  pub few-steps : (rs : List Run) (fs : List Fed) → Returned rs fs → stepsOf fs ≤ acceptedOf rs * 4294967295
+  -- 13 exactly where an accepted run is fed after 65,535 such
+  pub refused-13 :
+      (s : Sheet) (r : RunReply) (u : Usage)
+      → (feedLeft s r u .reply ≡ refused 13) ↔ ((wasAccepted r ≡ true) × (65535 ≤ s .runs))
+  pub no-other : (s : Sheet) (r : RunReply) (u : Usage) (k : ℕ) → feedLeft s r u .reply ≡ refused k → k ≡ 13
+  -- the sheet comes back as it was
+  pub nothing-changes : (s : Sheet) (r : RunReply) (u : Usage) (k : ℕ) → feedLeft s r u .reply ≡ refused k → feedLeft s r u .sheet ≡ s

@@ -1,0 +1,5 @@
+mod Added
+pub mod Functions
+mod InMasks
+pub mod Sums
+mod Words

@@ -1,0 +1,119 @@
+-- Usages added up, their lengths, and a bound on every counter: what a loop that counts its steps keeps.
+-- Assumes nothing.
+use mathlib.Core.Path.{_≡_, refl, sym, _∙_, ap}
+use mathlib.Core.Bool.{Bool, true, false}
+use mathlib.Core.List.{List, [], _∷_}
+use Prim.Native.Nat.{ℕ, zero, suc, _+_, _≤_, _<_}
+use native.Mathlib.Nat.{add-zero, add-comm}
+use native.Mathlib.Omega.{arith}
+use lib.ListN.{length, getD, replicate}
+use Rattle.word.specs.Word.{flag}
+use Rattle.kinds.specs.Kinds.{kinds}
+use Rattle.isa.specs.Masks.{Masks, inMask}
+use Rattle.machine.specs.Machine.{Machine}
+use Rattle.usage.specs.declared.Usage.{Usage}
+use Rattle.usage.specs.Usage.{addedFrom, counted, unused, usageOf, held, Countable}
+use Rattle.usage.proofs.Added.{added-length}
+
+-- ---- Sums
+
+-- place by place, as far as both lists go
+unfoldable pub sums : List ℕ → List ℕ → List ℕ
+sums [] ys = []
+sums (x ∷ xs) [] = []
+sums (x ∷ xs) (y ∷ ys) = (x + y) ∷ sums xs ys
+
+abbrev pub plus : Usage → Usage → Usage
+plus u v = held (sums (u .kinds) (v .kinds)) (sums (u .reads) (v .reads)) (sums (u .writes) (v .writes))
+
+sums-comm : (xs ys : List ℕ) → sums xs ys ≡ sums ys xs
+unfolding sums
+sums-comm [] [] = refl
+sums-comm [] (y ∷ ys) = refl
+sums-comm (x ∷ xs) [] = refl
+sums-comm (x ∷ xs) (y ∷ ys) = λ i. add-comm x y i ∷ sums-comm xs ys i
+
+pub plus-comm : (u v : Usage) → plus u v ≡ plus v u
+plus-comm u v = λ i. held (sums-comm (u .kinds) (v .kinds) i) (sums-comm (u .reads) (v .reads) i) (sums-comm (u .writes) (v .writes) i)
+
+sums-added : (n : ℕ) (t : ℕ → Bool) (xs ys : List ℕ) → sums xs (addedFrom n t ys) ≡ addedFrom n t (sums xs ys)
+unfolding sums addedFrom
+sums-added n t [] ys = refl
+sums-added n t (x ∷ xs) [] = refl
+sums-added n t (x ∷ xs) (y ∷ ys) = let e : x + (y + flag (t n)) ≡ (x + y) + flag (t n) = omega arith in λ i. e i ∷ sums-added (suc n) t xs ys i
+
+module _ (kind : ℕ → Bool) (masks : Masks) (u x : Usage) where
+  pub plus-counted : plus u (counted kind masks x) ≡ counted kind masks (plus u x)
+  plus-counted =
+      λ i.
+      held (sums-added 0 kind (u .kinds) (x .kinds) i)
+      (sums-added 0 (inMask (masks .reads)) (u .reads) (x .reads) i)
+      (sums-added 0 (inMask (masks .writes)) (u .writes) (x .writes) i)
+
+-- a step counted on either side
+pub counted-plus : (kind : ℕ → Bool) (masks : Masks) (u x : Usage) → plus (counted kind masks u) x ≡ plus u (counted kind masks x)
+counted-plus kind masks u x =
+    plus-comm (counted kind masks u) x ∙ plus-counted kind masks x u ∙ ap (counted kind masks) (plus-comm x u) ∙ sym (plus-counted kind masks u x)
+
+-- ---- Lengths
+
+pub record Sized (u : Usage) : Type 0 where
+  pub kinds : length (u .kinds) ≡ length kinds
+  pub reads : length (u .reads) ≡ 8
+  pub writes : length (u .writes) ≡ 8
+
+pub unused-sized : Sized unused
+unused-sized = record { kinds = refl; reads = refl; writes = refl }
+
+pub counted-sized : (kind : ℕ → Bool) (masks : Masks) {u : Usage} → Sized u → Sized (counted kind masks u)
+counted-sized kind masks s =
+    record { kinds = added-length 0 _ _ ∙ s .kinds; reads = added-length 0 _ _ ∙ s .reads; writes = added-length 0 _ _ ∙ s .writes }
+
+pub trace-sized : (ms : List Machine) → Sized (usageOf ms)
+unfolding usageOf
+trace-sized [] = unused-sized
+trace-sized (m ∷ ms) = counted-sized _ _ (trace-sized ms)
+
+sums-none : (n : ℕ) (xs : List ℕ) → length xs ≡ n → sums xs (replicate n 0) ≡ xs
+unfolding sums
+sums-none n [] e = refl
+sums-none zero (x ∷ xs) e = absurd (omega arith)
+sums-none (suc n) (x ∷ xs) e = λ i. add-zero x i ∷ sums-none n xs (omega arith) i
+
+pub plus-unused : {u : Usage} → Sized u → plus u unused ≡ u
+plus-unused {u} s = λ i. held (sums-none _ (u .kinds) (s .kinds) i) (sums-none _ (u .reads) (s .reads) i) (sums-none _ (u .writes) (s .writes) i)
+
+pub unused-plus : {u : Usage} → Sized u → plus unused u ≡ u
+unused-plus {u} s = plus-comm unused u ∙ plus-unused s
+
+-- ---- A bound
+
+pub record AtMost (n : ℕ) (u : Usage) : Type 0 where
+  pub kinds : (k : ℕ) → getD (u .kinds) k 0 ≤ n
+  pub reads : (k : ℕ) → getD (u .reads) k 0 ≤ n
+  pub writes : (k : ℕ) → getD (u .writes) k 0 ≤ n
+
+added-most : (m n : ℕ) (t : ℕ → Bool) (xs : List ℕ) → ((k : ℕ) → getD xs k 0 ≤ n) → (k : ℕ) → getD (addedFrom m t xs) k 0 ≤ n + 1
+unfolding addedFrom
+added-most m n t [] h k = omega arith
+added-most m n t (x ∷ xs) h zero = omega (arith, h 0, few (t m))
+  where
+    few : (b : Bool) → flag b ≤ 1
+    few true = omega arith
+    few false = omega arith
+added-most m n t (x ∷ xs) h (suc k) = added-most (suc m) n t xs (λ k. h (suc k)) k
+
+pub counted-most : (kind : ℕ → Bool) (masks : Masks) {n : ℕ} {u : Usage} → AtMost n u → AtMost (n + 1) (counted kind masks u)
+counted-most kind masks a =
+    record { kinds = added-most 0 _ _ _ (a .kinds); reads = added-most 0 _ _ _ (a .reads); writes = added-most 0 _ _ _ (a .writes) }
+
+pub unused-most : AtMost 0 unused
+unused-most = record { kinds = zeros (length kinds); reads = zeros 8; writes = zeros 8 }
+  where
+    zeros : (n k : ℕ) → getD (replicate n 0) k 0 ≤ 0
+    zeros zero k = omega arith
+    zeros (suc n) zero = omega arith
+    zeros (suc n) (suc k) = zeros n k
+
+pub countable : {n : ℕ} {u : Usage} → n < 18446744073709551615 → AtMost n u → Countable u
+countable l a = record { kinds = λ k. omega (arith, a .kinds k); reads = λ k. omega (arith, a .reads k); writes = λ k. omega (arith, a .writes k) }

@@ -1,0 +1,84 @@
+-- The counts of a run (02, L5): over its trace, the machines before each step that it took, steps by kind, and reads and writes by
+-- register.
+use Prim.Native.Nat.{ℕ, suc, _+_, _<_}
+use mathlib.Core.Bool.{Bool, true, false}
+use mathlib.Core.List.{List, [], _∷_}
+use lib.Dec.{eqb}
+use lib.ListN.{length, getD, replicate}
+use Rattle.word.specs.Fields.{opcode, e-of, f-of}
+use Rattle.word.specs.Word.{pick, flag}
+use Rattle.kinds.specs.Kinds.{kinds, kindNumber}
+use Rattle.isa.specs.declared.rows.Entry.{Entry}
+use Rattle.isa.specs.declared.rows.Entry.the-variants.{Unassigned, Assigned}
+use Rattle.isa.specs.Sheet.{kindAt}
+use Rattle.isa.specs.Masks.{Masks, inMask, masksOf}
+use Rattle.machine.specs.Machine.{Machine}
+use Rattle.machine.specs.Step.{fetched}
+use Rattle.usage.specs.declared.Usage.{Usage}
+
+-- ---- What a machine does next
+
+-- the entry is the kind with number j
+abbrev pub isKind : Entry → ℕ → Bool
+isKind (Assigned k) j = eqb (kindNumber k) j
+isKind Unassigned j = false
+
+abbrev pub wordIs : ℕ → ℕ → Bool
+wordIs w j = isKind (kindAt (opcode w) (e-of w) (f-of w)) j
+
+-- m does an instruction of the kind with number j next
+abbrev pub doesKind : Machine → ℕ → Bool
+doesKind m j = wordIs (fetched m) j
+
+-- the masks of what m does next: those of the word fetched
+abbrev pub masksAt : Machine → Masks
+masksAt m = masksOf (fetched m)
+
+-- ---- Counts
+
+-- 1 more at each place, from number k on, of which the test holds
+unfoldable pub addedFrom : ℕ → (ℕ → Bool) → List ℕ → List ℕ
+addedFrom k test [] = []
+addedFrom k test (x ∷ xs) = (x + flag (test k)) ∷ addedFrom (suc k) test xs
+
+abbrev pub added : (ℕ → Bool) → List ℕ → List ℕ
+added test xs = addedFrom 0 test xs
+
+-- 1 more at the places that each list's test tells
+abbrev pub countedBy : (ℕ → Bool) → (ℕ → Bool) → (ℕ → Bool) → Usage → Usage
+countedBy kind reads writes u = record { kinds = added kind (u .kinds); reads = added reads (u .reads); writes = added writes (u .writes) }
+
+-- one step more: `kinds` counts it by its kind's number, `reads` and `writes` once for each register in its masks
+abbrev pub counted : (ℕ → Bool) → Masks → Usage → Usage
+counted kind masks u = countedBy kind (inMask (masks .reads)) (inMask (masks .writes)) u
+
+abbrev pub unused : Usage
+unused = record { kinds = replicate (length kinds) 0; reads = replicate 8 0; writes = replicate 8 0 }
+
+-- the counts of a trace
+unfoldable pub usageOf : List Machine → Usage
+usageOf [] = unused
+usageOf (m ∷ ms) = counted (doesKind m) (masksAt m) (usageOf ms)
+
+-- ---- Counting in place
+
+-- what the three lists of counters hold
+abbrev pub held : List ℕ → List ℕ → List ℕ → Usage
+held kinds reads writes = record { kinds = kinds; reads = reads; writes = writes }
+
+-- one step more fits each counter
+abbrev pub Below : List ℕ → Type 0
+Below xs = (k : ℕ) → getD xs k 0 < 18446744073709551615
+
+pub record Countable (u : Usage) : Type 0 where
+  pub kinds : Below (u .kinds)
+  pub reads : Below (u .reads)
+  pub writes : Below (u .writes)
+
+-- j is a or b
+abbrev pub eitherOf : ℕ → ℕ → ℕ → Bool
+eitherOf a b j = pick (eqb b j) true (eqb a j)
+
+-- one step of the kind with number k, which reads a and b and writes d; none where k is past the kinds
+abbrev pub countedThree : ℕ → ℕ → ℕ → ℕ → Usage → Usage
+countedThree k a b d u = pick (eqb k (length kinds)) u (countedBy (eqb k) (eitherOf a b) (eqb d) u)

@@ -1,0 +1,97 @@
+//! The runs of `conformance`, and the sheet that they are fed to.
+
+use super::host::Host;
+use super::{number, Call, Digest};
+use crate::run::{host_step, run_by_rules, run_by_table, Reply, Returned};
+use crate::sheet::Sheet;
+
+/// What makes a run that reports its counts.
+#[derive(Clone, Copy)]
+pub enum By {
+    Rules,
+    Table,
+    HostStep,
+}
+
+/// "a sheet, at first the empty one, but where"
+pub fn first_sheet(c: u64) -> Sheet {
+    let mut sheet = Sheet::empty();
+    match number(c, 5) % 4 {
+        // "is 0, with 65,530 runs"
+        0 => sheet.runs = 65_530,
+        // "and 1, with each count k, from 0 in the digest's order, 2^64 - 1 -
+        // number(c, 600 + k)"
+        1 => {
+            let counts = sheet.kinds.iter_mut();
+            let counts = counts.chain(&mut sheet.reads).chain(&mut sheet.writes);
+            for (k, count) in counts.enumerate() {
+                *count = u64::MAX - number(c, 600 + k as u64);
+            }
+        }
+        _ => {}
+    }
+    sheet
+}
+
+/// "The digest of counts"
+fn digest(kinds: [u64; 25], reads: [u64; 8], writes: [u64; 8]) -> u64 {
+    let mut digest = Digest::default();
+    digest.take_halves(&kinds);
+    digest.take_halves(&reads);
+    digest.take_halves(&writes);
+    digest.value()
+}
+
+/// "REFUSAL STOP STEPS ENTRIES"; the last three "are 0 where the call is
+/// refused".
+pub fn numbers_of(reply: Reply) -> String {
+    match reply {
+        Reply::Done {
+            stop,
+            steps,
+            entries,
+            ..
+        } => format!("0 {stop} {steps} {entries}"),
+        Reply::Refused { number, .. } => format!("{number} 0 0 0"),
+    }
+}
+
+impl Host {
+    /// The line of the run, and that of the feeding.
+    pub fn run_and_feed(&mut self, by: By, call: Call) -> Vec<String> {
+        let engine = match by {
+            By::Rules => "rules",
+            By::Table => "table",
+            By::HostStep => "host",
+        };
+        let Returned { reply, usage } = self.run_by(by, call);
+        self.keep(reply);
+        let counts = digest(usage.kinds, usage.reads, usage.writes);
+        let left = self.digest(reply.state());
+        let run = format!("run {engine} {call} {} {counts} {left}", numbers_of(reply));
+        // "whether it was accepted or refused, what the call returned is fed"
+        let fed = self.sheet.feed(reply.refusal(), usage);
+        self.sheet = fed.sheet;
+        let Sheet {
+            kinds,
+            reads,
+            writes,
+            runs,
+        } = fed.sheet;
+        let counts = digest(kinds, reads, writes);
+        vec![run, format!("fed {call} {} {runs} {counts}", fed.refusal)]
+    }
+
+    fn run_by(&mut self, by: By, call: Call) -> Returned {
+        let (n, log) = match by {
+            By::Rules | By::Table => (4_294_967_000, 40),
+            By::HostStep => (4_294_967_295, 2),
+        };
+        let mut x = self.lend(call, n, log);
+        match by {
+            By::Rules => run_by_rules(x.state, x.p, x.d, x.i, x.o, x.budget, x.log),
+            By::Table => run_by_table(x.state, x.p, x.d, x.i, x.o, x.budget, x.log),
+            By::HostStep => host_step(&mut x.state, x.p, x.d, x.i, x.o, x.log),
+        }
+    }
+}

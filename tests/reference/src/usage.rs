@@ -1,0 +1,39 @@
+//! The counts of a run, as document 02's request L5 says.
+//!
+//! Sentences in quotation marks are that request's.
+
+use crate::instruction::read;
+use crate::machine::{step, word, Places, State};
+use crate::masks::{masks, registers};
+
+/// "count steps by kind and reads and writes by register in 64-bit numbers";
+/// kinds by their numbers. The default is no step counted.
+#[derive(Clone, Copy, Debug, Default, PartialEq, Eq)]
+pub struct Usage {
+    pub kinds: [u64; 25],
+    pub reads: [u64; 8],
+    pub writes: [u64; 8],
+}
+
+impl Usage {
+    /// The counts of so many steps of the plain machine from here.
+    pub fn of_steps(mut state: State, places: &mut Places, steps: u32) -> Usage {
+        let mut usage = Usage::default();
+        for _ in 0..steps {
+            usage.count(word(places.p, state.pc));
+            state = step(state, places).map_or(state, |stepped| stepped.state);
+        }
+        usage
+    }
+
+    /// Counts a step on this word, "a register once a step by its masks". An
+    /// unassigned word, on which there is no step, adds nothing.
+    pub fn count(&mut self, w: u16) {
+        let masks = masks(w);
+        if let Some(x) = read(w) {
+            self.kinds[usize::from(x.kind.number())] += 1;
+        }
+        registers(masks.reads).for_each(|k| self.reads[k] += 1);
+        registers(masks.writes).for_each(|k| self.writes[k] += 1);
+    }
+}
