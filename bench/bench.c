@@ -364,7 +364,7 @@ static void random_of_seed(Workload *into)
 /* The first table, and what counting costs C. */
 static void print_steps(void)
 {
-    static void (*const workloads[])(Workload *) = { alu_loop, loads_and_stores, mix, random_of_seed };
+    static void (*const workloads[])(Workload *) = { alu_loop, loads_and_stores, mix, mix_with_products, random_of_seed };
     enum { WORKLOADS = sizeof workloads / sizeof *workloads };
     const char *names[WORKLOADS];
     double counting[WORKLOADS];

@@ -3,7 +3,7 @@
 
 #include <string.h>
 
-/* What the switch goes by: the opcode, and f, which tells the instructions of opcodes 0 and 1 apart. */
+/* What the switch goes by: the opcode, and f, which tells the instructions of opcodes 0, 1 and 11 apart. */
 #define CASE(opcode, f) ((opcode) << 3 | (f))
 #define ANY_F(opcode) CASE(opcode, 0) ... CASE(opcode, 7)
 
@@ -59,6 +59,15 @@ static SisaRun run_accepted(SisaState state, const uint8_t *restrict program, ui
             if (entries == log_len) { stop = 2; goto stopped; }
             outputs[w & 255] = r[A]; COUNT(OUT, A, NONE, NONE);
             log[entries++] = (uint64_t)(state.n + steps) << 24 | (uint64_t)(w & 255) << 16 | r[A]; break;
+        case CASE(11, 0): r[D] = (uint16_t)((uint32_t)r[A] * r[B]); COUNT(MUL, A, B, D); break;
+        case CASE(11, 1): r[D] = high_signed(r[A], r[B]); COUNT(MULH, A, B, D); break;
+        case CASE(11, 2): r[D] = high_unsigned(r[A], r[B]); COUNT(MULHU, A, B, D); break;
+        case CASE(11, 4):
+            if (r[B] == 0) { stop = 3; goto stopped; }
+            r[D] = divide_signed(r[A], r[B]); COUNT(DIV, A, B, D); break;
+        case CASE(11, 5):
+            if (r[B] == 0) { stop = 3; goto stopped; }
+            r[D] = r[A] / r[B]; COUNT(DIVU, A, B, D); break;
         default: stop = 1; goto stopped;
         }
         pc = next;

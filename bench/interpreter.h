@@ -28,10 +28,17 @@ static inline uint16_t shift(int32_t x, uint16_t b)
     return (uint16_t)(k < 0 ? x >> -k : (int32_t)((uint32_t)x << k));
 }
 
+/* The high half of a signed product, and of an unsigned one. */
+static inline uint16_t high_signed(uint16_t a, uint16_t b) { return (uint16_t)((int16_t)a * (int16_t)b >> 16); }
+static inline uint16_t high_unsigned(uint16_t a, uint16_t b) { return (uint16_t)((uint32_t)a * b >> 16); }
+
+/* The low 16 bits of a signed quotient, rounded toward zero; b is not 0. */
+static inline uint16_t divide_signed(uint16_t a, uint16_t b) { return (uint16_t)((int16_t)a / (int16_t)b); }
+
 /* Kinds by their number. */
 enum {
     AND, OR, XOR, NOT, ADD, SUB, SHA, SHL, CMPLT, CMPLE, CMPEQ, CMPLTU, CMPLEU, ADDI, LD, ST, LDB, STB, JALR, BZ, BNZ, MOVI,
-    MOVHI, IN, OUT,
+    MOVHI, IN, OUT, MUL, MULH, MULHU, DIV, DIVU,
 };
 
 /* No register. */

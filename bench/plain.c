@@ -1,5 +1,5 @@
-/* The interpreter that the engines are measured against: a switch on the opcode, for opcodes 0 and 1 one on f, the registers
-   in a local array, each word fetched from the program's bytes. */
+/* The interpreter that the engines are measured against: a switch on the opcode, for opcodes 0, 1 and 11 one on f, the
+   registers in a local array, each word fetched from the program's bytes. */
 #include "interpreter.h"
 
 #include <string.h>
@@ -28,6 +28,19 @@ static inline int compare(unsigned f, uint16_t a, uint16_t b)
     case 3: return a == b;
     case 4: return a < b;
     case 5: return a <= b;
+    default: return -1;
+    }
+}
+
+/* Opcode 11 by f: the result, or -1 where f is unassigned, -3 where the divisor is zero. */
+static inline int multiply(unsigned f, uint16_t a, uint16_t b)
+{
+    switch (f) {
+    case 0: return (uint16_t)((uint32_t)a * b);
+    case 1: return high_signed(a, b);
+    case 2: return high_unsigned(a, b);
+    case 4: return b != 0 ? divide_signed(a, b) : -3;
+    case 5: return b != 0 ? a / b : -3;
     default: return -1;
     }
 }
@@ -66,6 +79,9 @@ static SisaRun run_accepted(SisaState state, const uint8_t *restrict program, ui
             if (entries == log_len) { stop = 2; goto stopped; }
             outputs[w & 255] = r[a]; count(&usage, OUT, a, NONE, NONE);
             log[entries++] = (uint64_t)(state.n + steps) << 24 | (uint64_t)(w & 255) << 16 | r[a]; break;
+        case 11:
+            if ((x = multiply(f, r[a], r[b])) < 0) { stop = (uint8_t)-x; goto stopped; }
+            r[d] = (uint16_t)x; count(&usage, MUL + f - (f > 3), a, b, d); break;
         default: stop = 1; goto stopped;
         }
         pc = next;

@@ -27,6 +27,11 @@
 #define MOVI(d, n) R1(9, 0, d, n)
 #define IN(d, n) R1(10, 0, d, n)
 #define OUT(n, a) R1(10, 1, a, n)
+#define MUL(d, a, b) R3(11, 0, d, a, b)
+#define MULH(d, a, b) R3(11, 1, d, a, b)
+#define MULHU(d, a, b) R3(11, 2, d, a, b)
+#define DIV(d, a, b) R3(11, 4, d, a, b)
+#define DIVU(d, a, b) R3(11, 5, d, a, b)
 
 /* Marsaglia's xorshift; the state is never 0. */
 static uint32_t next_random(uint32_t *x)
@@ -90,7 +95,22 @@ void mix(Workload *load)
     make(load, "mix", words, sizeof words / sizeof *words, 3);
 }
 
-/* Kinds by their number in the sheet's order. */
+void mix_with_products(Workload *load)
+{
+    static const uint16_t words[] = {
+        /*  0 */ MOVI(6, 2 * 20),
+        /*  1 */ IN(1, 16), ADD(0, 0, 1), SHA(2, 0, 5), ADDI(5, 5, 3), MUL(3, 2, 5), CMPLT(4, 3, 1),
+        /*  7 */ BZ(4, 1), XOR(0, 0, 3),
+        /*  9 */ JALR(7, 6), CMPLEU(4, 0, 3),
+        /* 11 */ BNZ(4, 1), ADDI(0, 0, 5),
+        /* 13 */ OUT(32, 0), CMPEQ(4, 2, 5), MULH(3, 2, 1), OR(3, 3, 6), DIV(3, 0, 3), ADD(0, 0, 3),
+        /* 19 */ BNZ(6, -19),
+        /* 20, the subroutine */ IN(2, 200), SUB(0, 0, 2), MULHU(4, 0, 2), DIVU(2, 0, 6), XOR(2, 2, 4), JALR(4, 7),
+    };
+    make(load, "mix with products", words, sizeof words / sizeof *words, 3);
+}
+
+/* The sheet's kinds, by their number in its order. */
 enum { CMPLT_KIND = 8, ADDI_KIND = 13, JALR_KIND = 18, BZ_KIND = 19, BNZ_KIND = 20, KINDS = 25 };
 
 static unsigned random_kind(uint32_t *x)

@@ -23,9 +23,13 @@ void loads_and_stores(Workload *load);
 /* Shifts, compares, branches that depend on data, a subroutine by JALR, IN and OUT. */
 void mix(Workload *load);
 
-/* 32,768 random assigned words, data bytes and inputs, all decided by the seed (not 0). The 25 kinds are alike in number
-   but for JALR, which is 64 times rarer, and branches go forward: a program without these two limits soon stays in a
-   short loop. */
+/* The mix with MUL, MULH and DIV in its loop, MULHU and DIVU in its subroutine. A divisor has the bits of R6, the
+   subroutine's address, so none is 0. */
+void mix_with_products(Workload *load);
+
+/* 32,768 random assigned words, data bytes and inputs, all decided by the seed (not 0). The sheet's 25 kinds are alike in
+   number but for JALR, which is 64 times rarer, and branches go forward: a program without these two limits soon stays in
+   a short loop. There is no word of opcode 11: a random divisor is soon 0, which would end the run. */
 void random_program(Workload *load, uint32_t seed);
 
 #endif

@@ -8,15 +8,17 @@
 #include <stdio.h>
 #include <string.h>
 
-enum { MEMORY_BYTES = 65536, PORTS = 256, LOG_PLACES = 64, BUDGET = 1000, HOST_STEPS = 5 };
+enum { MEMORY_BYTES = 65536, PORTS = 256, LOG_PLACES = 64, BUDGET = 1000, HOST_STEPS = 5, KINDS = 30 };
 
 static uint8_t file[16 + 2 * MEMORY_BYTES], program[MEMORY_BYTES], memory[MEMORY_BYTES];
 static uint16_t inputs[PORTS], outputs[PORTS];
 static uint64_t port_log[LOG_PLACES];
 static SisaSheet sheet; /* all zero: the empty sheet */
 
-static const char *const kinds[25] = {"AND",   "OR",   "XOR", "NOT", "ADD", "SUB", "SHA",  "SHL", "CMPLT", "CMPLE", "CMPEQ", "CMPLTU", "CMPLEU",
-                                      "ADDI",  "LD",   "ST",  "LDB", "STB", "JALR", "BZ",  "BNZ", "MOVI",  "MOVHI", "IN",    "OUT"};
+static const char *const kinds[KINDS] = {
+    "AND", "OR", "XOR", "NOT", "ADD", "SUB", "SHA", "SHL", "CMPLT", "CMPLE", "CMPEQ", "CMPLTU", "CMPLEU", "ADDI", "LD", "ST", "LDB",
+    "STB", "JALR", "BZ", "BNZ", "MOVI", "MOVHI", "IN", "OUT", "MUL", "MULH", "MULHU", "DIV", "DIVU",
+};
 
 static void print_state(const char *title, const SisaState *state)
 {
@@ -49,9 +51,9 @@ static int refused(uint8_t refusal)
 static void set_knobs(void)
 {
     sisa_set_input(inputs, PORTS, 0, 500);
-    sisa_set_input(inputs, PORTS, 1, (uint16_t)-2);
+    sisa_set_input(inputs, PORTS, 1, 320);
     sisa_set_input(inputs, PORTS, 2, 20);
-    printf("inputs: port 0 level 500, port 1 gain exponent -2, port 2 lift 20\n");
+    printf("inputs: port 0 level 500, port 1 gain 320/256, port 2 lift 20\n");
 }
 
 /* An entry of the log is n before the step, the port and the value, from the high bits to the low. An output port holds
@@ -108,7 +110,7 @@ static void step_by_step(SisaState state)
 static void print_sheet(void)
 {
     printf("sheet of %u runs\n", sheet.runs);
-    for (int k = 0; k < 25; k++)
+    for (int k = 0; k < KINDS; k++)
         if (sheet.kinds[k] != 0)
             printf("%-6s %6llu steps\n", kinds[k], (unsigned long long)sheet.kinds[k]);
     for (int j = 0; j < 8; j++)

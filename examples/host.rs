@@ -31,7 +31,7 @@ mod ffi {
     #[repr(C)]
     #[derive(Clone, Copy)]
     pub struct Usage {
-        pub kinds: [u64; 25],
+        pub kinds: [u64; 30],
         pub reads: [u64; 8],
         pub writes: [u64; 8],
     }
@@ -40,7 +40,7 @@ mod ffi {
     #[repr(C)]
     #[derive(Clone, Copy, Default)]
     pub struct Sheet {
-        pub kinds: [u64; 25],
+        pub kinds: [u64; 30],
         pub reads: [u64; 8],
         pub writes: [u64; 8],
         pub runs: u16,
@@ -116,9 +116,9 @@ struct Report {
 }
 
 #[rustfmt::skip]
-const KINDS: [&str; 25] = [
+const KINDS: [&str; 30] = [
     "AND", "OR", "XOR", "NOT", "ADD", "SUB", "SHA", "SHL", "CMPLT", "CMPLE", "CMPEQ", "CMPLTU", "CMPLEU", "ADDI", "LD", "ST", "LDB",
-    "STB", "JALR", "BZ", "BNZ", "MOVI", "MOVHI", "IN", "OUT",
+    "STB", "JALR", "BZ", "BNZ", "MOVI", "MOVHI", "IN", "OUT", "MUL", "MULH", "MULHU", "DIV", "DIVU",
 ];
 
 /// Adds what an accepted run returned.
@@ -298,9 +298,9 @@ fn host(file: &[u8]) -> Result<(), Refusal> {
     let mut machine = Machine::load(file)?;
     let reset = machine.state;
     machine.set_input(0, 500)?;
-    machine.set_input(1, -2_i16 as u16)?;
+    machine.set_input(1, 320)?;
     machine.set_input(2, 20)?;
-    println!("inputs: port 0 level 500, port 1 gain exponent -2, port 2 lift 20");
+    println!("inputs: port 0 level 500, port 1 gain 320/256, port 2 lift 20");
 
     let run = machine.run_by_rules(1_000, &mut log)?;
     feed(&mut sheet, &run)?;

@@ -45,7 +45,7 @@ typedef struct {
 /* The counts of a run: steps by kind, in the kinds' order, and how many steps read and wrote each register, a register once a
    step. All are 0 where the run is refused. */
 typedef struct {
-    uint64_t kinds[25];
+    uint64_t kinds[30];
     uint64_t reads[8];
     uint64_t writes[8];
 } SisaUsage;
@@ -53,7 +53,7 @@ typedef struct {
 /* A usage sheet for a show: the counts of the accepted runs that were fed to it, modulo 2^64, and how many they were. All zero is
    the empty sheet. */
 typedef struct {
-    uint64_t kinds[25];
+    uint64_t kinds[30];
     uint64_t reads[8];
     uint64_t writes[8];
     uint16_t runs;
@@ -66,7 +66,8 @@ typedef struct {
 } SisaFed;
 
 /* What a run replies: the state (as handed, where the run is refused), the refusal, the stop reason (0 budget used,
-   1 unassigned word, 2 OUT with the log full), the steps taken, the entries written to the log, and the counts. */
+   1 unassigned word, 2 OUT with the log full, 3 DIV or DIVU by zero), the steps taken, the entries written to the log, and
+   the counts. */
 typedef struct {
     SisaState state;
     uint8_t refusal;
@@ -85,7 +86,8 @@ typedef struct {
     SisaUsage usage;
 } SisaAnswer;
 
-/* An instruction: its kind, 0 to 24 in the reference sheet's order (AND 0, .. OUT 24), and its parts; or assigned 0. Beside it
+/* An instruction: its kind, 0 to 24 in the reference sheet's order (AND 0, .. OUT 24), then 25 MUL, 26 MULH, 27 MULHU, 28 DIV,
+   29 DIVU; and its parts; or assigned 0. Beside it
    which registers it touches, bit k for Rk: those whose value it uses, and the one that it writes, if any; both are 0 where
    the word is unassigned. */
 typedef struct {
@@ -167,7 +169,7 @@ SisaFed sisa_feed(SisaSheet sheet, uint8_t run_refusal, SisaUsage usage);
 /* The instruction that a word is, and the registers that it reads and writes. */
 SisaInstruction sisa_read(uint16_t word);
 
-/* The word of an instruction. A kind over 24, a part out of range and an unused part that is not 0 are refused with 7. */
+/* The word of an instruction. A kind over 29, a part out of range and an unused part that is not 0 are refused with 7. */
 SisaWord sisa_write(uint8_t kind, uint8_t a, uint8_t b, uint8_t d, int16_t n);
 
 /* The bytes start .. start + count of the data memory (of_data not 0) or of the program (of_data 0); the empty part

@@ -6,7 +6,7 @@ use player::print;
 use sheet::Sheet;
 use usage::Usage;
 
-fn digest_of(kinds: [u64; 25], reads: [u64; 8], writes: [u64; 8]) -> u32 {
+fn digest_of(kinds: [u64; kinds::COUNT], reads: [u64; 8], writes: [u64; 8]) -> u32 {
     places(places(places(0, &kinds), &reads), &writes)
 }
 
@@ -19,19 +19,19 @@ pub fn usage_digest(usage: Usage) -> u32 {
 
 // Count k, in the digest's order, of a sheet that is nearly full. (The remainder changes nothing.)
 fn large(c: u16, k: usize) -> u64 {
-    18446744073709551615 - (number(c, 600 + (k % 41) as u16) as u64)
+    18446744073709551615 - (number(c, 600 + (k % 46) as u16) as u64)
 }
 
 fn large_counts(c: u16) -> Sheet {
-    let mut kinds = [0; 25];
-    for k in 0..25 {
+    let mut kinds = [0; kinds::COUNT];
+    for k in 0..kinds::COUNT {
         kinds[k] = large(c, k);
     }
     let mut reads = [0; 8];
     let mut writes = [0; 8];
     for j in 0..8 {
-        reads[j] = large(c, 25 + j);
-        writes[j] = large(c, 33 + j);
+        reads[j] = large(c, 30 + j);
+        writes[j] = large(c, 38 + j);
     }
     Sheet {
         kinds,

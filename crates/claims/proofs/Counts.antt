@@ -12,7 +12,7 @@ use Rattle.word.specs.Fields.{opcode, e-of, f-of}
 use Rattle.word.specs.Word.{flag}
 use Rattle.word.proofs.Tests.{clash}
 use Rattle.kinds.specs.declared.Kind.{Kind}
-use Rattle.kinds.specs.Kinds.{kindNumber}
+use Rattle.kinds.specs.Kinds.{kindNumber, kindCount}
 use Rattle.isa.specs.declared.rows.Entry.{Entry}
 use Rattle.isa.specs.declared.rows.Entry.the-variants.{Unassigned, Assigned}
 use Rattle.isa.specs.Sheet.{kindAt}
@@ -94,7 +94,7 @@ added-one c k (x ∷ xs) h l = go (eqb c k) refl (λ h. added-one c (suc k) xs h
 
 -- the counts of n steps
 pub record Counts (u : Usage) (n : ℕ) : Type 0 where
-  pub kinds : length (u .kinds) ≡ 25
+  pub kinds : length (u .kinds) ≡ kindCount
   pub sum : total (u .kinds) ≡ n
   pub reads : Within (u .reads) 8 n
   pub writes : Within (u .writes) 8 n

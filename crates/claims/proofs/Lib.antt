@@ -22,6 +22,7 @@ pub mod Marked
 pub mod Masks
 pub mod Names
 pub mod Operands
+pub mod Quotients
 pub mod Ranges
 pub mod Readings
 pub mod Refusals

@@ -13,15 +13,16 @@ use lib.Seq.{getD-set-same}
 use lib.Signed.{ltZ}
 use Rattle.word.specs.Fields.{Bits}
 use Rattle.word.specs.Word.{pick, add, clear0, signed, lowBits, SE, shifted, sha, shl, flag}
+use Rattle.muldiv.specs.Muldiv.{div}
 use Rattle.kinds.specs.declared.Kind.{Kind}
-use Rattle.kinds.specs.declared.Kind.the-variants.{Sha, Shl, Cmplt, Cmpltu, Ldb, Bz}
+use Rattle.kinds.specs.declared.Kind.the-variants.{Sha, Shl, Cmplt, Cmpltu, Ldb, Bz, Div}
 use Rattle.isa.specs.declared.Instruction.{Instruction}
 use Rattle.isa.specs.Sheet.{kindAt, sheet}
 use Rattle.isa.specs.Instructions.{readOf, writeOf}
 use Rattle.machine.specs.Machine.{Machine, count, onState, wordAt}
-use Rattle.machine.specs.Step.{PC, write, jump, Rule, addi, ld, jalr, bnz, movi, movhi, rule, choice, stepBy, step}
+use Rattle.machine.specs.Step.{PC, write, jump, Rule, addi, ld, jalr, bnz, movi, movhi, rule, choice, cannot, to, stepBy, step}
 use Rattle.claims.specs.Instructions.{Register, InRange}
-use Rattle.claims.specs.Rules.{r, SE-n, effect, afterInstruction}
+use Rattle.claims.specs.Rules.{r, SE-n, done, effect, stepAs}
 use Rattle.claims.specs.Marked.{registers, Steps, Does, Gives, Marked}
 use Rattle.claims.proofs.Instructions.{instructions}
 use Rattle.claims.proofs.Rules.{rules}
@@ -33,8 +34,8 @@ unfolding step
 by-word w s m e q l h = (_, ap (λ w. stepBy (choice w) w m) h ∙ ap (λ x. stepBy x w m) e, q l)
 
 -- a step by an instruction
-by-sheet : (i : Instruction) (m : Machine) {Q : Machine → Type 0} → (InRange i → length (m .state .r) ≡ 8 → Q (afterInstruction i m)) → Does i m Q
-by-sheet i m q w e l h = (afterInstruction i m, rules .written i w e m h, q (instructions .written i .1 (w, e)) l)
+by-sheet : (i : Instruction) (m : Machine) {next : Machine} {Q : Machine → Type 0} → stepAs i m ≡ to next → (InRange i → length (m .state .r) ≡ 8 → Q next) → Does i m Q
+by-sheet i m {next} s q w e l h = (next, rules .written i w e m h ∙ s, q (instructions .written i .1 (w, e)) l)
 
 -- what was written in a register stands there
 there : (rs : List ℕ) (k : ℕ) {v u : ℕ} → length rs ≡ 8 → k < 8 → v ≡ u → getD (set rs k v) k 0 ≡ u
@@ -49,10 +50,10 @@ few p x = go (eqb (p .count) 0)
     go false h = h
 
 -- an instruction that writes g (Ra, Rb) in Rd
-gives : (k : Kind) (g : ℕ → ℕ → ℕ) {x y v : ℕ} → effect k ≡ (λ a b d n m. write d (g (r m a) (r m b)) m) → g x y ≡ v → Gives k x y v
+gives : (k : Kind) (g : ℕ → ℕ → ℕ) {x y v : ℕ} → ((m : Machine) (d a b : ℕ) → r m b ≡ y → effect k a b d (pos 0) m ≡ done (write d (g (r m a) (r m b)) m)) → g x y ≡ v → Gives k x y v
 gives k g s e m d a b p q =
-    by-sheet (registers k d a b) m
-    (λ i l. ap (λ f. r (f a b d (pos 0) (jump (add (PC m) 2) m)) d) s ∙ there (m .state .r) d l (few (sheet k .format .d) d (i .d)) (ap₂ g p q ∙ e))
+    by-sheet (registers k d a b) m (s (jump (add (PC m) 2) m) d a b q)
+    (λ i l. there (m .state .r) d l (few (sheet k .format .d) d (i .d)) (ap₂ g p q ∙ e))
 
 pub marked : Marked
 unfolding readOf writeOf kindAt signed lowBits SE shifted choice addi ld jalr bnz movi movhi
@@ -69,9 +70,10 @@ marked =
       e = λ m p q. by-word 0x85FD bnz m refl (λ l. rw (q, p));
       f = λ m p q. by-word 0x7240 jalr m refl (λ l. (ap clear0 q, there (m .state .r) 1 l (omega arith) (ap (λ x. add x 2) p)));
       g = λ m p. by-word 0x3043 ld m refl (λ l. there (m .state .r) 1 l (omega arith) (ap (λ x. wordAt (m .D) (clear0 (add x 3))) p));
-      h = (gives Sha sha refl refl, gives Shl shl refl refl);
-      i = (gives Sha sha refl refl, gives Shl shl refl refl);
-      j = (gives Cmplt (λ x y. flag (ltZ (signed 16 x) (signed 16 y))) refl refl, gives Cmpltu (λ x y. flag (ltb x y)) refl refl);
-      k = λ m d a n p. by-sheet (record { kind = Ldb; a = a; b = 0; d = d; n = n }) m (λ i l. there (m .state .r) d l (i .d) (ap (λ x. SE-n (signed 8 x)) p));
-      l = λ m a n p q. by-sheet (record { kind = Bz; a = a; b = 0; d = 0; n = n }) m (λ i l. rw (ne-eqb _ 0 q, p));
+      h = (gives Sha sha (λ m d a b q. refl) refl, gives Shl shl (λ m d a b q. refl) refl);
+      i = (gives Sha sha (λ m d a b q. refl) refl, gives Shl shl (λ m d a b q. refl) refl);
+      j = (gives Cmplt (λ x y. flag (ltZ (signed 16 x) (signed 16 y))) (λ m d a b q. refl) refl, gives Cmpltu (λ x y. flag (ltb x y)) (λ m d a b q. refl) refl);
+      k = λ m d a n p. by-sheet (record { kind = Ldb; a = a; b = 0; d = d; n = n }) m refl (λ i l. there (m .state .r) d l (i .d) (ap (λ x. SE-n (signed 8 x)) p));
+      l = λ m a n p q. by-sheet (record { kind = Bz; a = a; b = 0; d = 0; n = n }) m refl (λ i l. rw (ne-eqb _ 0 q, p));
+      division = gives Div div (λ m d a b q. ap (λ x. pick (eqb x 0) (cannot 3) (done (write d (div (r m a) (r m b)) m))) q) refl;
     }

@@ -17,13 +17,13 @@ use Rattle.isa.specs.Instructions.{unassigned, readAs, readOf}
 use Rattle.isa.specs.Masks.{inMask, masksAs, masksOf}
 use Rattle.machine.specs.Machine.{Machine, R}
 use Rattle.machine.specs.Step.{Ra, Rb, Next, cannot, to, fetched, step}
-use Rattle.control.specs.Control.{unit, performed, assigned, controlStep, controlIn}
+use Rattle.control.specs.Control.{unit, performed, assigned, zeroDivisor, controlStep, controlIn}
 use Rattle.control.proofs.Agreement.{agreement}
 use Rattle.usage.specs.Usage.{masksAt}
 use Rattle.claims.specs.Masks.{withOutside, onNext, MaskLaws}
 use Rattle.claims.proofs.Exact.{exact}
 use Rattle.claims.proofs.Apart.{few, does-other, fetched-outside, in-mask, does-outside}
-use Rattle.claims.proofs.Touched.{is, in-one, destination, does, does-used, uses-x, uses-y, control, kind, x-in, y-in, writes-is, used}
+use Rattle.claims.proofs.Touched.{is, in-one, destination, does, does-used, uses-x, uses-y, control, kind, x-in, y-in, writes-is, used, zero-used}
 use Rattle.claims.proofs.Witnesses.{reads-needed, writes-needed}
 
 -- ---- A step by the control word of w
@@ -37,7 +37,7 @@ done w m = does (control w) (f-of w) w (Ra w m) (Rb w m) m
 
 -- the machine's step
 abbrev stepOf : ℕ → Machine → Next
-stepOf w m = pick (assigned (control w) w) (to (done w m)) (cannot 1)
+stepOf w m = pick (assigned (control w) w) (pick (zeroDivisor (control w) w (Rb w m)) (cannot 3) (to (done w m))) (cannot 1)
 
 step-is : (m : Machine) → step m ≡ stepOf (fetched m) m
 unfolding step controlStep controlIn performed unit does
@@ -53,34 +53,44 @@ module _ (w : ℕ) (m : Machine) (v : ℕ → ℕ) where
   abbrev changed : Machine
   changed = withOutside reads v m
 
+  -- where Rb is looked at, it is the same in both
+  same-y : pick (uses-y (kind w)) (Rb w changed) 0 ≡ pick (uses-y (kind w)) (Rb w m) 0
+  same-y = if-used (uses-y (kind w)) (λ t. in-mask reads v (b-of w) (y-in w t) _ m)
+
   done-outside : assigned (control w) w ≡ true → done w changed ≡ withOutside (bitOr reads (masksOf w .writes)) v (done w m)
   unfolding does-used
   done-outside e =
       used w (Ra w changed) (Rb w changed) changed
       ∙ ap₂ (λ x y. does (control w) (f-of w) w x y changed)
       (if-used (uses-x (kind w)) (λ t. in-mask reads v (a-of w) (x-in w t) _ m))
-      (if-used (uses-y (kind w)) (λ t. in-mask reads v (b-of w) (y-in w t) _ m))
+      same-y
       ∙ does-outside reads v (control w) (f-of w) w (pick (uses-x (kind w)) (Ra w m) 0) (pick (uses-y (kind w)) (Rb w m) 0) _ few-8 m
       ∙ ap₂ (λ W a. withOutside (bitOr reads W) v a) (sym (writes-is w e)) (sym (used w (Ra w m) (Rb w m) m))
 
+  same-zero : zeroDivisor (control w) w (Rb w changed) ≡ zeroDivisor (control w) w (Rb w m)
+  same-zero = zero-used w (Rb w changed) ∙ ap (zeroDivisor (control w) w) same-y ∙ sym (zero-used w (Rb w m))
+
   step-outside : stepOf w changed ≡ onNext (withOutside (bitOr reads (masksOf w .writes)) v) (stepOf w m)
-  step-outside = go (assigned (control w) w) refl
+  step-outside = rw same-zero (go (assigned (control w) w) refl (zeroDivisor (control w) w (Rb w m)))
     where
-      go : (t : Bool) → assigned (control w) w ≡ t
-          → pick t (to (done w changed)) (cannot 1) ≡ onNext (withOutside (bitOr reads (masksOf w .writes)) v) (pick t (to (done w m)) (cannot 1))
-      go true e = ap to (done-outside e)
-      go false e = refl
+      go : (t : Bool) → assigned (control w) w ≡ t → (z : Bool)
+          → pick t (pick z (cannot 3) (to (done w changed))) (cannot 1)
+          ≡ onNext (withOutside (bitOr reads (masksOf w .writes)) v) (pick t (pick z (cannot 3) (to (done w m))) (cannot 1))
+      go true e true = refl
+      go true e false = ap to (done-outside e)
+      go false e z = refl
 
 step-other : (w : ℕ) (m next : Machine) (k : ℕ) → k < 8 → stepOf w m ≡ to next → inMask (masksOf w .writes) k ≡ false → R (next .state) k ≡ R (m .state) k
-step-other w m next k h e n = go (assigned (control w) w) refl e
+step-other w m next k h e n = go (assigned (control w) w) refl (zeroDivisor (control w) w (Rb w m)) e
   where
-    go : (t : Bool) → assigned (control w) w ≡ t → pick t (to (done w m)) (cannot 1) ≡ to next → R (next .state) k ≡ R (m .state) k
-    go true a e =
+    go : (t : Bool) → assigned (control w) w ≡ t → (z : Bool) → pick t (pick z (cannot 3) (to (done w m))) (cannot 1) ≡ to next → R (next .state) k ≡ R (m .state) k
+    go true a true e = clash (cc)
+    go true a false e =
         let z : done w m ≡ next = cc in
         let o = destination (control w) w in
         let apart : is o k ≡ false = sym (in-one o k (few (control w) w) h) ∙ ap (λ W. inMask W k) (sym (writes-is w a)) ∙ n in
         subst (λ (x : Machine). R (x .state) k ≡ R (m .state) k) z (does-other (control w) (f-of w) w (Ra w m) (Rb w m) m k apart)
-    go false a e = clash (cc)
+    go false a z e = clash (cc)
 
 -- ---- The laws
 

@@ -1,18 +1,19 @@
 -- Two equations of tables of functions, by opcode, e and f, which antt computes for an unknown word and machine.
 -- Assumes nothing.
 use mathlib.Core.Path.{_≡_, refl, _∙_, ap}
-use mathlib.Core.List.{List, [], _∷_}
+use mathlib.Core.List.{List, [], _∷_, _++_}
 use Prim.Native.Nat.{ℕ}
 use native.Mathlib.Omega.{arith}
-use lib.ListN.{getD, drop}
+use lib.ListN.{getD, take, drop}
 use Rattle.word.specs.Fields.{opcode, e-of, f-of}
 use Rattle.word.specs.Word.{SE, operation, comparison}
+use Rattle.muldiv.specs.Muldiv.{muldiv}
 use Rattle.isa.specs.Sheet.{kindAt}
 use Rattle.isa.specs.Instructions.{Read, instruction, unassigned, readAs, readOf}
 use Rattle.machine.specs.Machine.{Machine}
-use Rattle.machine.specs.Step.{Ra, Rb, d5-3, write, Rule, compute, compare, addi, ld, st, ldb, stb, jalr, bz, bnz, movi, movhi, input, output, Row, by-f, none, rows, inRow, choice, Next, cannot, to, stepBy, fetched, step}
+use Rattle.machine.specs.Step.{Ra, Rb, d5-3, write, Rule, compute, compare, addi, ld, st, ldb, stb, jalr, bz, bnz, movi, movhi, input, output, multiply, Row, by-f, by-f-dividing, none, rows, inRow, choice, Next, cannot, stepBy, fetched, step}
 use Rattle.usage.proofs.Functions.{table, at}
-use Rattle.claims.specs.Rules.{afterInstruction, Rules}
+use Rattle.claims.specs.Rules.{stepAs, Rules}
 use Rattle.claims.proofs.Written.{written-then-read}
 
 -- ---- Tables
@@ -26,12 +27,14 @@ at-word g h t w = at 8 _ _ (at 2 _ _ (at 16 _ _ t (opcode w) (omega arith)) (e-o
 
 -- ---- The equations
 
--- the rows, but with F for the word's f in the rules of opcodes 0 and 1, which look at it
+-- the rows, but with F for the word's f in the rules of opcodes 0, 1 and 11, which look at it
 with-f : (ℕ → ℕ → ℕ → ℕ) → (ℕ → ℕ) → Rule
 with-f g F w m = write (d5-3 w) (g (F w) (Ra w m) (Rb w m)) m
 
 rows-with : (ℕ → ℕ) → List Row
-rows-with F = by-f (0 ∷ 1 ∷ 2 ∷ 3 ∷ 4 ∷ 5 ∷ 6 ∷ 7 ∷ []) (with-f operation F) ∷ by-f (0 ∷ 1 ∷ 3 ∷ 4 ∷ 5 ∷ []) (with-f comparison F) ∷ drop 2 rows
+rows-with F =
+    by-f (0 ∷ 1 ∷ 2 ∷ 3 ∷ 4 ∷ 5 ∷ 6 ∷ 7 ∷ []) (with-f operation F) ∷ by-f (0 ∷ 1 ∷ 3 ∷ 4 ∷ 5 ∷ []) (with-f comparison F)
+    ∷ (take 9 (drop 2 rows) ++ (by-f-dividing (0 ∷ 1 ∷ 2 ∷ 4 ∷ 5 ∷ []) (4 ∷ 5 ∷ []) (with-f muldiv F) ∷ drop 12 rows))
 
 by-rows : ℕ → ℕ → ℕ → (ℕ → ℕ) → ℕ → Machine → Next
 by-rows op e f F w m = stepBy (inRow (getD (rows-with F) op none) e f) w m
@@ -43,19 +46,19 @@ only-there = refl
 
 -- the step of what was read
 of-read : Read → Machine → Next
-of-read (instruction i) m = to (afterInstruction i m)
+of-read (instruction i) m = stepAs i m
 of-read unassigned m = cannot 1
 
 by-sheet : ℕ → ℕ → ℕ → ℕ → Machine → Next
 by-sheet op e f w m = of-read (readAs (kindAt op e f) w) m
 
 same : table-of (λ op e f. by-rows op e f (λ v. f)) ≡ table-of by-sheet
-unfolding table with-f rows-with by-rows of-read by-sheet kindAt addi ld st ldb stb jalr bz bnz movi movhi input output SE operation comparison
+unfolding table with-f rows-with by-rows of-read by-sheet kindAt addi ld st ldb stb jalr bz bnz movi movhi input output SE operation comparison muldiv
 same = refl
 
 -- with the word's own f, the rows are the machine's
 stepped : (m : Machine) (w : ℕ) → fetched m ≡ w → step m ≡ of-read (readOf w) m
-unfolding step choice with-f rows-with by-rows compute compare by-sheet readOf
+unfolding step choice with-f rows-with by-rows compute compare multiply by-sheet readOf
 stepped m w h = ap (λ w. stepBy (choice w) w m) h ∙ ap (λ g. g f-of w m) (at-word _ _ only-there w) ∙ ap (λ g. g w m) (at-word _ _ same w)
 
 pub rules : Rules

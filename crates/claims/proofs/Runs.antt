@@ -3,6 +3,7 @@
 use mathlib.Core.Path.{_≡_, refl, sym, _∙_, ap, subst}
 use mathlib.Core.Bool.{Bool, true, false}
 use mathlib.Core.List.{_++_}
+use mathlib.Core.Logic.{_⊎_, ⊎-elim}
 use Prim.Native.Nat.{ℕ, zero, suc, _+_, _-_, _<_}
 use native.Mathlib.Omega.{arith}
 use lib.ListN.{length, drop}
@@ -13,9 +14,9 @@ use Rattle.machine.specs.Step.{Next, cannot, to}
 use Rattle.machine.specs.Run.{Stepper, byRules, Outcome, noPlace, runFrom}
 use Rattle.machine.proofs.Runs.{Lawful, run-none, run-cannot, run-full, run-on}
 use Rattle.control.specs.Control.{byControl}
-use Rattle.control.proofs.Laws.{lawful-control, lawful-rules, cannot-1, cannot-1-control}
+use Rattle.control.proofs.Laws.{lawful-control, lawful-rules, cannot-rules, cannot-control}
 use Rattle.run.specs.Runs.{Given, left, stopped, machineAt, leftOf, leftBy, runLeft, verdictOn}
-use Rattle.claims.specs.Runs.{Takes, none, more, First, budget-used, cannot-step, no-place, Reported, Runs}
+use Rattle.claims.specs.Runs.{Takes, none, more, First, budget-used, word-unassigned, zero-divisor, no-place, Reported, Runs}
 
 -- the number of steps, said in another way
 said : {v : Stepper} {budget full i j q : ℕ} {m : Machine} → i ≡ j → First v budget full i m q → First v budget full j m q
@@ -24,7 +25,7 @@ said {v} {budget} {full} {q = q} {m = m} e = subst (λ i. First v budget full i 
 -- what v is known for
 record Known (v : Stepper) : Type 0 where
   lawful : Lawful v
-  only-1 : (m : Machine) (q : ℕ) → v .steps m ≡ cannot q → q ≡ 1
+  reasons : (m : Machine) (q : ℕ) → v .steps m ≡ cannot q → (q ≡ 1) ⊎ (q ≡ 3)
 
 module _ (v : Stepper) (known : Known v) (budget full : ℕ) where
   -- a run from m, j steps after its start, that ends with z
@@ -49,7 +50,8 @@ module _ (v : Stepper) (known : Known v) (budget full : ℕ) where
   -- or it takes one and goes on
   none-here : (j : ℕ) (m next : Machine) → j < budget → v .steps m ≡ to next → noPlace v full m ≡ false → (p : ℕ) → First v budget full j m p → ⊥
   none-here j m next h s f p (budget-used e) = omega arith
-  none-here j m next h s f p (cannot-step n e) = clash (cc)
+  none-here j m next h s f p (word-unassigned n e) = clash (cc)
+  none-here j m next h s f p (zero-divisor n e) = clash (cc)
   none-here j m next h s f p (no-place n e t) = never (sym f ∙ t)
 
   later : (j : ℕ) (m next : Machine) (z : Outcome) → j < budget → v .steps m ≡ to next → noPlace v full m ≡ false → Ends (suc j) next z → Ends j m z
@@ -74,8 +76,11 @@ module _ (v : Stepper) (known : Known v) (budget full : ℕ) where
     where
       turn : ((next : Machine) → budget ≡ suc j + rest → Ends (suc j) next (runFrom v rest full next)) → (x : Next) → v .steps m ≡ x → (t : Bool) → noPlace v full m ≡ t → Ends j m (runFrom v (suc rest) full m)
       turn go (cannot q) s t f =
-          let one = known .only-1 m q s in
-          subst (Ends j m) (sym (run-cannot v rest full m q s)) (rw one (here j 1 m (cannot-step (λ e. omega arith) (s ∙ ap cannot one))))
+          subst (Ends j m) (sym (run-cannot v rest full m q s)) (here j q m
+          (⊎-elim
+          (λ e. subst (First v budget full j m) (sym e) (word-unassigned (λ u. omega arith) (s ∙ ap cannot e)))
+          (λ e. subst (First v budget full j m) (sym e) (zero-divisor (λ u. omega arith) (s ∙ ap cannot e)))
+          (known .reasons m q s)))
       turn go (to next) s true f = subst (Ends j m) (sym (run-full v rest full m next s f)) (here j 2 m (no-place (λ e. omega arith) s f))
       turn go (to next) s false f =
           subst (Ends j m) (sym (run-on v rest full m next s f)) (later j m next (runFrom v rest full next) (omega arith) s f (go next (omega arith)))
@@ -114,6 +119,6 @@ module _ (v : Stepper) (known : Known v) (g : Given) where
 pub runs : Runs
 runs =
     record {
-      by-rules = reported byRules (record { lawful = lawful-rules; only-1 = cannot-1 });
-      by-control = λ words. reported (byControl words) (record { lawful = lawful-control words; only-1 = cannot-1-control words });
+      by-rules = reported byRules (record { lawful = lawful-rules; reasons = cannot-rules });
+      by-control = λ words. reported (byControl words) (record { lawful = lawful-control words; reasons = cannot-control words });
     }

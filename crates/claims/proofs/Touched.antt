@@ -1,4 +1,4 @@
--- Which registers the step of a control word writes and looks at: two equations of tables, by opcode, e and f, which antt computes for an
+-- Which registers the step of a control word writes and looks at: three equations of tables, by opcode, e and f, which antt computes for an
 -- unknown word, Ra, Rb and machine.
 -- Assumes nothing.
 use mathlib.Core.Path.{_≡_, refl, ap, _∙_}
@@ -13,6 +13,7 @@ use lib.Dec.{T, eqb}
 use lib.ListN.{getD}
 use Rattle.word.specs.Fields.{bits, field, opcode, a-of, b-of, e-of, f-of}
 use Rattle.word.specs.Word.{pick, operation, comparison}
+use Rattle.muldiv.specs.Muldiv.{muldiv}
 use Rattle.word.proofs.Computed.{all, all-at}
 use Rattle.word.proofs.Tests.{never, same-test}
 use Rattle.isa.specs.declared.rows.Entry.{Entry}
@@ -22,7 +23,7 @@ use Rattle.isa.specs.Masks.{Masks, inMask, masksAs, masksOf}
 use Rattle.machine.specs.declared.State.{State}
 use Rattle.machine.specs.Machine.{Machine, putPC, count, onState}
 use Rattle.machine.specs.Step.{PC, d5-3, d8-6, d11-9}
-use Rattle.control.specs.Control.{second, units, unitField, result, next, storedData, stored, written, takes, assigned, table as controls}
+use Rattle.control.specs.Control.{second, units, unitField, result, next, storedData, stored, written, takes, assigned, divides, zeroDivisor, table as controls}
 use Rattle.statement.specs.Syntax.{Register, a-register, b-register, d-register}
 use Rattle.claims.specs.Masks.{saidToUse}
 use Rattle.usage.proofs.Functions.{table}
@@ -62,7 +63,7 @@ in-or A B k =
     rw (one, or-shr A B k, or-mod (A / 2 ^ k) (B / 2 ^ k) 1)
     (both-at 2 2 (λ x y. eqb (bitOr x y) 1) (λ x y. eqb x 1 || eqb y 1) tt (A / 2 ^ k % 2) (B / 2 ^ k % 2) (omega arith) (omega arith))
 
--- ---- Two tables: what a control word writes, and what it looks at
+-- ---- The tables: what a control word writes, and what it looks at
 
 -- the control word of an opcode and e
 abbrev pub controlAt : ℕ → ℕ → ℕ
@@ -123,8 +124,16 @@ unfoldable pub does-used : Entry → ℕ → ℕ → ℕ → ℕ → ℕ → Mac
 does-used k c f w x y m = does c f w (pick (uses-x k) x 0) (pick (uses-y k) y 0) m
 
 same-uses : table-of (λ op e f. does (controlAt op e) f) ≡ table-of (λ op e f. does-used (kindAt op e f) (controlAt op e) f)
-unfolding table does does-used kindAt second result next storedData stored written operation comparison
+unfolding table does does-used kindAt second result next storedData stored written operation comparison muldiv
 same-uses = refl
+
+-- whether the divisor is zero, of Rb; and the same, of 0 for it where it is not used
+zero-at : ℕ → ℕ → ℕ → ℕ → Bool
+zero-at c f w y = divides (unitField c) f && eqb (second c w y) 0
+
+same-zeros : table-of (λ op e f. zero-at (controlAt op e) f) ≡ table-of (λ op e f w y. zero-at (controlAt op e) f w (pick (uses-y (kindAt op e f)) y 0))
+unfolding table zero-at kindAt second
+same-zeros = refl
 
 -- ---- What the tables say of a word
 
@@ -173,3 +182,7 @@ module _ (w : ℕ) where
 
   pub used : (x y : ℕ) (m : Machine) → does control (f-of w) w x y m ≡ does-used kind control (f-of w) w x y m
   used x y m = ap (λ g. g w x y m) (at-word _ _ same-uses w)
+
+  pub zero-used : (y : ℕ) → zeroDivisor control w y ≡ zeroDivisor control w (pick (uses-y kind) y 0)
+  unfolding zeroDivisor zero-at
+  zero-used y = ap (λ g. g w y) (at-word _ _ same-zeros w)

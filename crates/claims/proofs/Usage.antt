@@ -8,6 +8,7 @@ use native.Mathlib.Nat.{zero-add}
 use native.Mathlib.Omega.{arith}
 use borrow.Author.Tests.{le-ltb}
 use lib.ListN.{length, getD, replicate}
+use Rattle.kinds.specs.Kinds.{kindCount}
 use Rattle.refusal.specs.Refusals.{Verdict, accepted, refused}
 use Rattle.word.specs.Word.{flag}
 use Rattle.word.proofs.Tests.{never}
@@ -85,7 +86,7 @@ zeros-plus (suc n) (x ∷ xs) e = λ i. zero-add x i ∷ zeros-plus n xs (omega 
 none-joins : (v : Usage) (l n : ℕ) → Counts v l → sheetOf (plusUsage unused v) (0 + n) ≡ sheetOf v n
 none-joins v l n b =
     λ i. record {
-      kinds = zeros-plus 25 (v .kinds) (b .kinds) i;
+      kinds = zeros-plus kindCount (v .kinds) (b .kinds) i;
       reads = zeros-plus 8 (v .reads) (b .reads .long) i;
       writes = zeros-plus 8 (v .writes) (b .writes .long) i;
       runs = zero-add n i;

@@ -1,7 +1,7 @@
 -- No mask is larger than it need be: for each kind an instruction, and machines that differ in one register, by one test over the kinds.
 -- Assumes nothing.
 use mathlib.Core.Path.{_≡_, refl, ap, subst, _∙_}
-use mathlib.Core.Bool.{Bool, true, not}
+use mathlib.Core.Bool.{Bool, true, false, not}
 use mathlib.Core.List.{List, [], _∷_}
 use Prim.Native.Nat.{ℕ, _+_, _*_, _/_, _%_}
 use borrow.Author.Tests.{eq-eqb}
@@ -10,7 +10,7 @@ use lib.IntN.{pos, natAbs}
 use lib.ListN.{length, getD, set, replicate, length-set, length-replicate}
 use Rattle.word.specs.Fields.{Bits}
 use Rattle.word.specs.Word.{pick, signed, lowBits, shifted}
-use Rattle.word.proofs.Computed.{all}
+use Rattle.word.proofs.Computed.{both, both-split, all}
 use Rattle.kinds.specs.declared.Kind.{Kind}
 use Rattle.kinds.specs.declared.Kind.the-variants.{And}
 use Rattle.kinds.specs.Kinds.{kinds}
@@ -20,10 +20,10 @@ use Rattle.isa.specs.Instructions.{wordOf, word, writeOf}
 use Rattle.isa.specs.Masks.{inMask, masksOf}
 use Rattle.isa.proofs.Every.{every}
 use Rattle.machine.specs.Machine.{Machine, R, wordAt}
-use Rattle.machine.specs.Step.{PC, write, fetched}
+use Rattle.machine.specs.Step.{PC, write, Next, cannot, to, fetched}
 use Rattle.statement.specs.Syntax.{Register, a-register, b-register, d-register}
 use Rattle.listing.specs.Listing.{partOf}
-use Rattle.claims.specs.Rules.{afterInstruction}
+use Rattle.claims.specs.Rules.{stepAs}
 use Rattle.usage.specs.Usage.{masksAt}
 use Rattle.claims.specs.Masks.{Does, Uses, Writes, has, saidToUse}
 use Rattle.claims.proofs.Computed.{is-word, word-is}
@@ -62,15 +62,31 @@ machine k rs =
       L = [];
     }
 
+next-of : Kind → List ℕ → Next
+next-of k rs = stepAs (example k) (machine k rs)
+
+-- it steps, and what it steps to
+abbrev steps : Next → Bool
+steps (to next) = true
+steps (cannot q) = false
+
+abbrev reached : Machine → Next → Machine
+reached m (to next) = next
+reached m (cannot q) = m
+
+reached-is : (m : Machine) (x : Next) → T (steps x) → x ≡ to (reached m x)
+reached-is m (to next) t = refl
+reached-is m (cannot q) t = absurd t
+
 after : Kind → List ℕ → Machine
-after k rs = afterInstruction (example k) (machine k rs)
+after k rs = reached (machine k rs) (next-of k rs)
 
--- v in Rj, and 1 in the others
-abbrev registers : ℕ → ℕ → List ℕ
-registers j v = set (1 ∷ 1 ∷ 1 ∷ 1 ∷ 1 ∷ 1 ∷ 1 ∷ 1 ∷ []) j v
+-- v in Rj, and o in the others
+abbrev registers : ℕ → ℕ → ℕ → List ℕ
+registers o j v = set (replicate 8 o) j v
 
-registers-length : (j v : ℕ) → length (registers j v) ≡ 8
-registers-length j v = simp length-set
+registers-length : (o j v : ℕ) → length (registers o j v) ≡ 8
+registers-length o j v = simp (length-set, length-replicate)
 
 -- ---- The tests
 
@@ -78,40 +94,50 @@ registers-length j v = simp length-set
 seen : Machine → ℕ
 seen m = PC m + 65536 * (R (m .state) 3 + 65536 * (getD (m .O) 1 0 + 65536 * wordAt (m .D) 2))
 
+-- what the register holds at first and then, and what the others hold; one of three trials shows that it is used
+record Trial : Type 0 where
+  others : ℕ
+  first : ℕ
+  then : ℕ
+
+abbrev trial : ℕ → ℕ → ℕ → Trial
+trial o v x = record { others = o; first = v; then = x }
+
 module _ (k : Kind) (p : Register) where
   abbrev its-register : ℕ
   its-register = partOf (example k) p
 
-  -- it holds 0 at first, and then x
-  abbrev with-0 : List ℕ
-  with-0 = registers its-register 0
+  abbrev at-first : Trial → List ℕ
+  at-first t = registers (t .others) its-register (t .first)
 
-  abbrev with-x : ℕ → List ℕ
-  with-x x = set with-0 its-register x
+  abbrev and-then : Trial → List ℕ
+  and-then t = set (at-first t) its-register (t .then)
 
-  -- what the machine with x would step to, if the register were not used
-  abbrev unused : ℕ → Machine
-  unused x = pick (inMask (masksAt (machine k with-0) .writes) its-register) (after k with-0) (write its-register x (after k with-0))
+  -- what the machine would step to then, if the register were not used
+  abbrev unused : Trial → Machine
+  unused t = pick (inMask (masksAt (machine k (at-first t)) .writes) its-register) (after k (at-first t)) (write its-register (t .then) (after k (at-first t)))
 
-  differs : ℕ → Bool
-  differs x = not (eqb (seen (after k (with-x x))) (seen (unused x)))
+  differs : Trial → Bool
+  differs t = not (eqb (seen (after k (and-then t))) (seen (unused t)))
 
-  -- 1 shows that it is used, or 3 does
-  x-of : ℕ
-  x-of = pick (differs 1) 1 3
+  shows : Trial → Bool
+  shows t = both (steps (next-of k (at-first t))) (both (steps (next-of k (and-then t))) (differs t))
+
+  trial-of : Trial
+  trial-of = pick (shows (trial 1 0 1)) (trial 1 0 1) (pick (shows (trial 1 0 3)) (trial 1 0 3) (trial 0x4000 1 0x4000))
 
   needed : Bool
-  needed = pick (saidToUse k p) (differs x-of) true
+  needed = pick (saidToUse k p) (shows trial-of) true
 
 -- a step changes the 7 in Rd
 abbrev with-7 : Kind → List ℕ
-with-7 k = registers (example k .d) 7
+with-7 k = registers 1 (example k .d) 7
 
 changes : Kind → Bool
-changes k = not (eqb (R (after k (with-7 k) .state) (example k .d)) (R (machine k (with-7 k) .state) (example k .d)))
+changes k = both (steps (next-of k (with-7 k))) (not (eqb (R (after k (with-7 k) .state) (example k .d)) (R (machine k (with-7 k) .state) (example k .d))))
 
 uses-shown : (k : Kind) (p : Register) → T (needed k p)
-unfolding all needed x-of differs seen after machine example fetched masksOf kindAt signed lowBits shifted
+unfolding all needed trial-of shows differs seen after next-of machine example fetched masksOf kindAt signed lowBits shifted
 uses-shown k p = every (λ k. needed k p) (at-each p) k
   where
     at-each : (p : Register) → T (all (length kinds) (λ n. needed (getD kinds n And) p))
@@ -120,7 +146,7 @@ uses-shown k p = every (λ k. needed k p) (at-each p) k
     at-each d-register = tt
 
 writes-shown : (k : Kind) → T (pick (has (sheet k .format .d)) (changes k) true)
-unfolding all changes after machine example signed lowBits shifted
+unfolding all changes after next-of machine example signed lowBits shifted
 writes-shown = every (λ k. pick (has (sheet k .format .d)) (changes k) true) tt
 
 word-shown : (k : Kind) → T (is-word (writeOf (example k)) (fetched (machine k [])))
@@ -132,44 +158,50 @@ word-shown = every (λ k. is-word (writeOf (example k)) (fetched (machine k []))
 apart : (a b : ℕ) → T (not (eqb a b)) → a ≡ b → ⊥
 apart a b t e = T-not (eqb a b) t (rw (eq-eqb a b e) tt)
 
-does : (k : Kind) (rs : List ℕ) → length rs ≡ 8 → Does (example k) (machine k rs) (after k rs)
-unfolding machine after fetched
-does k rs l =
+does : (k : Kind) (rs : List ℕ) → length rs ≡ 8 → T (steps (next-of k rs)) → Does (example k) (machine k rs) (after k rs)
+unfolding machine next-of after fetched
+does k rs l t =
     let e : writeOf (example k) ≡ word (fetched (machine k rs)) = word-is _ _ (word-shown k) in
     record {
       sized = record { registers = l; P = rw zeros-length; D = rw zeros-length; I = rw zeros-length; O = rw zeros-length };
       its-word = e;
-      steps = rules .written (example k) _ e (machine k rs) refl;
+      steps = rules .written (example k) _ e (machine k rs) refl ∙ reached-is (machine k rs) _ t;
     }
 
 pub reads-needed : (k : Kind) (p : Register) → saidToUse k p ≡ true → (i : Instruction) × (i .kind ≡ k) × Uses i (partOf i p)
-unfolding machine after example differs needed
+unfolding machine after example differs shows needed
 reads-needed k p e =
     let j = its-register k p in
-    let x = x-of k p in
-    let l = registers-length j 0 in (
+    let t = trial-of k p in
+    let l = registers-length (t .others) j (t .first) in
+    let s = both-split (steps (next-of k (at-first k p t))) (both (steps (next-of k (and-then k p t))) (differs k p t)) (subst (λ b. T (pick b (shows k p t) true)) e (uses-shown k p)) in
+    let u = both-split (steps (next-of k (and-then k p t))) (differs k p t) (s .1) in (
       example k,
       refl,
       record {
-        m = machine k (with-0 k p);
-        x = x;
-        next = after k (with-0 k p);
-        other = after k (with-x k p x);
-        does = does k (with-0 k p) l;
-        other-does = does k (with-x k p x) (length-set (with-0 k p) j x ∙ l);
-        differ = λ z. apart _ _ (subst (λ t. T (pick t (differs k p x) true)) e (uses-shown k p)) (ap seen z);
+        m = machine k (at-first k p t);
+        x = t .then;
+        next = after k (at-first k p t);
+        other = after k (and-then k p t);
+        does = does k (at-first k p t) l (s .0);
+        other-does = does k (and-then k p t) (length-set (at-first k p t) j (t .then) ∙ l) (u .0);
+        differ = λ z. apart _ _ (u .1) (ap seen z);
       },
     )
 
 pub writes-needed : (k : Kind) → has (sheet k .format .d) ≡ true → (i : Instruction) × (i .kind ≡ k) × Writes i (i .d)
 unfolding machine after example changes
-writes-needed k e = (
-  example k,
-  refl,
-  record {
-    m = machine k (with-7 k);
-    next = after k (with-7 k);
-    does = does k (with-7 k) (registers-length (example k .d) 7);
-    differ = apart _ _ (subst (λ t. T (pick t (changes k) true)) e (writes-shown k));
-  },
-)
+writes-needed k e =
+    let d = example k .d in
+    let s =
+    both-split (steps (next-of k (with-7 k))) (not (eqb (R (after k (with-7 k) .state) d) (R (machine k (with-7 k) .state) d)))
+    (subst (λ t. T (pick t (changes k) true)) e (writes-shown k)) in (
+      example k,
+      refl,
+      record {
+        m = machine k (with-7 k);
+        next = after k (with-7 k);
+        does = does k (with-7 k) (registers-length 1 (example k .d) 7) (s .0);
+        differ = apart _ _ (s .1);
+      },
+    )

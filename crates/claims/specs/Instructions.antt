@@ -1,4 +1,4 @@
--- Demand 2, reading and writing: every 16-bit word reads as one of the 25 instructions or as unassigned, and each
+-- Demand 2, reading and writing: every 16-bit word reads as one of the 30 instructions or as unassigned, and each
 -- instruction is written as the sheet's word and reads back as itself.
 use mathlib.Core.Path.{_≡_}
 use mathlib.Core.Logic.{_⊎_, _↔_}
@@ -13,9 +13,12 @@ use Rattle.isa.specs.declared.Instruction.{Instruction}
 use Rattle.isa.specs.Sheet.{Number, signed-n, unsigned-n, Line, sheet}
 use Rattle.isa.specs.Instructions.{Read, instruction, unassigned, readOf, Written, word, refused, placed, writeOf}
 
--- the unassigned words: opcode 1 with f = 2, 6 or 7, and opcodes 11 to 15
+-- the unassigned words: opcode 1 with f = 2, 6 or 7, opcode 11 with f = 3, 6 or 7, and opcodes 12 to 15
 abbrev pub Unassigned : ℕ → Type 0
-Unassigned w = ((opcode w ≡ 1) × ((f-of w ≡ 2) ⊎ (f-of w ≡ 6) ⊎ (f-of w ≡ 7))) ⊎ (11 ≤ opcode w)
+Unassigned w =
+    ((opcode w ≡ 1) × ((f-of w ≡ 2) ⊎ (f-of w ≡ 6) ⊎ (f-of w ≡ 7)))
+    ⊎ ((opcode w ≡ 11) × ((f-of w ≡ 3) ⊎ (f-of w ≡ 6) ⊎ (f-of w ≡ 7)))
+    ⊎ (12 ≤ opcode w)
 
 -- a register is 0 to 7; an unused one is 0
 abbrev pub Register : Bits → ℕ → Type 0
@@ -40,7 +43,7 @@ cleared k w = w - placed (sheet k .format .ignored) (field (sheet k .format .ign
 pub record Instructions : Type 0 where
   -- Every 16-bit word reads as unassigned, just where it is,
   pub unassigned-words : (w : ℕ) → w < 65536 → (readOf w ≡ unassigned) ↔ Unassigned w
-  -- or as one of the 25 instructions, its parts in their ranges.
+  -- or as one of the 30 instructions, its parts in their ranges.
   pub assigned-words : (w : ℕ) → w < 65536 → (Unassigned w → ⊥) → (i : Instruction) × (readOf w ≡ instruction i) × InRange i
   -- Writing what was read returns the word with the ignored bits cleared.
   pub read-then-written : (w : ℕ) → w < 65536 → (i : Instruction) → readOf w ≡ instruction i → writeOf i ≡ word (cleared (i .kind) w)

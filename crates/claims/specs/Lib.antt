@@ -7,6 +7,7 @@ pub mod HostSteps
 pub mod Instructions
 pub mod Marked
 pub mod Masks
+pub mod Quotients
 pub mod Refusals
 pub mod Rules
 pub mod Runs

@@ -1,10 +1,10 @@
--- The marked cases of 01. What a row does not mention, other registers, memory, ports, is any.
+-- The marked cases of 01, and the one that 02 (L6) marks. What a row does not mention, other registers, memory, ports, is any.
 use mathlib.Core.Path.{_≡_}
 use Prim.Native.Nat.{ℕ}
 use lib.IntN.{ℤ, pos}
 use lib.ListN.{length, getD}
 use Rattle.kinds.specs.declared.Kind.{Kind}
-use Rattle.kinds.specs.declared.Kind.the-variants.{Sha, Shl, Cmplt, Cmpltu, Cmpleu, Ldb, Bz}
+use Rattle.kinds.specs.declared.Kind.the-variants.{Sha, Shl, Cmplt, Cmpltu, Cmpleu, Ldb, Bz, Div}
 use Rattle.isa.specs.declared.Instruction.{Instruction}
 use Rattle.isa.specs.Instructions.{instruction, readOf, word, writeOf}
 use Rattle.machine.specs.Machine.{Machine, wordAt}
@@ -60,3 +60,5 @@ pub record Marked : Type 0 where
   pub l :
       (m : Machine) (a : ℕ) (n : ℤ) → PC m ≡ 0xFFFE → (r m a ≡ 0 → ⊥)
       → Does (record { kind = Bz; a = a; b = 0; d = 0; n = n }) m (λ next. PC next ≡ 0)
+  -- 02, L6: 0x8000 by 0xFFFF is 0x8000.
+  pub division : Gives Div 0x8000 0xFFFF 0x8000

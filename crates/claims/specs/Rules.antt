@@ -1,4 +1,4 @@
--- Demand 2: every instruction does to registers, PC, memory and ports what the sheet says. Here each of the 25 kinds has
+-- Demand 2: every instruction does to registers, PC, memory and ports what the sheet says. Here each of the 30 kinds has
 -- its own line, over the instruction's parts, in the sheet's pseudo-C; the plain machine goes by opcode, e and f.
 use mathlib.Core.Path.{_≡_}
 use Prim.Native.Nat.{ℕ, _+_, _-_, _*_, _%_}
@@ -8,8 +8,9 @@ use lib.IntN.{ℤ, natAbs}
 use lib.ListN.{getD}
 use lib.Signed.{ltZ, leZ}
 use Rattle.word.specs.Word.{pick, flag, add, subtract, clear0, signed, lowBits, sha, shl}
+use Rattle.muldiv.specs.Muldiv.{mul, mulh, mulhu, div, divu}
 use Rattle.kinds.specs.declared.Kind.{Kind}
-use Rattle.kinds.specs.declared.Kind.the-variants.{And, Or, Xor, Not, Add, Sub, Sha, Shl, Cmplt, Cmple, Cmpeq, Cmpltu, Cmpleu, Addi, Ld, St, Ldb, Stb, Jalr, Bz, Bnz, Movi, Movhi, In, Out}
+use Rattle.kinds.specs.declared.Kind.the-variants.{And, Or, Xor, Not, Add, Sub, Sha, Shl, Cmplt, Cmple, Cmpeq, Cmpltu, Cmpleu, Addi, Ld, St, Ldb, Stb, Jalr, Bz, Bnz, Movi, Movhi, In, Out, Mul, Mulh, Mulhu, Div, Divu}
 use Rattle.isa.specs.declared.Instruction.{Instruction}
 use Rattle.isa.specs.Instructions.{instruction, unassigned, readOf, word, writeOf}
 use Rattle.machine.specs.Machine.{Machine, R, count, onState, putD, putO, wordAt, putWord, putByte}
@@ -27,67 +28,82 @@ SE-n n = lowBits 16 n
 abbrev pub address : Machine → ℕ → ℤ → ℕ
 address m a n = add (r m a) (SE-n n)
 
--- What a kind does with its parts, PC=PC+2 being done. MOVHI, IN and OUT have n from 0 to 255: natAbs n is that number.
-abbrev pub effect : Kind → ℕ → ℕ → ℕ → ℤ → Machine → Machine
--- AND Rd, Ra, Rb      Rd=Ra&Rb
-effect And a b d n m = write d (bitAnd (r m a) (r m b)) m
--- OR Rd, Ra, Rb       Rd=Ra|Rb
-effect Or a b d n m = write d (bitOr (r m a) (r m b)) m
--- XOR Rd, Ra, Rb      Rd=Ra^Rb
-effect Xor a b d n m = write d (bitXor (r m a) (r m b)) m
--- NOT Rd, Ra          Rd=~Ra
-effect Not a b d n m = write d (65535 - r m a) m
--- ADD Rd, Ra, Rb      Rd=Ra+Rb
-effect Add a b d n m = write d (add (r m a) (r m b)) m
--- SUB Rd, Ra, Rb      Rd=Ra-Rb
-effect Sub a b d n m = write d (subtract (r m a) (r m b)) m
--- SHA Rd, Ra, Rb      Rd=Ra_s*2**Rb<4..0>_s
-effect Sha a b d n m = write d (sha (r m a) (r m b)) m
--- SHL Rd, Ra, Rb      Rd=Ra_u*2**Rb<4..0>_s
-effect Shl a b d n m = write d (shl (r m a) (r m b)) m
--- CMPLT Rd, Ra, Rb    if(Ra_s<Rb_s)Rd=1 else Rd=0
-effect Cmplt a b d n m = write d (flag (ltZ (signed 16 (r m a)) (signed 16 (r m b)))) m
--- CMPLE Rd, Ra, Rb    if(Ra_s<=Rb_s)Rd=1 else Rd=0
-effect Cmple a b d n m = write d (flag (leZ (signed 16 (r m a)) (signed 16 (r m b)))) m
--- CMPEQ Rd, Ra, Rb    if(Ra==Rb)Rd=1 else Rd=0
-effect Cmpeq a b d n m = write d (flag (eqb (r m a) (r m b))) m
--- CMPLTU Rd, Ra, Rb   if(Ra_u<Rb_u)Rd=1 else Rd=0
-effect Cmpltu a b d n m = write d (flag (ltb (r m a) (r m b))) m
--- CMPLEU Rd, Ra, Rb   if(Ra_u<=Rb_u)Rd=1 else Rd=0
-effect Cmpleu a b d n m = write d (flag (leb (r m a) (r m b))) m
--- ADDI Rd, Ra, N6     Rd=Ra+SE(N6)
-effect Addi a b d n m = write d (add (r m a) (SE-n n)) m
--- LD Rd, N6(Ra)       Rd=Mem_w[(Ra+SE(N6))&(~1)]
-effect Ld a b d n m = write d (wordAt (m .D) (clear0 (address m a n))) m
--- ST N6(Ra), Rb       Mem_w[(Ra+SE(N6))&(~1)]=Rb
-effect St a b d n m = putD (putWord (clear0 (address m a n)) (r m b) (m .D)) m
--- LDB Rd, N6(Ra)      Rd=SE(Mem_b[Ra+SE(N6)])
-effect Ldb a b d n m = write d (SE-n (signed 8 (getD (m .D) (address m a n) 0))) m
--- STB N6(Ra), Rb      Mem_b[Ra+SE(N6)]=Rb<7..0>
-effect Stb a b d n m = putD (putByte (address m a n) (r m b) (m .D)) m
--- JALR Rd, Ra         PC=PC+2; tmp=Ra&(~1); Rd=PC; PC=tmp
-effect Jalr a b d n m = let tmp = clear0 (r m a) in jump tmp (write d (PC m) m)
--- BZ Ra, N8           PC=PC+2; if(Ra==0)PC=PC+SE(N8)*2
-effect Bz a b d n m = pick (eqb (r m a) 0) (jump (add (PC m) (SE-n n * 2)) m) m
--- BNZ Ra, N8          PC=PC+2; if(Ra!=0)PC=PC+SE(N8)*2
-effect Bnz a b d n m = pick (eqb (r m a) 0) m (jump (add (PC m) (SE-n n * 2)) m)
--- MOVI Rd, N8         Rd=SE(N8)
-effect Movi a b d n m = write d (SE-n n) m
--- MOVHI Rd, N8        Rd<15..8>=N8
-effect Movhi a b d n m = write d (r m d % 256 + natAbs n * 256) m
--- IN Rd, N8           Rd=Input[N8]
-effect In a b d n m = write d (getD (m .I) (natAbs n) 0) m
--- OUT N8, Ra          Output[N8]=Ra
-effect Out a b d n m = putO (natAbs n) (r m a) m
+-- the instruction is done: the machine steps to m, n grown by 1
+abbrev pub done : Machine → Next
+done m = to (onState count m)
 
--- PC=PC+2, what the instruction does, and n grows by 1
-abbrev pub afterInstruction : Instruction → Machine → Machine
-afterInstruction i m = onState count (effect (i .kind) (i .a) (i .b) (i .d) (i .n) (jump (add (PC m) 2) m))
+-- What a kind does with its parts, PC=PC+2 being done, or the stop reason with which it can't be done. MOVHI, IN and OUT have n from 0
+-- to 255: natAbs n is that number.
+abbrev pub effect : Kind → ℕ → ℕ → ℕ → ℤ → Machine → Next
+-- AND Rd, Ra, Rb      Rd=Ra&Rb
+effect And a b d n m = done (write d (bitAnd (r m a) (r m b)) m)
+-- OR Rd, Ra, Rb       Rd=Ra|Rb
+effect Or a b d n m = done (write d (bitOr (r m a) (r m b)) m)
+-- XOR Rd, Ra, Rb      Rd=Ra^Rb
+effect Xor a b d n m = done (write d (bitXor (r m a) (r m b)) m)
+-- NOT Rd, Ra          Rd=~Ra
+effect Not a b d n m = done (write d (65535 - r m a) m)
+-- ADD Rd, Ra, Rb      Rd=Ra+Rb
+effect Add a b d n m = done (write d (add (r m a) (r m b)) m)
+-- SUB Rd, Ra, Rb      Rd=Ra-Rb
+effect Sub a b d n m = done (write d (subtract (r m a) (r m b)) m)
+-- SHA Rd, Ra, Rb      Rd=Ra_s*2**Rb<4..0>_s
+effect Sha a b d n m = done (write d (sha (r m a) (r m b)) m)
+-- SHL Rd, Ra, Rb      Rd=Ra_u*2**Rb<4..0>_s
+effect Shl a b d n m = done (write d (shl (r m a) (r m b)) m)
+-- CMPLT Rd, Ra, Rb    if(Ra_s<Rb_s)Rd=1 else Rd=0
+effect Cmplt a b d n m = done (write d (flag (ltZ (signed 16 (r m a)) (signed 16 (r m b)))) m)
+-- CMPLE Rd, Ra, Rb    if(Ra_s<=Rb_s)Rd=1 else Rd=0
+effect Cmple a b d n m = done (write d (flag (leZ (signed 16 (r m a)) (signed 16 (r m b)))) m)
+-- CMPEQ Rd, Ra, Rb    if(Ra==Rb)Rd=1 else Rd=0
+effect Cmpeq a b d n m = done (write d (flag (eqb (r m a) (r m b))) m)
+-- CMPLTU Rd, Ra, Rb   if(Ra_u<Rb_u)Rd=1 else Rd=0
+effect Cmpltu a b d n m = done (write d (flag (ltb (r m a) (r m b))) m)
+-- CMPLEU Rd, Ra, Rb   if(Ra_u<=Rb_u)Rd=1 else Rd=0
+effect Cmpleu a b d n m = done (write d (flag (leb (r m a) (r m b))) m)
+-- ADDI Rd, Ra, N6     Rd=Ra+SE(N6)
+effect Addi a b d n m = done (write d (add (r m a) (SE-n n)) m)
+-- LD Rd, N6(Ra)       Rd=Mem_w[(Ra+SE(N6))&(~1)]
+effect Ld a b d n m = done (write d (wordAt (m .D) (clear0 (address m a n))) m)
+-- ST N6(Ra), Rb       Mem_w[(Ra+SE(N6))&(~1)]=Rb
+effect St a b d n m = done (putD (putWord (clear0 (address m a n)) (r m b) (m .D)) m)
+-- LDB Rd, N6(Ra)      Rd=SE(Mem_b[Ra+SE(N6)])
+effect Ldb a b d n m = done (write d (SE-n (signed 8 (getD (m .D) (address m a n) 0))) m)
+-- STB N6(Ra), Rb      Mem_b[Ra+SE(N6)]=Rb<7..0>
+effect Stb a b d n m = done (putD (putByte (address m a n) (r m b) (m .D)) m)
+-- JALR Rd, Ra         PC=PC+2; tmp=Ra&(~1); Rd=PC; PC=tmp
+effect Jalr a b d n m = let tmp = clear0 (r m a) in done (jump tmp (write d (PC m) m))
+-- BZ Ra, N8           PC=PC+2; if(Ra==0)PC=PC+SE(N8)*2
+effect Bz a b d n m = done (pick (eqb (r m a) 0) (jump (add (PC m) (SE-n n * 2)) m) m)
+-- BNZ Ra, N8          PC=PC+2; if(Ra!=0)PC=PC+SE(N8)*2
+effect Bnz a b d n m = done (pick (eqb (r m a) 0) m (jump (add (PC m) (SE-n n * 2)) m))
+-- MOVI Rd, N8         Rd=SE(N8)
+effect Movi a b d n m = done (write d (SE-n n) m)
+-- MOVHI Rd, N8        Rd<15..8>=N8
+effect Movhi a b d n m = done (write d (r m d % 256 + natAbs n * 256) m)
+-- IN Rd, N8           Rd=Input[N8]
+effect In a b d n m = done (write d (getD (m .I) (natAbs n) 0) m)
+-- OUT N8, Ra          Output[N8]=Ra
+effect Out a b d n m = done (putO (natAbs n) (r m a) m)
+-- MUL Rd, Ra, Rb      Rd=(Ra*Rb)<15..0>
+effect Mul a b d n m = done (write d (mul (r m a) (r m b)) m)
+-- MULH Rd, Ra, Rb     Rd=(Ra_s*Rb_s)<31..16>
+effect Mulh a b d n m = done (write d (mulh (r m a) (r m b)) m)
+-- MULHU Rd, Ra, Rb    Rd=(Ra_u*Rb_u)<31..16>
+effect Mulhu a b d n m = done (write d (mulhu (r m a) (r m b)) m)
+-- DIV Rd, Ra, Rb      if(Rb==0)stop 3 else Rd=Ra_s/Rb_s
+effect Div a b d n m = pick (eqb (r m b) 0) (cannot 3) (done (write d (div (r m a) (r m b)) m))
+-- DIVU Rd, Ra, Rb     if(Rb==0)stop 3 else Rd=Ra_u/Rb_u
+effect Divu a b d n m = pick (eqb (r m b) 0) (cannot 3) (done (write d (divu (r m a) (r m b)) m))
+
+-- PC=PC+2, and what the instruction does
+abbrev pub stepAs : Instruction → Machine → Next
+stepAs i m = effect (i .kind) (i .a) (i .b) (i .d) (i .n) (jump (add (PC m) 2) m)
 
 pub record Rules : Type 0 where
   -- Where the word at PC reads as i, whatever its ignored bits, the machine's step is i's.
-  pub read : (i : Instruction) (w : ℕ) → readOf w ≡ instruction i → (m : Machine) → fetched m ≡ w → step m ≡ to (afterInstruction i m)
+  pub read : (i : Instruction) (w : ℕ) → readOf w ≡ instruction i → (m : Machine) → fetched m ≡ w → step m ≡ stepAs i m
   -- So it is where that word is the one that is written for i.
-  pub written : (i : Instruction) (w : ℕ) → writeOf i ≡ word w → (m : Machine) → fetched m ≡ w → step m ≡ to (afterInstruction i m)
+  pub written : (i : Instruction) (w : ℕ) → writeOf i ≡ word w → (m : Machine) → fetched m ≡ w → step m ≡ stepAs i m
   -- A word that reads as unassigned is one where the machine can't step.
   pub unassigned-stops : (w : ℕ) → readOf w ≡ unassigned → (m : Machine) → fetched m ≡ w → step m ≡ cannot 1

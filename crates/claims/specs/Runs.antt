@@ -17,11 +17,12 @@ pub data Takes (v : Stepper) : ℕ → Machine → Machine → Type 0 where
   more : {k : ℕ} {m next last : Machine} → v .steps m ≡ to next → Takes v k next last → Takes v (suc k) m last
 
 -- The test with reason q is the first that holds before a step, after j steps of a run: budget used, 0; the machine can't
--- step (the word is unassigned), 1; the step writes a port (the word is OUT) and L, which may grow to `full` entries, has no
--- free place, 2.
+-- step, since the word is unassigned, 1, or the divisor is zero, 3; the step writes a port (the word is OUT) and L, which may grow to
+-- `full` entries, has no free place, 2.
 pub data First (v : Stepper) (budget full j : ℕ) (m : Machine) : ℕ → Type 0 where
   budget-used : j ≡ budget → First v budget full j m 0
-  cannot-step : (j ≡ budget → ⊥) → v .steps m ≡ cannot 1 → First v budget full j m 1
+  word-unassigned : (j ≡ budget → ⊥) → v .steps m ≡ cannot 1 → First v budget full j m 1
+  zero-divisor : (j ≡ budget → ⊥) → v .steps m ≡ cannot 3 → First v budget full j m 3
   no-place : (j ≡ budget → ⊥) → {next : Machine} → v .steps m ≡ to next → noPlace v full m ≡ true → First v budget full j m 2
 
 -- the report of a run with what it was given and what it left

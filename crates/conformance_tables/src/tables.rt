@@ -19,8 +19,8 @@ fn replaced(c: u16) -> Table {
 
 fn exchanged(c: u16) -> Table {
     let mut words = control::control_table();
-    let a = (number(c, 40) % 22) as usize;
-    let b = (number(c, 41) % 22) as usize;
+    let a = (number(c, 40) % 24) as usize;
+    let b = (number(c, 41) % 24) as usize;
     let word = words[a];
     words[a] = words[b];
     words[b] = word;

@@ -13,10 +13,10 @@ use Rattle.word.specs.Word.{pick, add, SE}
 use Rattle.word.proofs.Computed.{all, all-at}
 use Rattle.word.proofs.Signed.{SE-is}
 use Rattle.word.proofs.Tests.{is-true}
-use Rattle.machine.specs.Machine.{Machine, R, count, onState}
-use Rattle.machine.specs.Step.{PC, Ra, d11-9, write, jump, among, Rule, Row, by-f, one, by-e, none, rows, Choice, rule, unassigned, inRow, choice, Next, cannot, to, stepBy, fetched, step, compute, compare, addi, ld, st, ldb, stb, jalr, bz, bnz, movi, movhi, input, output}
+use Rattle.machine.specs.Machine.{Machine, R}
+use Rattle.machine.specs.Step.{PC, Ra, Rb, d11-9, write, jump, among, Rule, Row, by-f, by-f-dividing, one, by-e, none, rows, Choice, rule, division, unassigned, inRow, choice, Next, cannot, doing, stepBy, fetched, step, compute, compare, addi, ld, st, ldb, stb, jalr, bz, bnz, movi, movhi, input, output, multiply}
 use Rattle.machine.specs.Run.{isOut, byRules}
-use Rattle.control.specs.Control.{second, unit, result, next, storedData, stored, written, performed, assigned, writesPort, controlStep, table, controlIn, controlOf, byTable}
+use Rattle.control.specs.Control.{second, unit, result, next, storedData, stored, written, performed, assigned, zeroDivisor, writesPort, controlStep, table, controlIn, controlOf, byTable}
 
 -- ---- A table of two columns: what is done, and whether a port is written
 
@@ -29,17 +29,24 @@ by-control c = record { does = controlStep c; port = writesPort c }
 
 -- what a row says of the words with this e, the choice by f made last
 abbrev stepRow : Row → ℕ → ℕ → Machine → Next
-stepRow (by-f fs r) e w m = pick (among (f-of w) fs) (to (onState count (r w (jump (add (PC m) 2) m)))) (cannot 1)
-stepRow (one r) e w m = to (onState count (r w (jump (add (PC m) 2) m)))
-stepRow (by-e r₀ r₁) e w m = to (onState count (pick (eqb e 0) r₀ r₁ w (jump (add (PC m) 2) m)))
+stepRow (by-f fs r) e w m = pick (among (f-of w) fs) (doing r w m) (cannot 1)
+stepRow (by-f-dividing fs gs r) e w m = pick (among (f-of w) fs) (pick (among (f-of w) gs && eqb (Rb w m) 0) (cannot 3) (doing r w m)) (cannot 1)
+stepRow (one r) e w m = doing r w m
+stepRow (by-e r₀ r₁) e w m = doing (pick (eqb e 0) r₀ r₁) w m
 stepRow none e w m = cannot 1
 
 row-is : (x : Row) (e w : ℕ) (m : Machine) → stepRow x e w m ≡ stepBy (inRow x e (f-of w)) w m
 row-is (by-f fs r) e w m = by-test (among (f-of w) fs)
   where
-    by-test : (t : Bool) → pick t (to (onState count (r w (jump (add (PC m) 2) m)))) (cannot 1) ≡ stepBy (pick t (rule r) unassigned) w m
+    by-test : (t : Bool) → pick t (doing r w m) (cannot 1) ≡ stepBy (pick t (rule r) unassigned) w m
     by-test true = refl
     by-test false = refl
+row-is (by-f-dividing fs gs r) e w m = by-tests (among (f-of w) fs) (among (f-of w) gs)
+  where
+    by-tests : (t s : Bool) → pick t (pick (s && eqb (Rb w m) 0) (cannot 3) (doing r w m)) (cannot 1) ≡ stepBy (pick t (pick s (division r) (rule r)) unassigned) w m
+    by-tests true true = refl
+    by-tests true false = refl
+    by-tests false s = refl
 row-is (one r) e w m = refl
 row-is (by-e r₀ r₁) e w m = refl
 row-is none e w m = refl
@@ -96,7 +103,7 @@ from g k [] = []
 from g k (x ∷ xs) = g (k / 2) (k % 2) ∷ from g (suc k) xs
 
 test : map by-control table ≡ from by-row 0 table
-unfolding by-control by-row compute compare addi ld st ldb stb jalr movi input output controlStep performed assigned second unit result next storedData stored written
+unfolding by-control by-row compute compare addi ld st ldb stb jalr movi input output multiply controlStep performed assigned zeroDivisor second unit result next storedData stored written
 test = rw (bz-is, bnz-is, movhi-is)
 
 -- ---- The lemma: the test, read at the place of a word

@@ -3,6 +3,7 @@
 -- Assumes nothing.
 use mathlib.Core.Path.{_≡_, refl, ap, subst, _∙_}
 use mathlib.Core.Bool.{Bool, true, false}
+use mathlib.Core.Logic.{_⊎_, inl, inr, ⊎-elim}
 use mathlib.Core.List.{List, [], _∷_, _++_, append-assoc}
 use Prim.Native.Nat.{ℕ, _+_, _*_, _%_, _≤_}
 use native.Mathlib.Omega.{arith}
@@ -17,7 +18,7 @@ use Rattle.machine.specs.Machine.{Machine, putR, putPC, count, onState, putD, p
 use Rattle.machine.specs.Step.{PC, Ra, Rb, d5-3, d8-6, d11-9, fetched, Next, cannot, to}
 use Rattle.machine.specs.Run.{Stepper, byRules}
 use Rattle.machine.proofs.Runs.{Lawful}
-use Rattle.control.specs.Control.{unit, result, next, storeField, writesPort, storedData, stored, written, performed, assigned, controlStep, controlIn, byControl, table}
+use Rattle.control.specs.Control.{unit, result, next, storeField, writesPort, storedData, stored, written, performed, assigned, zeroDivisor, controlStep, controlIn, byControl, table}
 use Rattle.control.proofs.Agreement.{same-stepper}
 
 -- ---- The parts
@@ -124,6 +125,9 @@ pub record Local (v : Stepper) : Type 0 where
 abbrev word-at : List ℕ → Machine → ℕ
 word-at words m = controlIn words (fetched m)
 
+abbrev zero-at : List ℕ → Machine → Bool
+zero-at words m = zeroDivisor (word-at words m) (fetched m) (Rb (fetched m) m)
+
 abbrev done-at : List ℕ → Machine → Machine
 done-at words m = performed (word-at words m) (fetched m) m
 
@@ -131,24 +135,26 @@ module _ (words : List ℕ) where
   -- where it stepped, it did what the control word says
   stepped : (m next : Machine) → byControl words .steps m ≡ to next → Keeps m next
   unfolding controlStep
-  stepped m next = by-test (assigned (word-at words m) (fetched m))
+  stepped m next = by-tests (assigned (word-at words m) (fetched m)) (zero-at words m)
     where
-      by-test : (t : Bool) → pick t (to (done-at words m)) (cannot 1) ≡ to next → Keeps m next
-      by-test true e = let z : done-at words m ≡ next = cc in subst (Keeps m) z (step-keeps (word-at words m) (fetched m) m)
-      by-test false e = clash (cc)
+      by-tests : (t z : Bool) → pick t (pick z (cannot 3) (to (done-at words m))) (cannot 1) ≡ to next → Keeps m next
+      by-tests true true e = clash (cc)
+      by-tests true false e = let z : done-at words m ≡ next = cc in subst (Keeps m) z (step-keeps (word-at words m) (fetched m) m)
+      by-tests false z e = clash (cc)
 
-  pub cannot-1-control : (m : Machine) (q : ℕ) → byControl words .steps m ≡ cannot q → q ≡ 1
+  pub cannot-control : (m : Machine) (q : ℕ) → byControl words .steps m ≡ cannot q → (q ≡ 1) ⊎ (q ≡ 3)
   unfolding controlStep
-  cannot-1-control m q = by-test (assigned (word-at words m) (fetched m))
+  cannot-control m q = by-tests (assigned (word-at words m) (fetched m)) (zero-at words m)
     where
-      by-test : (t : Bool) → pick t (to (done-at words m)) (cannot 1) ≡ cannot q → q ≡ 1
-      by-test true e = clash (cc)
-      by-test false e = cc
+      by-tests : (t z : Bool) → pick t (pick z (cannot 3) (to (done-at words m))) (cannot 1) ≡ cannot q → (q ≡ 1) ⊎ (q ≡ 3)
+      by-tests true true e = inr (cc)
+      by-tests true false e = clash (cc)
+      by-tests false z e = inl (cc)
 
   pub lawful-control : Lawful (byControl words)
   lawful-control =
       record {
-        reasons = λ m q e z. omega (arith, cannot-1-control m q e);
+        reasons = λ m q e z. ⊎-elim (λ h. omega (arith, h)) (λ h. omega (arith, h)) (cannot-control m q e);
         counts = λ m next e. stepped m next e .counts;
         even = λ m next e. stepped m next e .even;
         grows = λ m next e. stepped m next e .grows;
@@ -159,14 +165,16 @@ module _ (words : List ℕ) where
   local-control =
       record {
         keeps = λ m next e. stepped m next e .lent;
-        steps-shift = λ l m. by-test l m (assigned (word-at words m) (fetched m));
+        steps-shift = λ l m. by-tests l m (assigned (word-at words m) (fetched m)) (zero-at words m);
         writes-shift = λ l m. refl;
       }
     where
-      by-test : (l : List ℕ) (m : Machine) (t : Bool)
-          → pick t (to (performed (word-at words m) (fetched m) (shift l m))) (cannot 1) ≡ shiftNext l (pick t (to (done-at words m)) (cannot 1))
-      by-test l m true = ap to (step-shift (word-at words m) (fetched m) l m)
-      by-test l m false = refl
+      by-tests : (l : List ℕ) (m : Machine) (t z : Bool)
+          → pick t (pick z (cannot 3) (to (performed (word-at words m) (fetched m) (shift l m)))) (cannot 1)
+          ≡ shiftNext l (pick t (pick z (cannot 3) (to (done-at words m))) (cannot 1))
+      by-tests l m true true = refl
+      by-tests l m true false = ap to (step-shift (word-at words m) (fetched m) l m)
+      by-tests l m false z = refl
 
 -- ---- The plain machine's
 
@@ -176,5 +184,5 @@ lawful-rules = subst Lawful same-stepper (lawful-control table)
 pub local-rules : Local byRules
 local-rules = subst Local same-stepper (local-control table)
 
-pub cannot-1 : (m : Machine) (q : ℕ) → byRules .steps m ≡ cannot q → q ≡ 1
-cannot-1 = subst (λ v. (m : Machine) (q : ℕ) → v .steps m ≡ cannot q → q ≡ 1) same-stepper (cannot-1-control table)
+pub cannot-rules : (m : Machine) (q : ℕ) → byRules .steps m ≡ cannot q → (q ≡ 1) ⊎ (q ≡ 3)
+cannot-rules = subst (λ v. (m : Machine) (q : ℕ) → v .steps m ≡ cannot q → (q ≡ 1) ⊎ (q ≡ 3)) same-stepper (cannot-control table)

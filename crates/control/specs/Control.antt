@@ -1,7 +1,8 @@
 -- The control table (01): the fields of a control word c, a step by them, and the table's 32 words. w is the instruction
 -- word and m the machine before the step; registers are read before any is written.
--- Open: a field value that 01 does not list (unit 5 to 7, result 5 to 7, second operand 3) stands for the number 0. No word
--- of the table has one.
+-- Open: a field value that 01 and 02 do not list (unit 6 and 7, result 5 to 7, second operand 3) stands for the number 0, and so does
+-- unit 5's value for an f that it does not take or a zero divisor. No word of the table has such a field, and no step looks at such a
+-- value of unit 5.
 use Prim.Native.Nat.{ℕ, _+_, _*_, _%_}
 use mathlib.Core.Bool.{Bool, true, false, _&&_}
 use mathlib.Core.List.{List, [], _∷_}
@@ -9,6 +10,7 @@ use lib.Dec.{eqb}
 use lib.ListN.{getD}
 use Rattle.word.specs.Fields.{bits, field, opcode, e-of, f-of, N6, N8}
 use Rattle.word.specs.Word.{pick, add, clear0, SE, operation, comparison}
+use Rattle.muldiv.specs.Muldiv.{muldiv}
 use Rattle.machine.specs.declared.State.{State}
 use Rattle.machine.specs.Machine.{Machine, putR, putPC, count, onState, putD, putO, wordAt, putWord, putByte}
 use Rattle.machine.specs.Step.{PC, Ra, Rb, d5-3, d8-6, d11-9, among, fetched, Next, cannot, to}
@@ -21,9 +23,9 @@ unfoldable pub second : ℕ → ℕ → ℕ → ℕ
 second c w y = getD (y ∷ SE 6 (N6 w) ∷ SE 8 (N8 w) ∷ []) (field (bits 9 8) c) 0
 
 -- Bits 7..5 unit: 0 opcode 0's operations by f, 1 comparisons by f, 2 sum, 3 second operand, 4 low byte of the first under
--- low byte of the second. First operand: Ra.
+-- low byte of the second, 5 products and quotients by f. First operand: Ra.
 abbrev pub units : ℕ → ℕ → ℕ → List ℕ
-units f x z = operation f x z ∷ comparison f x z ∷ add x z ∷ z ∷ (x % 256 + z % 256 * 256) ∷ []
+units f x z = operation f x z ∷ comparison f x z ∷ add x z ∷ z ∷ (x % 256 + z % 256 * 256) ∷ muldiv f x z ∷ []
 
 abbrev pub unitField : ℕ → ℕ
 unitField c = field (bits 7 5) c
@@ -33,9 +35,11 @@ unit c w x y = getD (units (f-of w) x (second c w y)) (unitField c) 0
 
 -- Bits 4..2 result: 0 unit, 1 word read, 2 SE of the byte read, 3 PC+2, 4 input. The unit's result is the data address, with
 -- bit 0 cleared for a word; N8 is the port.
+abbrev pub results : ℕ → ℕ → ℕ → List ℕ → List ℕ → List ℕ
+results w u pc D I = u ∷ wordAt D (clear0 u) ∷ SE 8 (getD D u 0) ∷ add pc 2 ∷ getD I (N8 w) 0 ∷ []
+
 unfoldable pub result : ℕ → ℕ → ℕ → ℕ → List ℕ → List ℕ → ℕ
-result c w u pc D I =
-    getD (u ∷ wordAt D (clear0 u) ∷ SE 8 (getD D u 0) ∷ add pc 2 ∷ getD I (N8 w) 0 ∷ []) (field (bits 4 2) c) 0
+result c w u pc D I = getD (results w u pc D I) (field (bits 4 2) c) 0
 
 -- Bits 13..12 next: 0 PC+2, 1 branch if Ra is zero, 2 if not (both as rule 8), 3 jump to Ra with bit 0 cleared.
 unfoldable pub next : ℕ → ℕ → ℕ → ℕ → ℕ
@@ -79,14 +83,21 @@ performed c w m =
 
 -- a unit that goes by f takes these f; any other takes all
 abbrev pub takes : ℕ → ℕ → Bool
-takes u f = pick (eqb u 1) (among f (0 ∷ 1 ∷ 3 ∷ 4 ∷ 5 ∷ [])) true
+takes u f = pick (eqb u 1) (among f (0 ∷ 1 ∷ 3 ∷ 4 ∷ 5 ∷ [])) (pick (eqb u 5) (among f (0 ∷ 1 ∷ 2 ∷ 4 ∷ 5 ∷ [])) true)
 
--- Bit 14: assigned, in unit 1 also by f.
+-- Bit 14: assigned, in units 1 and 5 also by f.
 unfoldable pub assigned : ℕ → ℕ → Bool
 assigned c w = eqb (field (bits 14 14) c) 1 && takes (unitField c) (f-of w)
 
+-- Unit 5 divides where f is 4 or 5. The divisor is the second operand.
+abbrev pub divides : ℕ → ℕ → Bool
+divides u f = eqb u 5 && among f (4 ∷ 5 ∷ [])
+
+unfoldable pub zeroDivisor : ℕ → ℕ → ℕ → Bool
+zeroDivisor c w y = divides (unitField c) (f-of w) && eqb (second c w y) 0
+
 unfoldable pub controlStep : ℕ → ℕ → Machine → Next
-controlStep c w m = pick (assigned c w) (to (performed c w m)) (cannot 1)
+controlStep c w m = pick (assigned c w) (pick (zeroDivisor c w (Rb w m)) (cannot 3) (to (performed c w m))) (cannot 1)
 
 -- ---- The table: 32 words, at opcode times 2 plus e
 
@@ -107,8 +118,10 @@ table =
     ∷ 0x4263 ∷ 0x4283
     -- 10: IN, OUT
     ∷ 0x4013 ∷ 0x4C00
+    -- 11, both e
+    ∷ 0x40A1 ∷ 0x40A1
     -- the rest 0
-    ∷ 0 ∷ 0 ∷ 0 ∷ 0 ∷ 0 ∷ 0 ∷ 0 ∷ 0 ∷ 0 ∷ 0
+    ∷ 0 ∷ 0 ∷ 0 ∷ 0 ∷ 0 ∷ 0 ∷ 0 ∷ 0
     ∷ []
 
 -- the word of a table for an instruction word

@@ -51,7 +51,7 @@ pub fn run_accepted(
     let mut state = start;
     let mut steps: u32 = 0;
     let mut entries: usize = 0;
-    let mut kinds = [0u64; 25];
+    let mut kinds = [0u64; kinds::COUNT];
     let mut reads = [0u64; 8];
     let mut writes = [0u64; 8];
     while steps < budget {

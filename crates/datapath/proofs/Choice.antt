@@ -1,11 +1,17 @@
--- A choice by a field of the control word: the field by its bits, and past the end of a list.
+-- A choice by a field of the control word: the field by its bits, and past the end of a list; and tests of f.
 -- Assumes nothing.
 use mathlib.Core.Path.{_≡_, sym}
-use mathlib.Core.List.{[], _∷_}
-use Prim.Native.Nat.{ℕ, _+_, _*_, _/_, _%_, _≤_}
+use mathlib.Core.Bool.{Bool·beq}
+use mathlib.Core.List.{List}
+use Prim.Native.Nat.{ℕ, _+_, _*_, _/_, _%_, _<_, _≤_}
 use native.Mathlib.Nat.{div-div-eq-div-mul}
 use native.Mathlib.Omega.{arith}
-use lib.ListN.{getD, List·getD-eq-default}
+use lib.Dec.{T, eqb}
+use lib.ListN.{getD, length, List·getD-eq-default}
+use Rattle.word.proofs.Computed.{all, all-at}
+use Rattle.word.proofs.Tests.{same-test}
+use Rattle.control.specs.Control.{takes, divides}
+use Rattle.datapath.specs.Parts.{below6But}
 
 -- a field that begins at the bit of this weight
 pub two-bits : (c weight : ℕ) → c / weight % 4 ≡ c / weight % 2 + 2 * (c / (weight * 2) % 2)
@@ -14,5 +20,16 @@ two-bits c weight = rw (← div-div-eq-div-mul c weight 2) (omega arith)
 pub three-bits : (c weight : ℕ) → c / weight % 8 ≡ c / weight % 4 + 4 * (c / (weight * 4) % 2)
 three-bits c weight = rw (← div-div-eq-div-mul c weight 4) (omega arith)
 
-pub past-five : (a b c d e k : ℕ) → 5 ≤ k → 0 ≡ getD (a ∷ b ∷ c ∷ d ∷ e ∷ []) k 0
-past-five a b c d e k h = sym (List·getD-eq-default (a ∷ b ∷ c ∷ d ∷ e ∷ []) 0 h)
+pub past-end : (xs : List ℕ) (k : ℕ) → length xs ≤ k → 0 ≡ getD xs k 0
+past-end xs k h = sym (List·getD-eq-default xs 0 h)
+
+-- ---- The tests of f, by the eight values that it can have
+
+-- unit u takes the f below 6 but the gap, where the test of all eight says so
+pub takes-f : (u gap : ℕ) → T (all 8 (λ f. Bool·beq (below6But gap f) (takes u f))) → (f : ℕ) → f < 8 → below6But gap f ≡ takes u f
+takes-f u gap t f h = same-test _ _ (all-at 8 (λ f. Bool·beq (below6But gap f) (takes u f)) t f h)
+
+-- the f by which unit 5 divides
+pub divisions-f : (f : ℕ) → f < 8 → eqb (f / 2) 2 ≡ divides 5 f
+unfolding all
+divisions-f f h = same-test _ _ (all-at 8 (λ f. Bool·beq (eqb (f / 2) 2) (divides 5 f)) tt f h)

@@ -19,41 +19,44 @@ use Rattle.machine.specs.Run.{Outcome, unless}
 use Rattle.machine.specs.Held.{Held, held, machineOf, isFull, outcomeOf, StepMeets}
 use Rattle.machine.proofs.Answers.{answered}
 use Rattle.machine.proofs.Log.{put-take, put-drop}
-use Rattle.control.specs.Control.{storeField, writesPort, storedData, stored, performed, assigned, controlStep}
-use Rattle.datapath.specs.Parts.{stateAfter, dataAfter, stopOf}
+use Rattle.control.specs.Control.{storeField, writesPort, storedData, stored, performed, assigned, zeroDivisor, controlStep}
+use Rattle.datapath.specs.Parts.{stateAfter, dataAfter, isZeroDivisor, stopOf, resultAnswer}
 
 module _ (c w : ℕ) (h : Held) where
   abbrev Meets : ℕ → Held → Type 0
   Meets stop after = StepMeets (controlStep c w) (writesPort c) h stop after
 
-  -- what the run makes of the step of a machine, by the two tests
-  made : (m : Machine) (a b : Bool) → assigned c w ≡ a → (writesPort c && isFull h) ≡ b
-      → outcomeOf m (unless (writesPort c && isFull h) (controlStep c w m)) ≡ outcomeOf m (unless b (pick a (to (performed c w m)) (cannot 1)))
+  -- what the run makes of the step of a machine, by the three tests
+  made : (P : List ℕ) (a z b : Bool) → assigned c w ≡ a → isZeroDivisor c w (h .state) ≡ z → (writesPort c && isFull h) ≡ b
+      → let m = machineOf P h in
+      outcomeOf m (unless (writesPort c && isFull h) (controlStep c w m)) ≡ outcomeOf m (unless b (pick a (pick z (cannot 3) (to (performed c w m))) (cannot 1)))
   unfolding controlStep
-  made m a b e f = λ i. outcomeOf m (unless (f i) (pick (e i) (to (performed c w m)) (cannot 1)))
+  made P a z b e g f = let m = machineOf P h in λ i. outcomeOf m (unless (f i) (pick (e i) (pick (g i) (cannot 3) (to (performed c w m))) (cannot 1)))
 
   -- ---- It stops
 
-  pub stopped : (stop : ℕ) → h .entries ≤ length (h .log) → stop ≡ stopOf c w (isFull h) → (stop ≡ 0 → ⊥) → Meets stop h
+  pub stopped : (stop : ℕ) → h .entries ≤ length (h .log) → stop ≡ stopOf c w (h .state) (isFull h) → (stop ≡ 0 → ⊥) → Meets stop h
   stopped stop filled e n =
-      record { machine = λ P. by-tests (machineOf P h) (assigned c w) refl (writesPort c && isFull h) refl e; rest = refl; filled = filled }
+      record { machine = λ P. by-tests P (assigned c w) refl (isZeroDivisor c w (h .state)) refl (writesPort c && isFull h) refl e; rest = refl; filled = filled }
     where
-      by-tests : (m : Machine) (a : Bool) → assigned c w ≡ a → (b : Bool) → (writesPort c && isFull h) ≡ b → stop ≡ pick a (pick b 2 0) 1
-          → outcomeOf m (unless (writesPort c && isFull h) (controlStep c w m)) ≡ record { reason = stop; after = m }
-      by-tests m true p true q e = made m true true p q ∙ ap (λ k. record { reason = k; after = m }) (sym e)
-      by-tests m true p false q e = absurd (n e)
-      by-tests m false p b q e = made m false b p q ∙ ap (λ k. record { reason = k; after = m }) (sym e)
+      by-tests : (P : List ℕ) (a : Bool) → assigned c w ≡ a → (z : Bool) → isZeroDivisor c w (h .state) ≡ z → (b : Bool) → (writesPort c && isFull h) ≡ b
+          → stop ≡ pick a (pick z 3 (pick b 2 0)) 1
+          → let m = machineOf P h in outcomeOf m (unless (writesPort c && isFull h) (controlStep c w m)) ≡ record { reason = stop; after = m }
+      by-tests P true p true r b q e = made P true true b p r q ∙ ap (λ k. record { reason = k; after = machineOf P h }) (sym e)
+      by-tests P true p false r true q e = made P true false true p r q ∙ ap (λ k. record { reason = k; after = machineOf P h }) (sym e)
+      by-tests P true p false r false q e = absurd (n e)
+      by-tests P false p z r b q e = made P false z b p r q ∙ ap (λ k. record { reason = k; after = machineOf P h }) (sym e)
 
   -- ---- It is done
 
-  module _ (is-assigned : assigned c w ≡ true) where
+  module _ (is-assigned : assigned c w ≡ true) (no-zero : isZeroDivisor c w (h .state) ≡ false) where
     -- where the store is not to a port
     pub data-done : {s : State} {D : List ℕ} → h .entries ≤ length (h .log) → writesPort c ≡ false
         → s ≡ stateAfter c w (h .state) (h .D) (h .I)
         → D ≡ dataAfter c w (h .state) (h .D)
         → Meets 0 (held s D (h .I) (h .O) (h .log) (h .entries))
     unfolding performed stored
-    data-done {s} {D} filled no-port es eD = record { machine = λ P. made (machineOf P h) true false is-assigned (ap (λ t. t && isFull h) no-port) ∙ done P; rest = refl; filled = filled }
+    data-done {s} {D} filled no-port es eD = record { machine = λ P. made P true false false is-assigned no-zero (ap (λ t. t && isFull h) no-port) ∙ done P; rest = refl; filled = filled }
       where
         done : (P : List ℕ) → _≡_ {A = Outcome} (record { reason = 0; after = performed c w (machineOf P h) })
             (record { reason = 0; after = machineOf P (held s D (h .I) (h .O) (h .log) (h .entries)) })
@@ -71,7 +74,7 @@ module _ (c w : ℕ) (h : Held) where
     port-done {s} {D} {O} {log} {entries} place port es eD eO el ee =
         let free : isFull h ≡ false = lt-leb _ _ place in
         record {
-          machine = λ P. made (machineOf P h) true false is-assigned (ap (λ t. t && isFull h) port ∙ free) ∙ done P;
+          machine = λ P. made P true false false is-assigned no-zero (ap (λ t. t && isFull h) port ∙ free) ∙ done P;
           rest = rw (el, ee) (put-drop (h .entries) _ (h .log) place);
           filled = rw (el, ee) (simp length-set (omega arith));
         }
@@ -86,45 +89,53 @@ module _ (c w : ℕ) (h : Held) where
   no-data s D port = let k : storeField c ≡ 3 = eqb-true (storeField c) 3 port in rw k
 
   -- by fields
-  pub fields-done : {s : State} {D O log : List ℕ} {entries : ℕ} → h .entries ≤ length (h .log) → stopOf c w (isFull h) ≡ 0
+  pub fields-done : {s : State} {D O log : List ℕ} {entries : ℕ} → h .entries ≤ length (h .log) → stopOf c w (h .state) (isFull h) ≡ 0
       → s ≡ stateAfter c w (h .state) (h .D) (h .I)
       → D ≡ dataAfter c w (h .state) (h .D)
       → (entries ≡ pick (writesPort c) (h .entries + 1) (h .entries))
       × (O ≡ pick (writesPort c) (set (h .O) (N8 w) (R (h .state) (a-of w))) (h .O))
       × (log ≡ pick (writesPort c) (set (h .log) (h .entries) (h .state .n * 16777216 + N8 w * 65536 + R (h .state) (a-of w))) (h .log))
       → Meets 0 (held s D (h .I) O log entries)
-  fields-done {s} {D} {O} {log} {entries} filled go es eD port = by-tests (assigned c w) refl (writesPort c) refl (isFull h) refl go port
+  fields-done {s} {D} {O} {log} {entries} filled go es eD port = by-tests (assigned c w) refl (isZeroDivisor c w (h .state)) refl (writesPort c) refl (isFull h) refl go port
     where
-      by-tests : (a : Bool) → assigned c w ≡ a → (p : Bool) → writesPort c ≡ p → (f : Bool) → isFull h ≡ f → _≡_ {A = ℕ} (pick a (pick (p && f) 2 0) 1) 0
+      by-tests : (a : Bool) → assigned c w ≡ a → (z : Bool) → isZeroDivisor c w (h .state) ≡ z → (p : Bool) → writesPort c ≡ p → (f : Bool) → isFull h ≡ f
+          → _≡_ {A = ℕ} (pick a (pick z 3 (pick (p && f) 2 0)) 1) 0
           → (entries ≡ pick p (h .entries + 1) (h .entries))
           × (O ≡ pick p (set (h .O) (N8 w) (R (h .state) (a-of w))) (h .O))
           × (log ≡ pick p (set (h .log) (h .entries) (h .state .n * 16777216 + N8 w * 65536 + R (h .state) (a-of w))) (h .log))
           → Meets 0 (held s D (h .I) O log entries)
-      by-tests false a p ep f ef go e = absurd (omega arith)
-      by-tests true a true ep true ef go e = absurd (omega arith)
-      by-tests true a true ep false ef go e =
-          port-done a (leb-false _ _ ef) ep es (eD ∙ no-data (h .state) (h .D) ep) (e .1) (e .2) (e .0)
-      by-tests true a false ep f ef go e =
-          rw (e .0, e .1, e .2) (data-done a filled ep es eD)
+      by-tests false a z ez p ep f ef go e = absurd (omega arith)
+      by-tests true a true ez p ep f ef go e = absurd (omega arith)
+      by-tests true a false ez true ep true ef go e = absurd (omega arith)
+      by-tests true a false ez true ep false ef go e =
+          port-done a ez (leb-false _ _ ef) ep es (eD ∙ no-data (h .state) (h .D) ep) (e .1) (e .2) (e .0)
+      by-tests true a false ez false ep f ef go e =
+          rw (e .0, e .1, e .2) (data-done a ez filled ep es eD)
 
--- an answer by whether the word is assigned, where nothing is stored
+-- the answer where nothing is stored
 pub result-done : (c w : ℕ) (h : Held) → h .entries ≤ length (h .log) → writesPort c ≡ false → dataAfter c w (h .state) (h .D) ≡ h .D
     → (r : Stepped)
-    → r ≡ pick (assigned c w) (record { stop = 0; state = stateAfter c w (h .state) (h .D) (h .I); entries = h .entries }) (record { stop = 1; state = h .state; entries = h .entries })
+    → r ≡ resultAnswer c w (h .state) (h .D) (h .I) (h .entries)
     → StepMeets (controlStep c w) (writesPort c) h (r .stop) (held (r .state) (h .D) (h .I) (h .O) (h .log) (r .entries))
-result-done c w h filled no-port no-store r = by-test (assigned c w) refl
+result-done c w h filled no-port no-store r = by-tests (assigned c w) refl (isZeroDivisor c w (h .state)) refl
   where
-    by-test : (a : Bool) → assigned c w ≡ a
-        → r ≡ pick a (record { stop = 0; state = stateAfter c w (h .state) (h .D) (h .I); entries = h .entries }) (record { stop = 1; state = h .state; entries = h .entries })
+    by-tests : (a : Bool) → assigned c w ≡ a → (z : Bool) → isZeroDivisor c w (h .state) ≡ z
+        → r ≡ pick a
+        (pick z
+        (record { stop = 3; state = h .state; entries = h .entries })
+        (record { stop = 0; state = stateAfter c w (h .state) (h .D) (h .I); entries = h .entries }))
+        (record { stop = 1; state = h .state; entries = h .entries })
         → StepMeets (controlStep c w) (writesPort c) h (r .stop) (held (r .state) (h .D) (h .I) (h .O) (h .log) (r .entries))
-    by-test true e a = answered r _ a (data-done c w h e filled no-port refl (sym no-store))
-    by-test false e a = answered r _ a (stopped c w h 1 filled (rw e) (λ z. omega arith))
+    by-tests true e true z a = answered r _ a (stopped c w h 3 filled (rw (e, z)) (λ z. omega arith))
+    by-tests true e false z a = answered r _ a (data-done c w h e z filled no-port refl (sym no-store))
+    by-tests false e t z a = answered r _ a (stopped c w h 1 filled (rw e) (λ z. omega arith))
 
 -- a port's step has a free place where nothing stops it
-pub free-place : (c w n places : ℕ) → stopOf c w (leb places n) ≡ 0 → writesPort c ≡ true → n < places
-free-place c w n places go port = by-tests (assigned c w) (leb places n) refl (rw port at go)
+pub free-place : (c w : ℕ) (s : State) (n places : ℕ) → stopOf c w s (leb places n) ≡ 0 → writesPort c ≡ true → n < places
+free-place c w s n places go port = by-tests (assigned c w) (isZeroDivisor c w s) (leb places n) refl (rw port at go)
   where
-    by-tests : (a f : Bool) → leb places n ≡ f → _≡_ {A = ℕ} (pick a (pick f 2 0) 1) 0 → n < places
-    by-tests false f e go = absurd (omega arith)
-    by-tests true true e go = absurd (omega arith)
-    by-tests true false e go = leb-false _ _ e
+    by-tests : (a z f : Bool) → leb places n ≡ f → _≡_ {A = ℕ} (pick a (pick z 3 (pick f 2 0)) 1) 0 → n < places
+    by-tests false z f e go = absurd (omega arith)
+    by-tests true true f e go = absurd (omega arith)
+    by-tests true false true e go = absurd (omega arith)
+    by-tests true false false e go = leb-false _ _ e

@@ -13,8 +13,8 @@ use Rattle.word.specs.Fields.{a-of, b-of, N6}
 use Rattle.word.specs.Word.{add, SE, operation}
 use Rattle.machine.specs.declared.State.{State}
 use Rattle.machine.specs.Machine.{R, putPC, count}
-use Rattle.control.specs.Control.{second, unit, result, next, writesPort, storedData, written, assigned}
-use Rattle.datapath.specs.Parts.{unitOf, stateAfter, dataAfter, addressOf, isResult, isStore, isJump}
+use Rattle.control.specs.Control.{second, unit, result, next, writesPort, storedData, written, assigned, zeroDivisor}
+use Rattle.datapath.specs.Parts.{unitOf, stateAfter, dataAfter, isZeroDivisor, addressOf, isResult, isStore, isJump}
 
 -- ---- Bits of a field that is known as part of a wider one
 
@@ -64,12 +64,13 @@ module _ (c w : ℕ) (s : State) where
 
   pub record Store : Type 0 where
     pub is-assigned : assigned c w ≡ true
+    pub no-zero : isZeroDivisor c w s ≡ false
     pub no-port : writesPort c ≡ false
     pub address : unitOf c w s ≡ addressOf w s
     pub state : (D I : List ℕ) → stateAfter c w s D I ≡ putPC (add (s .pc) 2) (count s)
 
   pub store-group : isStore c ≡ true → Store
-  unfolding assigned next written
+  unfolding assigned zeroDivisor next written
   store-group e =
       let p = and-eq-true-iff (eqb (c % 1024) 320 && eqb (c / 4096 % 8) 4) (not (eqb (c / 1024 % 4) 3)) .0 e in
       let q = and-eq-true-iff (eqb (c % 1024) 320) (eqb (c / 4096 % 8) 4) .0 (p .0) in
@@ -82,6 +83,7 @@ module _ (c w : ℕ) (s : State) where
       let a : c / 16384 % 2 ≡ 1 = assigned-of c high in
       record {
         is-assigned = rw (a, u);
+        no-zero = rw u;
         no-port = no-3 (p .1);
         address = sums c w _ _ bits;
         state = λ D I. rw (d, n);
@@ -92,12 +94,13 @@ module _ (c w : ℕ) (s : State) where
 
   pub record Jump : Type 0 where
     pub is-assigned : assigned c w ≡ true
+    pub no-zero : isZeroDivisor c w s ≡ false
     pub no-port : writesPort c ≡ false
     pub state : (D I : List ℕ) → stateAfter c w s D I ≡ putPC (next c w (R s (a-of w)) (s .pc)) (count s)
     pub no-store : (D : List ℕ) → dataAfter c w s D ≡ D
 
   pub jump-group : isJump c ≡ true → Jump
-  unfolding assigned storedData written
+  unfolding assigned zeroDivisor storedData written
   jump-group e =
       let q = and-eq-true-iff (eqb (c % 4096) 0) (eqb (c / 16384 % 2) 1) .0 e in
       let low : c % 4096 ≡ 0 = eqb-true _ _ (q .0) in
@@ -105,4 +108,4 @@ module _ (c w : ℕ) (s : State) where
       let u : c / 32 % 8 ≡ 0 = unit-of c low in
       let d : c / 1 % 4 ≡ 0 = omega arith in
       let st : c / 1024 % 4 ≡ 0 = store-of c low in
-      record { is-assigned = rw (a, u); no-port = rw st; state = λ D I. rw d; no-store = λ D. rw st }
+      record { is-assigned = rw (a, u); no-zero = rw u; no-port = rw st; state = λ D I. rw d; no-store = λ D. rw st }

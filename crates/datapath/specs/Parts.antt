@@ -1,15 +1,16 @@
 -- What the private functions of a step promise. Nothing here is promised to a caller.
 use Prim.Native.Nat.{ℕ, _<_, _/_, _%_}
-use mathlib.Core.Bool.{Bool, _&&_, not}
+use mathlib.Core.Bool.{Bool, false, _&&_, not}
 use mathlib.Core.List.{List}
 use mathlib.Core.Path.{_≡_}
-use lib.Dec.{eqb}
+use lib.Dec.{eqb, ltb}
 use lib.ListN.{length}
 use Rattle.word.specs.Fields.{a-of, b-of, N6}
 use Rattle.word.specs.Word.{pick, add, SE}
 use Rattle.machine.specs.declared.State.{State}
+use Rattle.machine.specs.declared.Stepped.{Stepped}
 use Rattle.machine.specs.Machine.{R, putPC, count}
-use Rattle.control.specs.Control.{unit, result, next, writesPort, storedData, written, assigned}
+use Rattle.control.specs.Control.{unit, result, next, writesPort, storedData, written, assigned, zeroDivisor}
 
 -- what the state after a step takes: a count that can grow, a memory and inputs of their lengths
 pub record Lent (s : State) (D I : List ℕ) : Type 0 where
@@ -28,9 +29,26 @@ stateAfter c w s D I = written c w (result c w (unitOf c w s) (s .pc) D I) (putP
 abbrev pub dataAfter : ℕ → ℕ → State → List ℕ → List ℕ
 dataAfter c w s D = storedData c (R s (b-of w)) (unitOf c w s) D
 
--- why w is not stepped: 1 unassigned, 2 a port write and the log is full; 0 where it is
-abbrev pub stopOf : ℕ → ℕ → Bool → ℕ
-stopOf c w full = pick (assigned c w) (pick (writesPort c && full) 2 0) 1
+-- the second operand is zero where the unit divides
+abbrev pub isZeroDivisor : ℕ → ℕ → State → Bool
+isZeroDivisor c w s = zeroDivisor c w (R s (b-of w))
+
+-- why w is not stepped: 1 unassigned, 3 a zero divisor, 2 a port write and the log is full; 0 where it is
+abbrev pub stopOf : ℕ → ℕ → State → Bool → ℕ
+stopOf c w s full = pick (assigned c w) (pick (isZeroDivisor c w s) 3 (pick (writesPort c && full) 2 0)) 1
+
+-- what is answered where nothing is stored
+abbrev pub resultAnswer : ℕ → ℕ → State → List ℕ → List ℕ → ℕ → Stepped
+resultAnswer c w s D I entries =
+    pick (assigned c w)
+    (pick (isZeroDivisor c w s)
+    (record { stop = 3; state = s; entries = entries })
+    (record { stop = 0; state = stateAfter c w s D I; entries = entries }))
+    (record { stop = 1; state = s; entries = entries })
+
+-- f is below 6 and not the gap: the f that unit 1 takes (gap 2), and those that unit 5 takes (gap 3)
+abbrev pub below6But : ℕ → ℕ → Bool
+below6But gap f = pick (eqb f gap) false (ltb f 6)
 
 -- ---- The groups
 

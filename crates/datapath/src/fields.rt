@@ -4,9 +4,11 @@ ghost use mathlib.Core.Path.{_≡_};
 ghost use mathlib.Core.Bool.{true};
 ghost use Prim.Native.Nat.{_+_, _*_, _<_};
 ghost use lib.ListN.{getD, length, set};
-ghost use Rattle.word.specs.Fields.{f-of, N8};
+ghost use Rattle.word.specs.Fields.{b-of, f-of, N8};
 ghost use Rattle.word.specs.Word.{pick};
-ghost use Rattle.control.specs.Control.{second, units, unitField, unit, result, next, writesPort, storedData, written, takes, assigned};
+ghost use Rattle.machine.specs.Machine.{R};
+ghost use Rattle.control.specs.Control.{second, units, unitField, unit, result, next, writesPort, storedData, written, assigned, zeroDivisor};
+ghost use Rattle.datapath.specs.Parts.{below6But};
 use machine::Address;
 use machine::Port;
 use machine::State;
@@ -52,7 +54,11 @@ fn unit_of(control: u16, w: u16, x: u16, operand: u16) -> u16
         if control / 32 % 4 == 0 {
             x % 256 + operand % 256 * 256
         } else {
-            0
+            if control / 32 % 4 == 1 {
+                muldiv::compute(w % 8, x, operand)
+            } else {
+                0
+            }
         }
     }
 }
@@ -176,14 +182,14 @@ pub fn write_destination(control: u16, w: u16, v: u16, state: State) -> State
     }
 }
 
-fn is_comparison(f: u16) -> bool
-    requires { ⌜ f < 8 ⌝ }
-    ensures { λ r. ⌜ r ≡ takes 1 f ⌝ }
+// f is below 6 and not the gap.
+fn is_below_6_but(gap: u16, f: u16) -> bool
+    ensures { λ r. ⌜ r ≡ below6But gap f ⌝ }
 {
-    if f == 2 { false } else { f < 6 }
+    if f == gap { false } else { f < 6 }
 }
 
-// Bit 14, and f where the unit is 1.
+// Bit 14, and f where the unit is 1 or 5.
 pub fn is_assigned(control: u16, w: u16) -> bool
     ensures { λ r. ⌜ r ≡ assigned control w ⌝ }
 {
@@ -191,9 +197,28 @@ pub fn is_assigned(control: u16, w: u16) -> bool
         false
     } else {
         if control / 32 % 8 == 1 {
-            is_comparison(w % 8)
+            is_below_6_but(2, w % 8)
         } else {
-            true
+            if control / 32 % 8 == 5 {
+                is_below_6_but(3, w % 8)
+            } else {
+                true
+            }
         }
+    }
+}
+
+// The unit is 5, f is 4 or 5, and the second operand is zero.
+pub fn divides_by_zero(control: u16, w: u16, state: State) -> bool
+    ensures { λ r. ⌜ r ≡ zeroDivisor control w (R state (b-of w)) ⌝ }
+{
+    if control / 32 % 8 == 5 {
+        if w % 8 / 2 == 2 {
+            second_operand(control, w, state.rb(w)) == 0
+        } else {
+            false
+        }
+    } else {
+        false
     }
 }

@@ -1,27 +1,30 @@
-// The step by a control word: everything but the operands, and f in units 0 and 1, is learnt from the control word.
+// The step by a control word: everything but the operands, and f in units 0, 1 and 5, is learnt from the control word.
 ghost use mathlib.Core.Path.{_≡_};
 ghost use mathlib.Core.Bool.{true};
 ghost use lib.Dec.{leb};
 ghost use lib.ListN.{length};
-ghost use Rattle.word.specs.Word.{pick};
 ghost use Rattle.machine.specs.Held.{held, Ready, StepMeets};
-ghost use Rattle.control.specs.Control.{assigned, writesPort, controlStep};
-ghost use Rattle.datapath.specs.Parts.{Lent, stateAfter, stopOf, isResult};
+ghost use Rattle.control.specs.Control.{writesPort, controlStep};
+ghost use Rattle.datapath.specs.Parts.{Lent, stopOf, resultAnswer, isResult};
 use machine::State;
 use machine::Stepped;
 
 mod fields;
 mod groups;
 
-// Why w is not stepped by a control word: 1 unassigned, 2 a port write and the log is full; 0 where it is.
-fn stop_of(control: u16, w: u16, full: bool) -> u8
-    ensures { λ r. ⌜ r ≡ stopOf control w full ⌝ }
+// Why w is not stepped by a control word: 1 unassigned, 3 a zero divisor, 2 a port write and the log is full; 0 where it is.
+fn stop_of(control: u16, w: u16, state: State, full: bool) -> u8
+    ensures { λ r. ⌜ r ≡ stopOf control w state full ⌝ }
 {
     if fields::is_assigned(control, w) {
-        if fields::writes_port(control) & full {
-            2
+        if fields::divides_by_zero(control, w, state) {
+            3
         } else {
-            0
+            if fields::writes_port(control) & full {
+                2
+            } else {
+                0
+            }
         }
     } else {
         1
@@ -40,7 +43,7 @@ fn performed(
     entries: usize,
 ) -> Stepped
     requires { ⌜ Ready (held state (now memory) (now inputs) (now outputs) (now log) entries) ⌝ }
-    requires { ⌜ stopOf control w (leb (length (now log)) entries) ≡ 0 ⌝ }
+    requires { ⌜ stopOf control w state (leb (length (now log)) entries) ≡ 0 ⌝ }
     ensures { λ r. ⌜ StepMeets (controlStep control w) (writesPort control) (held state (now (memory .entry)) (now (inputs .entry)) (now (outputs .entry)) (now (log .entry)) entries) (r .stop) (held (r .state) (now (memory .exit)) (now (inputs .exit)) (now (outputs .exit)) (now (log .exit)) (r .entries)) ⌝ }
 {
     let x = state.ra(w);
@@ -70,7 +73,7 @@ fn field_step(
     requires { ⌜ Ready (held state (now memory) (now inputs) (now outputs) (now log) entries) ⌝ }
     ensures { λ r. ⌜ StepMeets (controlStep control w) (writesPort control) (held state (now (memory .entry)) (now (inputs .entry)) (now (outputs .entry)) (now (log .entry)) entries) (r .stop) (held (r .state) (now (memory .exit)) (now (inputs .exit)) (now (outputs .exit)) (now (log .exit)) (r .entries)) ⌝ }
 {
-    let stop = stop_of(control, w, log.len() <= entries);
+    let stop = stop_of(control, w, state, log.len() <= entries);
     if stop == 0 {
         performed(control, w, state, memory, inputs, outputs, log, entries)
     } else {
@@ -114,10 +117,14 @@ fn result_step(
     entries: usize,
 ) -> Stepped
     requires { ⌜ Lent state (now memory) (now inputs) × (isResult control ≡ true) ⌝ }
-    ensures { λ r. ⌜ r ≡ pick (assigned control w) (record { stop = 0; state = stateAfter control w state (now (memory .entry)) (now (inputs .entry)); entries = entries }) (record { stop = 1; state = state; entries = entries }) ⌝ }
+    ensures { λ r. ⌜ r ≡ resultAnswer control w state (now (memory .entry)) (now (inputs .entry)) entries ⌝ }
 {
     if fields::is_assigned(control, w) {
-        Stepped::done(groups::result(control, w, state, memory, inputs), entries)
+        if fields::divides_by_zero(control, w, state) {
+            Stepped::stopped(3, state, entries)
+        } else {
+            Stepped::done(groups::result(control, w, state, memory, inputs), entries)
+        }
     } else {
         Stepped::stopped(1, state, entries)
     }

@@ -6,14 +6,14 @@ use mathlib.Core.Path.{_≡_, refl, ap, _∙_}
 use native.Mathlib.Omega.{arith}
 use borrow.Author.Tests.{eq-eqb, ne-eqb, lt-ltb, le-ltb}
 use lib.IntN.{ℤ}
-use lib.ListN.{getD}
+use lib.ListN.{length, getD}
 use Rattle.kinds.specs.declared.Kind.{Kind}
 use Rattle.kinds.specs.declared.Kind.the-variants.{And}
 use Rattle.kinds.specs.Kinds.{kinds}
 use Rattle.isa.specs.Instructions.{Written, writeOf}
 use Rattle.expression.specs.declared.Value.{Value}
 use Rattle.encoding.specs.declared.Judged.{Judged as Outcome}
-use Rattle.statement.specs.Syntax.{Field, Parts, rowAt, of-row}
+use Rattle.statement.specs.Syntax.{Field, Parts, table, rowAt, of-row}
 use Rattle.encoding.specs.Words.{Judged, bad, gives, odd, numberOf, written, encoded, stated, wordsIn}
 use Rattle.statement.specs.Parts.{shownStatement}
 use Rattle.encoding.specs.Numbers.{shownJudged}
@@ -35,14 +35,14 @@ shows-bad {n = n} l e h = rw (e, ne-eqb n 0 (λ z. omega arith)) (h, refl)
 -- ---- The word of row k
 
 module _ (k a : ℕ) (p : Parts Value) where
-  pub word-row : k ≡ 25 → gives (p .n .word) ≡ encoded k a p
+  pub word-row : k ≡ length kinds → gives (p .n .word) ≡ encoded k a p
   unfolding encoded
-  word-row e = rw (eq-eqb k 25 e)
+  word-row e = rw (eq-eqb k (length kinds) e)
 
-  module _ (n : k ≡ 25 → ⊥) {f : Field} (e : f ≡ rowAt k .field) where
+  module _ (n : k ≡ length kinds → ⊥) {f : Field} (e : f ≡ rowAt k .field) where
     pub odd-row : odd f a (p .n .word) ≡ true → bad 12 ≡ encoded k a p
     unfolding encoded
-    odd-row h = rw (ne-eqb k 25 n, ← e, h)
+    odd-row h = rw (ne-eqb k (length kinds) n, ← e, h)
 
     pub written-row : {kind : Kind} {m : ℤ} {w : Written}
         → odd f a (p .n .word) ≡ false
@@ -52,7 +52,7 @@ module _ (k a : ℕ) (p : Parts Value) where
         → written w ≡ encoded k a p
     unfolding encoded
     written-row h g q s =
-        rw (ne-eqb k 25 n, ← e, h)
+        rw (ne-eqb k (length kinds) n, ← e, h)
         (ap written (s ∙ λ j. writeOf (record { kind = g j; a = p .a; b = p .b; d = p .d; n = q j })))
 
   -- ---- The statement
@@ -65,10 +65,10 @@ module _ (k a : ℕ) (p : Parts Value) where
   unfolding stated
   known-row h = rw h
 
-  pub a-row : {r : Outcome} → k < 26 → Shows r (stated a (of-row k p)) → OneWord k p a r
+  pub a-row : {r : Outcome} → k < length table → Shows r (stated a (of-row k p)) → OneWord k p a r
   unfolding shownStatement wordsIn
-  a-row l s = record { comes-to = rw (lt-ltb k 26 l) (s .0); places = rw (lt-ltb k 26 l) (s .1) }
+  a-row l s = record { comes-to = rw (lt-ltb k (length table) l) (s .0); places = rw (lt-ltb k (length table) l) (s .1) }
 
-  pub no-row : 26 ≤ k → OneWord k p a (record { number = 0; words = 0; word = 0 })
+  pub no-row : length table ≤ k → OneWord k p a (record { number = 0; words = 0; word = 0 })
   unfolding shownStatement shownJudged stated wordsIn
-  no-row h = record { comes-to = rw (le-ltb k 26 h); places = rw (le-ltb k 26 h) }
+  no-row h = record { comes-to = rw (le-ltb k (length table) h); places = rw (le-ltb k (length table) h) }

@@ -2,6 +2,8 @@
 ghost use mathlib.Core.Path.{_≡_};
 ghost use Prim.Native.Nat.{_*_, _<_, _≤_};
 ghost use Rattle.encoding.specs.Words.{distance, odd, numberOf, encoded};
+ghost use lib.ListN.{length};
+ghost use Rattle.statement.specs.Syntax.{table};
 ghost use Rattle.statement.specs.Parts.{shownParts};
 ghost use Rattle.statement.specs.Table.{fieldOf};
 ghost use Rattle.encoding.specs.Numbers.{shownJudged, signedIn, OneWord};
@@ -24,7 +26,7 @@ pub const BAD_NAME: u8 = 11;
 const BAD_VALUE: u8 = 12;
 
 // The row of `.word`.
-const WORD: usize = 25;
+const WORD: usize = 30;
 
 // x, one of 2 * half numbers, as the signed number of the same bits.
 fn signed_in(half: u16, x: u16) -> i16
@@ -94,7 +96,7 @@ fn gives(word: u16) -> Judged
 
 // The word of row k at an address.
 fn encoded(row: usize, address: usize, parts: Parts) -> Judged
-    requires { ⌜ row < 26 ⌝ }
+    requires { ⌜ row < length table ⌝ }
     ensures { λ r. ⌜ (shownJudged r ≡ encoded row address (shownParts parts)) × (r .words ≡ 1) ⌝ }
 {
     let v = parts.n.word;

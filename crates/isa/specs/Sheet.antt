@@ -1,4 +1,5 @@
--- The reference sheet (004): its instruction formats, its table, a line for each of the 25 instructions, and the opcodes.
+-- The reference sheet (004): its instruction formats, its table, a line for each of its 25 instructions, and the opcodes; with the five
+-- instructions of opcode 11 (02, L6).
 use Prim.Native.Nat.{ℕ}
 use mathlib.Core.List.{List, [], _∷_}
 use lib.Dec.{eqb}
@@ -6,7 +7,7 @@ use lib.ListN.{getD}
 use Rattle.word.specs.Fields.{Bits, bits}
 use Rattle.word.specs.Word.{pick}
 use Rattle.kinds.specs.declared.Kind.{Kind}
-use Rattle.kinds.specs.declared.Kind.the-variants.{And, Or, Xor, Not, Add, Sub, Sha, Shl, Cmplt, Cmple, Cmpeq, Cmpltu, Cmpleu, Addi, Ld, St, Ldb, Stb, Jalr, Bz, Bnz, Movi, Movhi, In, Out}
+use Rattle.kinds.specs.declared.Kind.the-variants.{And, Or, Xor, Not, Add, Sub, Sha, Shl, Cmplt, Cmple, Cmpeq, Cmpltu, Cmpleu, Addi, Ld, St, Ldb, Stb, Jalr, Bz, Bnz, Movi, Movhi, In, Out, Mul, Mulh, Mulhu, Div, Divu}
 use Rattle.isa.specs.declared.rows.Entry.{Entry}
 use Rattle.isa.specs.declared.rows.Entry.the-variants.{Unassigned, Assigned}
 
@@ -126,6 +127,16 @@ sheet Movhi = line-n R1-d 9 (E 1) unsigned-n
 sheet In = line-n R1-d 0xA (E 0) unsigned-n
 -- OUT N8, Ra          1010 aaa 1 nnnnnnnn
 sheet Out = line-n R1-a 0xA (E 1) unsigned-n
+-- MUL Rd, Ra, Rb      1011 aaa bbb ddd 000
+sheet Mul = line R3 0xB (F 0)
+-- MULH Rd, Ra, Rb     1011 aaa bbb ddd 001
+sheet Mulh = line R3 0xB (F 1)
+-- MULHU Rd, Ra, Rb    1011 aaa bbb ddd 010
+sheet Mulhu = line R3 0xB (F 2)
+-- DIV Rd, Ra, Rb      1011 aaa bbb ddd 100
+sheet Div = line R3 0xB (F 4)
+-- DIVU Rd, Ra, Rb     1011 aaa bbb ddd 101
+sheet Divu = line R3 0xB (F 5)
 
 -- ---- The opcodes: what tells the instructions of one opcode apart is f, nothing, or e; or the opcode is unassigned.
 
@@ -143,6 +154,10 @@ operationKinds = Assigned And ∷ Assigned Or ∷ Assigned Xor ∷ Assigned Not 
 abbrev pub comparisonKinds : List Entry
 comparisonKinds = Assigned Cmplt ∷ Assigned Cmple ∷ Unassigned ∷ Assigned Cmpeq ∷ Assigned Cmpltu ∷ Assigned Cmpleu ∷ Unassigned ∷ Unassigned ∷ []
 
+-- MUL, MULH, MULHU, -, DIV, DIVU, -, -
+abbrev pub muldivKinds : List Entry
+muldivKinds = Assigned Mul ∷ Assigned Mulh ∷ Assigned Mulhu ∷ Unassigned ∷ Assigned Div ∷ Assigned Divu ∷ Unassigned ∷ Unassigned ∷ []
+
 abbrev pub rows : List Row
 rows =
     -- 0 and 1
@@ -159,8 +174,9 @@ rows =
     ∷ by-e Bz Bnz
     ∷ by-e Movi Movhi
     ∷ by-e In Out
-    -- 11 to 15
-    ∷ unassigned
+    -- 11
+    ∷ by-f muldivKinds
+    -- 12 to 15
     ∷ unassigned
     ∷ unassigned
     ∷ unassigned

@@ -41,7 +41,7 @@ pub struct Layout {
 }
 
 // The form of each kind, by the kind's number.
-const FORMS: [Form; 25] = [
+const FORMS: [Form; 30] = [
     Form::Abd(0x0000), // AND
     Form::Abd(0x0001), // OR
     Form::Abd(0x0002), // XOR
@@ -67,6 +67,11 @@ const FORMS: [Form; 25] = [
     Form::DUnsigned(0x9100), // MOVHI
     Form::DUnsigned(0xA000), // IN
     Form::AUnsigned(0xA100), // OUT
+    Form::Abd(0xB000), // MUL
+    Form::Abd(0xB001), // MULH
+    Form::Abd(0xB002), // MULHU
+    Form::Abd(0xB004), // DIV
+    Form::Abd(0xB005), // DIVU
 ];
 
 fn form_at(number: u8) -> Form

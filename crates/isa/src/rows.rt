@@ -11,16 +11,19 @@ pub enum Entry {
 }
 
 // The tables hold the kinds' numbers, and NO where there is no kind.
-const NO: u8 = 25;
+const NO: u8 = 30;
 
 // Opcode 0 by f: AND, OR, XOR, NOT, ADD, SUB, SHA, SHL; then opcode 1: CMPLT, CMPLE, -, CMPEQ, CMPLTU, CMPLEU, -, -.
 const BY_F: [u8; 16] = [0, 1, 2, 3, 4, 5, 6, 7, 8, 9, NO, 10, 11, 12, NO, NO];
 
-// Opcodes 2 to 15 where e is 0: ADDI, LD, ST, LDB, STB, JALR, BZ, MOVI, IN; none from 11 on.
-const E0: [u8; 14] = [13, 14, 15, 16, 17, 18, 19, 21, 23, NO, NO, NO, NO, NO];
+// Opcode 11 by f: MUL, MULH, MULHU, -, DIV, DIVU, -, -.
+const MULDIV_BY_F: [u8; 8] = [25, 26, 27, NO, 28, 29, NO, NO];
 
-// Opcodes 2 to 15 where e is 1: ADDI, LD, ST, LDB, STB, JALR, BNZ, MOVHI, OUT; none from 11 on.
-const E1: [u8; 14] = [13, 14, 15, 16, 17, 18, 20, 22, 24, NO, NO, NO, NO, NO];
+// Opcodes 2 to 10 where e is 0: ADDI, LD, ST, LDB, STB, JALR, BZ, MOVI, IN.
+const E0: [u8; 9] = [13, 14, 15, 16, 17, 18, 19, 21, 23];
+
+// Opcodes 2 to 10 where e is 1: ADDI, LD, ST, LDB, STB, JALR, BNZ, MOVHI, OUT.
+const E1: [u8; 9] = [13, 14, 15, 16, 17, 18, 20, 22, 24];
 
 // The number of a word's kind, or NO.
 fn number_of(w: u16) -> u8
@@ -30,6 +33,12 @@ fn number_of(w: u16) -> u8
     let f = (w % 8) as usize;
     if op < 2 {
         return BY_F[op * 8 + f];
+    }
+    if op == 11 {
+        return MULDIV_BY_F[f];
+    }
+    if 11 < op {
+        return NO;
     }
     if w / 256 % 2 == 0 {
         E0[op - 2]

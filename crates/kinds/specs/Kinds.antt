@@ -1,13 +1,18 @@
--- The 25 kinds of instruction.
+-- The 30 kinds of instruction.
 use Prim.Native.Nat.{ℕ}
 use mathlib.Core.List.{List, [], _∷_}
+use lib.ListN.{length}
 use Rattle.kinds.specs.declared.Kind.{Kind}
-use Rattle.kinds.specs.declared.Kind.the-variants.{And, Or, Xor, Not, Add, Sub, Sha, Shl, Cmplt, Cmple, Cmpeq, Cmpltu, Cmpleu, Addi, Ld, St, Ldb, Stb, Jalr, Bz, Bnz, Movi, Movhi, In, Out}
+use Rattle.kinds.specs.declared.Kind.the-variants.{And, Or, Xor, Not, Add, Sub, Sha, Shl, Cmplt, Cmple, Cmpeq, Cmpltu, Cmpleu, Addi, Ld, St, Ldb, Stb, Jalr, Bz, Bnz, Movi, Movhi, In, Out, Mul, Mulh, Mulhu, Div, Divu}
 
--- ---- The kinds in the sheet's order, and each one's place in it, from 0 (the numbering is ours).
+-- ---- The kinds in the sheet's order, then opcode 11's (02, L6) by f, and each one's place, from 0 (the numbering is ours).
 
 abbrev pub kinds : List Kind
-kinds = And ∷ Or ∷ Xor ∷ Not ∷ Add ∷ Sub ∷ Sha ∷ Shl ∷ Cmplt ∷ Cmple ∷ Cmpeq ∷ Cmpltu ∷ Cmpleu ∷ Addi ∷ Ld ∷ St ∷ Ldb ∷ Stb ∷ Jalr ∷ Bz ∷ Bnz ∷ Movi ∷ Movhi ∷ In ∷ Out ∷ []
+kinds = And ∷ Or ∷ Xor ∷ Not ∷ Add ∷ Sub ∷ Sha ∷ Shl ∷ Cmplt ∷ Cmple ∷ Cmpeq ∷ Cmpltu ∷ Cmpleu ∷ Addi ∷ Ld ∷ St ∷ Ldb ∷ Stb ∷ Jalr ∷ Bz ∷ Bnz ∷ Movi ∷ Movhi ∷ In ∷ Out ∷ Mul ∷ Mulh ∷ Mulhu ∷ Div ∷ Divu ∷ []
+
+-- how many there are
+abbrev pub kindCount : ℕ
+kindCount = length kinds
 
 abbrev pub kindNumber : Kind → ℕ
 kindNumber And = 0
@@ -35,3 +40,8 @@ kindNumber Movi = 21
 kindNumber Movhi = 22
 kindNumber In = 23
 kindNumber Out = 24
+kindNumber Mul = 25
+kindNumber Mulh = 26
+kindNumber Mulhu = 27
+kindNumber Div = 28
+kindNumber Divu = 29

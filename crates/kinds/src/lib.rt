@@ -5,7 +5,7 @@ ghost use lib.ListN.{length, getD};
 ghost use Rattle.kinds.specs.declared.Kind.the-variants.{And};
 ghost use Rattle.kinds.specs.Kinds.{kinds, kindNumber};
 
-// The 25 kinds of instruction, in the sheet's order.
+// The 30 kinds of instruction: 25 in the sheet's order, then opcode 11's.
 pub enum Kind {
     And,
     Or,
@@ -32,9 +32,17 @@ pub enum Kind {
     Movhi,
     In,
     Out,
+    Mul,
+    Mulh,
+    Mulhu,
+    Div,
+    Divu,
 }
 
-// The kind's place in the sheet's table, from 0.
+// How many kinds there are.
+pub const COUNT: usize = 30;
+
+// The kind's place in that order, from 0.
 pub fn kind_number(kind: Kind) -> u8
     ensures { λ r. ⌜ r ≡ kindNumber kind ⌝ }
 {
@@ -64,11 +72,16 @@ pub fn kind_number(kind: Kind) -> u8
         Kind::Movhi => 22,
         Kind::In => 23,
         Kind::Out => 24,
+        Kind::Mul => 25,
+        Kind::Mulh => 26,
+        Kind::Mulhu => 27,
+        Kind::Div => 28,
+        Kind::Divu => 29,
     }
 }
 
 // The kinds by number.
-const KINDS: [Kind; 25] = [
+const KINDS: [Kind; COUNT] = [
     Kind::And,
     Kind::Or,
     Kind::Xor,
@@ -94,6 +107,11 @@ const KINDS: [Kind; 25] = [
     Kind::Movhi,
     Kind::In,
     Kind::Out,
+    Kind::Mul,
+    Kind::Mulh,
+    Kind::Mulhu,
+    Kind::Div,
+    Kind::Divu,
 ];
 
 // The kind of a number.

@@ -11,7 +11,7 @@ use Rattle.isa.specs.declared.Instruction.{Instruction}
 use Rattle.isa.specs.Instructions.{Read, readOf}
 use Rattle.isa.proofs.Every.{listed}
 use Rattle.token.specs.Scan.{part}
-use Rattle.statement.specs.Syntax.{Field, rowAt}
+use Rattle.statement.specs.Syntax.{Field, table, rowAt}
 use Rattle.statement.specs.Table.{rowText, mnemonicLengths, itemsOf, cell}
 use Rattle.statement.proofs.Tables.{mnemonic-row, short-row, items-row}
 use Rattle.printing.specs.declared.Printed.{Printed}
@@ -19,11 +19,11 @@ use Rattle.printing.specs.Writing.{Wrote}
 use Rattle.printing.proofs.Writing.{_then_, at-most}
 use Rattle.listing.specs.Listing.{itemsText, instructionText, textAs, textOf}
 
-pub row-small : (k : Kind) {row : ℕ} → row ≡ kindNumber k → row < 26
+pub row-small : (k : Kind) {row : ℕ} → row ≡ kindNumber k → row < length table
 row-small k e = omega (arith, listed k .0)
 
 -- a row, and how many bytes its mnemonic has
-module _ {row n : ℕ} (h : row < 26) (l : n ≡ getD mnemonicLengths row 0) where
+module _ {row n : ℕ} (h : row < length table) (l : n ≡ getD mnemonicLengths row 0) where
   pub name-short : n ≤ 6
   name-short = omega (arith, short-row row h)
 

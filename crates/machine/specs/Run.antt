@@ -36,8 +36,8 @@ pub record Outcome : Type 0 where
   pub reason : ℕ
   pub after : Machine
 
--- Before each step, in this order: budget used, stop 0; word unassigned, stop 1; word is OUT and the log has no free
--- place, stop 2.
+-- Before each step, in this order: budget used, stop 0; word unassigned, stop 1; the divisor is zero, stop 3; word is OUT and
+-- the log has no free place, stop 2.
 unfoldable pub runFrom : Stepper → ℕ → ℕ → Machine → Outcome
 runFrom v zero full m = record { reason = 0; after = m }
 runFrom v (suc budget) full m =

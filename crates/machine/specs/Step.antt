@@ -6,6 +6,7 @@ use lib.Dec.{eqb}
 use lib.ListN.{getD}
 use Rattle.word.specs.Fields.{bits, field, opcode, a-of, b-of, e-of, f-of, N6, N8}
 use Rattle.word.specs.Word.{pick, add, clear0, SE, operation, comparison}
+use Rattle.muldiv.specs.Muldiv.{muldiv}
 use Rattle.machine.specs.Machine.{Machine, R, putR, putPC, count, onState, putD, putO, wordAt, putWord, putByte}
 
 -- ---- What the rules are made of
@@ -27,7 +28,7 @@ A w m = add (Ra w m) (SE 6 (N6 w))
 abbrev pub A' : ℕ → Machine → ℕ
 A' w m = clear0 (A w m)
 
--- the destination d is 5..3 for opcodes 0 and 1, 8..6 for 2, 3, 5, 7, and 11..9 for 9 and IN
+-- the destination d is 5..3 for opcodes 0, 1 and 11, 8..6 for 2, 3, 5, 7, and 11..9 for 9 and IN
 abbrev pub d5-3 : ℕ → ℕ
 d5-3 w = field (bits 5 3) w
 
@@ -106,10 +107,16 @@ input w m = write (d11-9 w) (getD (m .I) (N8 w) 0) m
 unfoldable pub output : Rule
 output w m = putO (N8 w) (Ra w m) m
 
--- ---- The table of opcodes: a rule for the words with one of these f, one rule, one by e, or none.
+-- MUL, MULH, MULHU, DIV, DIVU by f
+unfoldable pub multiply : Rule
+multiply w m = write (d5-3 w) (muldiv (f-of w) (Ra w m) (Rb w m)) m
+
+-- ---- The table of opcodes: a rule for the words with one of these f; the same, where those with one of the second f divide by Rb;
+-- one rule; one by e; or none.
 
 pub data Row : Type 0 where
   by-f : List ℕ → Rule → Row
+  by-f-dividing : List ℕ → List ℕ → Rule → Row
   one : Rule → Row
   by-e : Rule → Rule → Row
   none : Row
@@ -130,17 +137,19 @@ rows =
     ∷ by-e bz bnz
     ∷ by-e movi movhi
     ∷ by-e input output
-    -- 11 to 15 unassigned
-    ∷ none
+    -- 11
+    ∷ by-f-dividing (0 ∷ 1 ∷ 2 ∷ 4 ∷ 5 ∷ []) (4 ∷ 5 ∷ []) multiply
+    -- 12 to 15 unassigned
     ∷ none
     ∷ none
     ∷ none
     ∷ none
     ∷ []
 
--- the rule of a word, or that it is unassigned
+-- the rule of a word; one that divides by Rb; or that the word is unassigned
 pub data Choice : Type 0 where
   rule : Rule → Choice
+  division : Rule → Choice
   unassigned : Choice
 
 abbrev pub among : ℕ → List ℕ → Bool
@@ -149,6 +158,7 @@ among f (g ∷ gs) = eqb f g || among f gs
 
 abbrev pub inRow : Row → ℕ → ℕ → Choice
 inRow (by-f fs r) e f = pick (among f fs) (rule r) unassigned
+inRow (by-f-dividing fs gs r) e f = pick (among f fs) (pick (among f gs) (division r) (rule r)) unassigned
 inRow (one r) e f = rule r
 inRow (by-e r₀ r₁) e f = rule (pick (eqb e 0) r₀ r₁)
 inRow none e f = unassigned
@@ -171,11 +181,15 @@ pub data Next : Type 0 where
   cannot : ℕ → Next
   to : Machine → Next
 
--- If w is unassigned, no step is possible (stop 1). Otherwise the rule is done and n grows by 1. Where the rule doesn't
--- name PC, PC becomes PC+2.
+-- The rule is done and n grows by 1. Where the rule doesn't name PC, PC becomes PC+2.
+abbrev pub doing : Rule → ℕ → Machine → Next
+doing r w m = to (onState count (r w (jump (add (PC m) 2) m)))
+
+-- If w is unassigned, no step is possible (stop 1), nor where the divisor is zero (stop 3). Otherwise the rule is done.
 abbrev pub stepBy : Choice → ℕ → Machine → Next
 stepBy unassigned w m = cannot 1
-stepBy (rule r) w m = to (onState count (r w (jump (add (PC m) 2) m)))
+stepBy (division r) w m = pick (eqb (Rb w m) 0) (cannot 3) (doing r w m)
+stepBy (rule r) w m = doing r w m
 
 unfoldable pub step : Machine → Next
 step m = stepBy (choice (fetched m)) (fetched m) m

@@ -15,7 +15,7 @@ pub struct State {
 }
 
 // What an engine's step hands back: stop 0, the register state, and how many places of the log are filled; or why it can't be
-// made (1 the word is unassigned, 2 it writes a port and the log is full), with both as they were.
+// made (1 the word is unassigned, 3 its divisor is zero, 2 it writes a port and the log is full), with both as they were.
 pub struct Stepped {
     pub stop: u8,
     pub state: State,

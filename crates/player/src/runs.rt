@@ -60,7 +60,7 @@ pub fn kept_after(kept: State, reply: Reply) -> State {
         return kept;
     }
     let mut state = reply.state;
-    if reply.stop == 1 {
+    if (reply.stop == 1) | (reply.stop == 3) {
         state.pc = wrapping_add_u16(state.pc, 2);
     }
     state

@@ -170,10 +170,10 @@ abbrev pub sisaWord : Written → SisaWord
 sisaWord (word w) = record { refusal = 0; word = w }
 sisaWord (write-refused k) = record { refusal = k; word = 0 }
 
--- A kind over 24 is refused with 7; the others are the sheet's, in its order.
+-- A kind over 29 is refused with 7; the others are the kinds, in their order.
 unfoldable pub sisaWrite : ℕ → ℕ → ℕ → ℕ → ℤ → SisaWord
 sisaWrite kind a b d n =
-    sisaWord (pick (leb kind 24) (writeOf (record { kind = getD kinds kind And; a = a; b = b; d = d; n = n })) (write-refused 7))
+    sisaWord (pick (leb kind 29) (writeOf (record { kind = getD kinds kind And; a = a; b = b; d = d; n = n })) (write-refused 7))
 
 -- ---- sisa_feed
 

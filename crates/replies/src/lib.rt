@@ -218,11 +218,11 @@ fn word(writing: Writing) -> SisaWord
     }
 }
 
-// The instruction that has these numbers, written. There are 25 kinds.
+// The instruction that has these numbers, written. There are 30 kinds.
 pub fn write(kind: u8, a: u8, b: u8, d: u8, n: i16) -> SisaWord
     ensures { λ r. ⌜ r ≡ sisaWrite kind a b d n ⌝ }
 {
-    if 24 < kind {
+    if 29 < kind {
         return SisaWord {
             refusal: refusal::number(Refusal::InstructionPart),
             word: 0,

@@ -2,6 +2,7 @@
 -- Assumes nothing.
 use mathlib.Core.Path.{_≡_, refl, sym, ap, ap₂, _∙_}
 use mathlib.Core.Bool.{Bool, true, false, Bool·beq}
+use mathlib.Core.List.{[], _∷_}
 use Prim.Native.Nat.{ℕ, _/_, _%_, _<_}
 use native.Mathlib.Omega.{arith}
 use borrow.Author.Tests.{lt-ltb, eq-eqb, ne-eqb}
@@ -11,67 +12,86 @@ use Rattle.word.specs.Fields.{opcode, e-of, f-of}
 use Rattle.word.specs.Word.{pick}
 use Rattle.word.proofs.Computed.{all, all-at}
 use Rattle.word.proofs.Tests.{same-test}
-use Rattle.machine.specs.Step.{Rule, Row, by-f, one, by-e, none, among, rows, Choice, rule, unassigned, inRow, choice, compare, input, output}
+use Rattle.machine.specs.Step.{Row, by-f, by-f-dividing, one, by-e, none, among, rows, Choice, rule, division, unassigned, inRow, choice, input, output}
 use Rattle.machine.specs.Run.{isOut}
-use Rattle.rules.specs.Parts.{isComparison}
+use Rattle.rules.specs.Parts.{below6But}
 use Rattle.rules.proofs.Values.{f-is}
 
 -- ---- Which words are assigned: the code's test, and that the rows say the same, by one computed test
 
-abbrev isRule : Choice → Bool
-isRule (rule r) = true
-isRule unassigned = false
+abbrev isAssigned : Choice → Bool
+isAssigned (rule r) = true
+isAssigned (division r) = true
+isAssigned unassigned = false
 
 abbrev assignedBy : ℕ → ℕ → Bool
-assignedBy op f = pick (ltb 10 op) false (pick (eqb op 1) (isComparison f) true)
+assignedBy op f = pick (ltb 11 op) false (pick (eqb op 1) (below6But 2 f) (pick (eqb op 11) (below6But 3 f) true))
 
 abbrev agrees : ℕ → ℕ → ℕ → Bool
-agrees e op f = Bool·beq (isRule (inRow (getD rows op none) e f)) (assignedBy op f)
+agrees e op f = Bool·beq (isAssigned (inRow (getD rows op none) e f)) (assignedBy op f)
 
 test : (e : ℕ) → T (all 16 (λ op. all 8 (agrees e op)))
 unfolding all
 test e = tt
 
-assigned-is : (w : ℕ) → w < 65536 → isRule (inRow (getD rows (opcode w) none) (e-of w) (f-of w)) ≡ assignedBy (opcode w) (f-of w)
+assigned-is : (w : ℕ) → w < 65536 → isAssigned (inRow (getD rows (opcode w) none) (e-of w) (f-of w)) ≡ assignedBy (opcode w) (f-of w)
 assigned-is w l =
     let row = all-at 16 (λ op. all 8 (agrees (e-of w) op)) (test (e-of w)) (opcode w) (omega arith) in
     same-test _ _ (all-at 8 (agrees (e-of w) (opcode w)) row (f-of w) (omega arith))
 
+-- the f by which opcode 11 divides, as the code tests it
+pub divisions : (w : ℕ) → eqb (w % 8 / 2) 2 ≡ among (f-of w) (4 ∷ 5 ∷ [])
+unfolding all
+divisions w = same-test _ _ (all-at 8 (λ f. Bool·beq (eqb (f / 2) 2) (among f (4 ∷ 5 ∷ []))) tt (w % 8) (omega arith)) ∙ ap (λ f. among f (4 ∷ 5 ∷ [])) (f-is w)
+
 -- ---- The choice
 
--- the rule of a row's assigned words with this e
-abbrev ruleIn : Row → ℕ → Rule
-ruleIn (by-f fs r) e = r
-ruleIn (one r) e = r
-ruleIn (by-e r₀ r₁) e = pick (eqb e 0) r₀ r₁
-ruleIn none e = λ w m. m
+-- of a row's assigned words with this e and f
+abbrev choiceIn : Row → ℕ → ℕ → Choice
+choiceIn (by-f fs r) e f = rule r
+choiceIn (by-f-dividing fs gs r) e f = pick (among f gs) (division r) (rule r)
+choiceIn (one r) e f = rule r
+choiceIn (by-e r₀ r₁) e f = rule (pick (eqb e 0) r₀ r₁)
+choiceIn none e f = unassigned
 
-in-row : (x : Row) (e f : ℕ) → inRow x e f ≡ pick (isRule (inRow x e f)) (rule (ruleIn x e)) unassigned
+in-row : (x : Row) (e f : ℕ) → inRow x e f ≡ pick (isAssigned (inRow x e f)) (choiceIn x e f) unassigned
 in-row (by-f fs r) e f = by-test (among f fs)
   where
-    by-test : (t : Bool) → pick t (rule r) unassigned ≡ pick (isRule (pick t (rule r) unassigned)) (rule r) unassigned
+    by-test : (t : Bool) → pick t (rule r) unassigned ≡ pick (isAssigned (pick t (rule r) unassigned)) (rule r) unassigned
     by-test true = refl
     by-test false = refl
+in-row (by-f-dividing fs gs r) e f = by-tests (among f fs) (among f gs)
+  where
+    by-tests : (t s : Bool)
+        → pick t (pick s (division r) (rule r)) unassigned
+        ≡ pick (isAssigned (pick t (pick s (division r) (rule r)) unassigned)) (pick s (division r) (rule r)) unassigned
+    by-tests true true = refl
+    by-tests true false = refl
+    by-tests false s = refl
 in-row (one r) e f = refl
 in-row (by-e r₀ r₁) e f = refl
 in-row none e f = refl
 
 module _ (op w : ℕ) (small : w < 65536) (has : w / 4096 ≡ op) where
-  pub chosen : choice w ≡ pick (assignedBy op (f-of w)) (rule (ruleIn (getD rows op none) (e-of w))) unassigned
+  pub chosen : choice w ≡ pick (assignedBy op (f-of w)) (choiceIn (getD rows op none) (e-of w) (f-of w)) unassigned
   unfolding choice
   chosen =
       let o : opcode w ≡ op = omega arith in
       in-row (getD rows (opcode w) none) (e-of w) (f-of w)
-      ∙ ap₂ (λ t i. pick t (rule (ruleIn (getD rows i none) (e-of w))) unassigned) (assigned-is w small ∙ ap (λ i. assignedBy i (f-of w)) o) o
+      ∙ ap₂ (λ t i. pick t (choiceIn (getD rows i none) (e-of w) (f-of w)) unassigned) (assigned-is w small ∙ ap (λ i. assignedBy i (f-of w)) o) o
 
-  pub past-10 : 10 < op → choice w ≡ unassigned
-  past-10 l = chosen ∙ ap (λ t. pick (pick t false (pick (eqb op 1) (isComparison (f-of w)) true)) (rule (ruleIn (getD rows op none) (e-of w))) unassigned) (lt-ltb 10 op l)
+  pub past-11 : 11 < op → choice w ≡ unassigned
+  past-11 l =
+      chosen
+      ∙ ap (λ t. pick (pick t false (pick (eqb op 1) (below6But 2 (f-of w)) (pick (eqb op 11) (below6But 3 (f-of w)) true))) (choiceIn (getD rows op none) (e-of w) (f-of w)) unassigned)
+      (lt-ltb 11 op l)
 
--- opcode 1
-pub by-comparison : (w : ℕ) {t : Bool} → w < 65536 → w / 4096 ≡ 1 → isComparison (w % 8) ≡ t → choice w ≡ pick t (rule compare) unassigned
-by-comparison w small has e = chosen 1 w small has ∙ ap (λ t. pick t (rule compare) unassigned) (ap isComparison (sym (f-is w)) ∙ e)
+-- an opcode with a gap among its f, where the code's test says t
+pub by-its-f : (op gap w : ℕ) (x : Choice) {t : Bool} → w < 65536 → w / 4096 ≡ op → below6But gap (w % 8) ≡ t
+    → pick (assignedBy op (f-of w)) (choiceIn (getD rows op none) (e-of w) (f-of w)) unassigned ≡ pick (below6But gap (f-of w)) x unassigned
+    → choice w ≡ pick t x unassigned
+by-its-f op gap w x small has e s = chosen op w small has ∙ s ∙ ap (λ t. pick t x unassigned) (ap (below6But gap) (sym (f-is w)) ∙ e)
 
--- opcode 10, and whether the word is OUT
 module _ (w : ℕ) (small : w < 65536) where
   pub at-no-port : (w / 4096 ≡ 10 → ⊥) → isOut w ≡ false
   at-no-port n = rw (ne-eqb (opcode w) 10 (λ e. n (omega arith)))

@@ -1,7 +1,7 @@
 -- From what a rule does to registers and data memory to the answer of the step: a law for each kind of effect.
 -- Assumes nothing.
 use mathlib.Core.Path.{_≡_, refl, sym, ap, ap₂, _∙_}
-use mathlib.Core.Bool.{Bool, true, false}
+use mathlib.Core.Bool.{Bool, true, false, _&&_}
 use mathlib.Core.List.{List}
 use Prim.Native.Nat.{ℕ, _+_, _*_, _%_}
 use lib.Dec.{eqb}
@@ -10,10 +10,10 @@ use Rattle.word.specs.Word.{pick, add, SE}
 use Rattle.machine.specs.declared.State.{State}
 use Rattle.machine.specs.declared.Stepped.{Stepped}
 use Rattle.machine.specs.Machine.{Machine, putR, putPC, count, onState, putD}
-use Rattle.machine.specs.Step.{PC, d11-9, write, jump, Rule, rule, unassigned, choice, stepBy, bz, bnz, movi, movhi}
+use Rattle.machine.specs.Step.{PC, d11-9, write, jump, Rule, Choice, rule, division, unassigned, choice, cannot, doing, stepBy, bz, bnz, movi, movhi}
 use Rattle.machine.specs.Run.{Outcome}
 use Rattle.machine.specs.Held.{outcomeOf}
-use Rattle.rules.specs.Parts.{advancedOf, RuleMeets, raOf, targetOf, branchOf, moveOf}
+use Rattle.rules.specs.Parts.{advancedOf, RuleMeets, raOf, rbOf, targetOf, branchOf, moveOf}
 
 -- PC = PC+2 is done
 abbrev on : Machine → Machine
@@ -27,6 +27,19 @@ answer stop t k = record { stop = stop; state = t; entries = k }
 abbrev comes : ℕ → State → List ℕ → Machine → Outcome
 comes stop t D m = record { reason = stop; after = onState (λ u. t) (putD D m) }
 
+-- in the state s the choice y does the rule x
+abbrev Does : ℕ → State → Choice → Rule → Type 0
+Does w s y x = (m : Machine) → m .state ≡ s → stepBy y w m ≡ doing x w m
+
+-- a rule that divides by Rb where t says so
+dividing : (w : ℕ) (s : State) (x : Rule) (t : Bool) {z : Bool} → (t && eqb (rbOf w s) 0) ≡ z
+    → (m : Machine) → m .state ≡ s → stepBy (pick t (division x) (rule x)) w m ≡ pick z (cannot 3) (doing x w m)
+dividing w s x t zero m es = by-test t ∙ ap (λ b. pick b (cannot 3) (doing x w m)) (ap (λ u. t && eqb (rbOf w u) 0) es ∙ zero)
+  where
+    by-test : (t : Bool) → stepBy (pick t (division x) (rule x)) w m ≡ pick (t && eqb (rbOf w (m .state)) 0) (cannot 3) (doing x w m)
+    by-test true = refl
+    by-test false = refl
+
 module _ {w : ℕ} {s : State} {D : List ℕ} {k : ℕ} {r : Stepped} where
   meets : {stop : ℕ} {t : State} {D′ : List ℕ}
       → ((m : Machine) → m .state ≡ s → m .D ≡ D → outcomeOf m (stepBy (choice w) w m) ≡ comes stop t D′ m)
@@ -39,7 +52,14 @@ module _ {w : ℕ} {s : State} {D : List ℕ} {k : ℕ} {r : Stepped} where
   pub stopped : choice w ≡ unassigned → r ≡ answer 1 s k → RuleMeets w s D k r D
   stopped q er = meets (λ m es eD. ap (λ x. outcomeOf m (stepBy x w m)) q ∙ ap₂ (λ u E. comes 1 u E m) es eD) er
 
-  module _ {next : State} (x : Rule) (q : choice w ≡ rule x) (advanced : next ≡ advancedOf s) where
+  -- the divisor is zero
+  pub divided-by-zero : (x : Rule) (t : Bool) → choice w ≡ pick t (division x) (rule x) → (t && eqb (rbOf w s) 0) ≡ true → r ≡ answer 3 s k → RuleMeets w s D k r D
+  divided-by-zero x t q z er =
+      meets
+      (λ m es eD. ap (λ y. outcomeOf m (stepBy y w m)) q ∙ ap (outcomeOf m) (dividing w s x t z m es) ∙ ap₂ (λ u E. comes 3 u E m) es eD)
+      er
+
+  module _ {next : State} (x : Rule) {y : Choice} (q : choice w ≡ y) (does : Does w s y x) (advanced : next ≡ advancedOf s) where
     leaves : (F : State → State → List ℕ → State) (G : State → List ℕ → List ℕ) {t : State} {D′ : List ℕ}
         → ((m : Machine) → onState count (x w (on m)) ≡ onState (λ u. F u (advancedOf u) (m .D)) (putD (G (m .state) (m .D)) m))
         → t ≡ F s next D
@@ -50,6 +70,7 @@ module _ {w : ℕ} {s : State} {D : List ℕ} {k : ℕ} {r : Stepped} where
         meets
         (λ m es eD.
         ap (λ y. outcomeOf m (stepBy y w m)) q
+        ∙ ap (outcomeOf m) (does m es)
         ∙ ap (λ after. record { reason = 0; after = after }) (p m)
         ∙ ap₂ (λ t′ D″. comes 0 t′ D″ m)
         (ap₂ (λ u E. F u (advancedOf u) E) es eD ∙ ap (λ n. F s n D) (sym advanced) ∙ sym et)
@@ -57,12 +78,20 @@ module _ {w : ℕ} {s : State} {D : List ℕ} {k : ℕ} {r : Stepped} where
         er
 
     -- the rule writes a register
+    wrote-by : (d : ℕ) (value : State → List ℕ → ℕ) {t : State}
+        → ((m : Machine) → x w (on m) ≡ write d (value (m .state) (m .D)) (on m))
+        → t ≡ putR d (value s D) next
+        → r ≡ answer 0 t k
+        → RuleMeets w s D k r D
+    wrote-by d value p et = leaves (λ u n E. putR d (value u E) n) (λ u E. E) (λ m. ap (onState count) (p m)) et refl
+
+  module _ {next : State} (x : Rule) (q : choice w ≡ rule x) (advanced : next ≡ advancedOf s) where
     pub wrote : (d : ℕ) (value : State → List ℕ → ℕ) {t : State}
         → ((m : Machine) → x w (on m) ≡ write d (value (m .state) (m .D)) (on m))
         → t ≡ putR d (value s D) next
         → r ≡ answer 0 t k
         → RuleMeets w s D k r D
-    wrote d value p et = leaves (λ u n E. putR d (value u E) n) (λ u E. E) (λ m. ap (onState count) (p m)) et refl
+    wrote = wrote-by x q (λ m es. refl) advanced
 
     -- the rule writes the data
     pub stored : (put : State → List ℕ → List ℕ) {D′ : List ℕ}
@@ -70,7 +99,7 @@ module _ {w : ℕ} {s : State} {D : List ℕ} {k : ℕ} {r : Stepped} where
         → D′ ≡ put s D
         → r ≡ answer 0 next k
         → RuleMeets w s D k r D′
-    stored put p eD′ = leaves (λ u n E. n) put (λ m. ap (onState count) (p m)) refl eD′
+    stored put p eD′ = leaves x q (λ m es. refl) advanced (λ u n E. n) put (λ m. ap (onState count) (p m)) refl eD′
 
     -- the rule names PC
     pub jumped : (F : State → State → State) {t : State}
@@ -78,7 +107,16 @@ module _ {w : ℕ} {s : State} {D : List ℕ} {k : ℕ} {r : Stepped} where
         → t ≡ F s next
         → r ≡ answer 0 t k
         → RuleMeets w s D k r D
-    jumped F p et = leaves (λ u n E. F u n) (λ u E. E) p et refl
+    jumped F p et = leaves x q (λ m es. refl) advanced (λ u n E. F u n) (λ u E. E) p et refl
+
+  -- the same of a register, by a rule that may divide, where the divisor is not zero
+  pub divided : {next : State} (x : Rule) (t : Bool) → choice w ≡ pick t (division x) (rule x) → (t && eqb (rbOf w s) 0) ≡ false → next ≡ advancedOf s
+      → (d : ℕ) (value : State → List ℕ → ℕ) {u : State}
+      → ((m : Machine) → x w (on m) ≡ write d (value (m .state) (m .D)) (on m))
+      → u ≡ putR d (value s D) next
+      → r ≡ answer 0 u k
+      → RuleMeets w s D k r D
+  divided x t q z = wrote-by x q (dividing w s x t z)
 
 -- ---- The rules by e
 

@@ -1,11 +1,11 @@
 -- What the private functions of a step promise. Nothing here is promised to a caller.
 use mathlib.Core.Path.{_≡_}
-use mathlib.Core.Bool.{Bool, not}
+use mathlib.Core.Bool.{Bool, false, _&&_}
 use mathlib.Core.List.{List, [], _∷_}
 use Prim.Native.Nat.{ℕ, _+_, _*_, _/_, _%_}
-use lib.Dec.{eqb}
+use lib.Dec.{eqb, ltb}
 use lib.ListN.{getD}
-use Rattle.word.specs.Fields.{a-of, b-of, e-of, N6, N8}
+use Rattle.word.specs.Fields.{a-of, b-of, e-of, f-of, N6, N8}
 use Rattle.word.specs.Word.{pick, add, clear0, SE}
 use Rattle.machine.specs.declared.State.{State}
 use Rattle.machine.specs.declared.Stepped.{Stepped}
@@ -30,9 +30,16 @@ pub record RuleMeets (w : ℕ) (s : State) (D : List ℕ) (k : ℕ) (r : Stepped
   pub machine :
       (m : Machine) → m .state ≡ s → m .D ≡ D → outcomeOf m (stepBy (choice w) w m) ≡ record { reason = r .stop; after = onState (λ u. r .state) (putD D′ m) }
 
--- the f of opcode 1 that are assigned: all but 2, 6, 7
-abbrev pub isComparison : ℕ → Bool
-isComparison f = not (among f (2 ∷ 6 ∷ 7 ∷ []))
+-- f is below 6 and not the gap: the assigned f of opcode 1 (gap 2) and of opcode 11 (gap 3)
+abbrev pub below6But : ℕ → ℕ → Bool
+below6But gap f = pick (eqb f gap) false (ltb f 6)
+
+-- w, of opcode 11, divides; and Rb is zero
+abbrev pub isDivision : ℕ → Bool
+isDivision w = among (f-of w) (4 ∷ 5 ∷ [])
+
+abbrev pub dividesByZero : ℕ → State → Bool
+dividesByZero w s = isDivision w && eqb (R s (b-of w)) 0
 
 -- ---- What a rule writes, read from the state s before the step and the data D
 

@@ -19,8 +19,24 @@ fn comparison(w: u16, state: State, next: State, entries: usize) -> Stepped
     requires { ⌜ Begun 1 w state next ⌝ }
     ensures { λ r. ⌜ ((D : List ℕ) → RuleMeets w state D entries r D) ⌝ }
 {
-    if rule::is_comparison(w % 8) {
+    if rule::is_assigned(2, w % 8) {
         Stepped::done(rule::compared(w, state, next), entries)
+    } else {
+        Stepped::stopped(1, state, entries)
+    }
+}
+
+// The step of a word with opcode 11: unassigned where f is 3, 6 or 7.
+fn product(w: u16, state: State, next: State, entries: usize) -> Stepped
+    requires { ⌜ Begun 11 w state next ⌝ }
+    ensures { λ r. ⌜ ((D : List ℕ) → RuleMeets w state D entries r D) ⌝ }
+{
+    if rule::is_assigned(3, w % 8) {
+        if rule::divides_by_zero(w, state) {
+            Stepped::stopped(3, state, entries)
+        } else {
+            Stepped::done(rule::multiplied(w, state, next), entries)
+        }
     } else {
         Stepped::stopped(1, state, entries)
     }
@@ -50,6 +66,7 @@ fn by_rule(op: u16, w: u16, state: State, next: State, memory: &mut [u8], entrie
         7 => Stepped::done(rule::link(w, state, next), entries),
         8 => Stepped::done(rule::branch(w, state, next), entries),
         9 => Stepped::done(rule::moved(w, state, next), entries),
+        11 => product(w, state, next, entries),
         _ => Stepped::stopped(1, state, entries),
     }
 }

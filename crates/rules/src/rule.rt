@@ -3,9 +3,10 @@ ghost use mathlib.Core.Path.{_≡_};
 ghost use lib.ListN.{length, getD};
 ghost use Rattle.word.specs.Fields.{f-of, N8};
 ghost use Rattle.word.specs.Word.{operation, comparison, clear0};
+ghost use Rattle.muldiv.specs.Muldiv.{muldiv};
 ghost use Rattle.machine.specs.Machine.{putR, putWord, putByte};
 ghost use Rattle.machine.specs.Step.{d5-3, d8-6, d11-9};
-ghost use Rattle.rules.specs.Parts.{isComparison, raOf, rbOf, sumOf, wordOf, byteOf, branchOf, linkOf, moveOf};
+ghost use Rattle.rules.specs.Parts.{below6But, dividesByZero, raOf, rbOf, sumOf, wordOf, byteOf, branchOf, linkOf, moveOf};
 use machine::Address;
 use machine::Port;
 use machine::State;
@@ -17,16 +18,11 @@ pub fn operated(w: u16, state: State, next: State) -> State
     next.with_register(w / 8, word::operate(w % 8, state.ra(w), state.rb(w)))
 }
 
-// The f of opcode 1 that are assigned.
-pub fn is_comparison(f: u16) -> bool
-    ensures { λ r. ⌜ r ≡ isComparison f ⌝ }
+// f is below 6 and not the gap: the assigned f of opcode 1 (gap 2) and of opcode 11 (gap 3).
+pub fn is_assigned(gap: u16, f: u16) -> bool
+    ensures { λ r. ⌜ r ≡ below6But gap f ⌝ }
 {
-    match f {
-        2 => false,
-        6 => false,
-        7 => false,
-        _ => true,
-    }
+    if f == gap { false } else { f < 6 }
 }
 
 // Opcode 1.
@@ -34,6 +30,24 @@ pub fn compared(w: u16, state: State, next: State) -> State
     ensures { λ r. ⌜ r ≡ putR (d5-3 w) (comparison (f-of w) (raOf w state) (rbOf w state)) next ⌝ }
 {
     next.with_register(w / 8, word::compare(w % 8, state.ra(w), state.rb(w)))
+}
+
+// DIV or DIVU, and Rb is zero.
+pub fn divides_by_zero(w: u16, state: State) -> bool
+    ensures { λ r. ⌜ r ≡ dividesByZero w state ⌝ }
+{
+    if w % 8 / 2 == 2 {
+        state.rb(w) == 0
+    } else {
+        false
+    }
+}
+
+// Opcode 11.
+pub fn multiplied(w: u16, state: State, next: State) -> State
+    ensures { λ r. ⌜ r ≡ putR (d5-3 w) (muldiv (f-of w) (raOf w state) (rbOf w state)) next ⌝ }
+{
+    next.with_register(w / 8, muldiv::compute(w % 8, state.ra(w), state.rb(w)))
 }
 
 // Ra+SE(N6): ADDI's result, and the address of a load or a store.

@@ -11,7 +11,7 @@ use usage::Usage;
 
 #[repr(C)]
 pub struct Sheet {
-    pub kinds: [u64; 25],
+    pub kinds: [u64; kinds::COUNT],
     pub reads: [u64; 8],
     pub writes: [u64; 8],
     pub runs: u16,
@@ -33,7 +33,7 @@ impl Sheet {
         ensures { λ r. ⌜ r ≡ empty ⌝ }
     {
         Self {
-            kinds: [0; 25],
+            kinds: [0; kinds::COUNT],
             reads: [0; 8],
             writes: [0; 8],
             runs: 0,

@@ -21,24 +21,24 @@ use Rattle.statement.proofs.Tables.{mnemonicIn, mnemonic-row, some-row}
 -- m is none of the first k mnemonics
 pub record Searching (m : Token) (k : ℕ) : Type 0 where
   pub left : rowOf m ≡ k + rowFrom (drop k table) m
-  pub within : k ≤ 26
+  pub within : k ≤ length table
 
 pub searching : {m : Token} → Searching m 0
 unfolding rowOf
 searching = record { left = omega arith; within = omega arith }
 
-pub searched : {m : Token} {k : ℕ} → Searching m k → 26 ≤ k → 26 ≡ rowOf m
+pub searched : {m : Token} {k : ℕ} → Searching m k → length table ≤ k → length table ≡ rowOf m
 unfolding rowFrom
 searched {m} {k} s h =
-    let e : k ≡ 26 = omega arith in
+    let e : k ≡ length table = omega arith in
     sym (s .left ∙ ap (λ n. n + rowFrom (drop n table) m) e)
 
 -- t: whether m is the mnemonic that stands in row k of the text
-module _ {m : Token} {k : ℕ} (s : Searching m k) (l : k < 26) {rows : List ℕ} (e : rows ≡ rowText) {t : Bool}
+module _ {m : Token} {k : ℕ} (s : Searching m k) (l : k < length table) {rows : List ℕ} (e : rows ≡ rowText) {t : Bool}
     (same : t ≡ alike m (mnemonicIn rows k)) where
   turn : rowOf m ≡ k + pick t 0 (suc (rowFrom (drop (suc k) table) m))
   unfolding rowFrom
-  turn = s .left ∙ rw (drop-cons table k (rowAt 26) l, ← (rw (e, mnemonic-row k l) at same))
+  turn = s .left ∙ rw (drop-cons table k (rowAt (length table)) l, ← (rw (e, mnemonic-row k l) at same))
 
   pub found : t ≡ true → k ≡ rowOf m
   found h = sym (turn ∙ rw h (omega arith))
@@ -48,10 +48,10 @@ module _ {m : Token} {k : ℕ} (s : Searching m k) (l : k < 26) {rows : List ℕ
 
 -- a part of a text whose first byte is not that of row k
 pub other-first :
-    (text rows : List ℕ) (start end k : ℕ) → start < end → end ≤ length text → k < 26 → rows ≡ rowText
+    (text rows : List ℕ) (start end k : ℕ) → start < end → end ≤ length text → k < length table → rows ≡ rowText
     → (getD rows (12 * k) 0 ≡ getD text start 0 → ⊥) → false ≡ alike (part start end text) (mnemonicIn rows k)
 unfolding alike
 other-first text rows start end k h i l e n =
-    let q : length rows ≡ 312 = ap length e in
+    let q : length rows ≡ length rowText = ap length e in
     let m : 12 * k < 12 * k + getD mnemonicLengths k 0 = omega (arith, some-row k l) in
     sym (rw (part-cons text start end h i, part-next rows (12 * k) (12 * k + getD mnemonicLengths k 0) m (omega arith), ne-eqb (getD text start 0) (getD rows (12 * k) 0) (λ z. n (sym z))))

@@ -16,7 +16,7 @@ use Rattle.statement.specs.declared.operands.Operands.{Operands}
 use Rattle.statement.specs.declared.operands.Operands.the-variants.{Refused, Read}
 use Rattle.statement.specs.declared.line.Line.{Line as Found}
 use Rattle.statement.specs.declared.line.Line.the-variants.{Outside, Reads}
-use Rattle.statement.specs.Syntax.{Parts}
+use Rattle.statement.specs.Syntax.{Parts, table}
 use Rattle.statement.specs.Reading.{ReadLine, outside, rowOf, readItems, finished, statementOf, lineBy}
 use Rattle.statement.specs.Table.{itemsOf, cell}
 use Rattle.statement.specs.Parts.{blankValue, toldParts, labelOf, shownStatement, shownContent, shownLine, LineMeets}
@@ -44,10 +44,10 @@ module _ (s : List ℕ) (k : ℕ) (l : List Token) {o : Operands} where
 
 pub nothing-follows :
     (s : List ℕ) (k label until : ℕ) {o : Operands} {p : Held} {at : ℕ}
-    → o ≡ Read p at → tokensAt s at ≡ [] → k < 26 → until ≤ length s
+    → o ≡ Read p at → tokensAt s at ≡ [] → k < length table → until ≤ length s
     → LineMeets s (finished k (labelOf s label until) (toldParts s o)) (Reads (record { label = label; until = until; row = k; parts = p }))
 unfolding finished toldParts shownLine shownContent shownStatement
-nothing-follows s k label until e f l u = record { same = rw (e, f, lt-ltb k 26 l); inside = u }
+nothing-follows s k label until e f l u = record { same = rw (e, f, lt-ltb k (length table) l); inside = u }
 
 -- ---- Statements
 
@@ -55,20 +55,20 @@ module _ (expression : List Token → Out Value) (s : List ℕ) where
   pub no-statement :
       (at label until : ℕ) {p : Held} → tokensAt s at ≡ [] → until ≤ length s
       → LineMeets s (statementOf expression blankValue (labelOf s label until) (tokensAt s at))
-      (Reads (record { label = label; until = until; row = 26; parts = p }))
+      (Reads (record { label = label; until = until; row = length table; parts = p }))
   unfolding statementOf shownLine shownContent shownStatement
   no-statement at label until e u = record { same = rw e; inside = u }
 
   module _ (l : List Token) {at symbol start end : ℕ} (h : At s at symbol start end) {k : ℕ} (e : k ≡ rowOf (part start end s)) where
-    pub no-mnemonic : 26 ≤ k → outside ≡ statementOf expression blankValue l (tokensAt s at)
+    pub no-mnemonic : length table ≤ k → outside ≡ statementOf expression blankValue l (tokensAt s at)
     unfolding statementOf
-    no-mnemonic n = rw (h .split, ← e, le-ltb k 26 n)
+    no-mnemonic n = rw (h .split, ← e, le-ltb k (length table) n)
 
     pub row-statement :
-        k < 26 → {o : Out (Parts Value)} → o ≡ readItems expression (itemsOf (cell k)) blankValue (tokensAt s end)
+        k < length table → {o : Out (Parts Value)} → o ≡ readItems expression (itemsOf (cell k)) blankValue (tokensAt s end)
         → finished k l o ≡ statementOf expression blankValue l (tokensAt s at)
     unfolding statementOf
-    row-statement n z = rw (h .split, ← e, lt-ltb k 26 n, ← items-row k n) (ap (finished k l) z)
+    row-statement n z = rw (h .split, ← e, lt-ltb k (length table) n, ← items-row k n) (ap (finished k l) z)
 
 -- ---- Lines
 

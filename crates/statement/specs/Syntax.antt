@@ -91,7 +91,7 @@ d-n = Rd ∷ comma ∷ N ∷ []
 abbrev n-a : List Item
 n-a = N ∷ comma ∷ Ra ∷ []
 
--- The kinds in the sheet's order, then `.word`, which gives a word.
+-- The kinds in their order, then `.word`, which gives a word.
 abbrev pub table : List Row
 table =
     row (ascii "AND") d-a-b number
@@ -119,6 +119,11 @@ table =
     ∷ row (ascii "MOVHI") d-n number
     ∷ row (ascii "IN") d-n number
     ∷ row (ascii "OUT") n-a number
+    ∷ row (ascii "MUL") d-a-b number
+    ∷ row (ascii "MULH") d-a-b number
+    ∷ row (ascii "MULHU") d-a-b number
+    ∷ row (ascii "DIV") d-a-b number
+    ∷ row (ascii "DIVU") d-a-b number
     ∷ row (ascii ".word") (N ∷ []) number
     ∷ []
 

@@ -2,6 +2,7 @@
 ghost use Prim.Native.Nat.{_<_, _≤_};
 ghost use lib.ListN.{length};
 ghost use Rattle.token.specs.Scan.{tokensAt};
+ghost use Rattle.statement.specs.Syntax.{table};
 ghost use Rattle.statement.specs.Reading.{finished, statementOf, lineBy};
 ghost use Rattle.statement.specs.Parts.{LineMeets, labelOf, toldParts, expressionOf, blankValue};
 use crate::operands::Operands;
@@ -24,7 +25,7 @@ pub enum Line {
 
 // Nothing but the end of the line may follow the operands.
 fn finished(text: &[u8], o: Operands, row: usize, label: usize, until: usize) -> Line
-    requires { ⌜ (row < 26) × (until ≤ length (now text)) ⌝ }
+    requires { ⌜ (row < length table) × (until ≤ length (now text)) ⌝ }
     ensures { λ r. ⌜ LineMeets (now (text .entry)) (finished row (labelOf (now (text .entry)) label until) (toldParts (now (text .entry)) o)) r ⌝ }
 {
     let Operands::Read { parts, next } = o else {

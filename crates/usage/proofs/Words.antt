@@ -17,7 +17,7 @@ use Rattle.kinds.specs.Kinds.{kinds, kindNumber}
 use Rattle.isa.specs.declared.rows.Entry.{Entry}
 use Rattle.isa.specs.declared.rows.Entry.the-variants.{Unassigned, Assigned}
 use Rattle.isa.specs.Layouts.{entryNumber}
-use Rattle.isa.specs.Sheet.{sheet, comparisonKinds, kindAt}
+use Rattle.isa.specs.Sheet.{sheet, kindAt}
 use Rattle.isa.specs.Masks.{inMask, registerMask, readsDestination, readsOf, masksAs, masksOf}
 use Rattle.isa.proofs.Every.{entry-few}
 use Rattle.usage.specs.declared.Usage.{Usage}
@@ -113,10 +113,10 @@ pub operation : (w : ℕ) (u : Usage) → opcode w ≡ 0 → (w % 8 ≡ 3 → �
 unfolding table kindAt
 operation w u p n = rw (ne-eqb _ _ n) at (row 0 (λ e f w u. pick (eqb f 3) (after (Assigned Not) w u) (three f w u)) refl w u p)
 
--- opcode 1
-pub comparison : (w : ℕ) (u : Usage) → opcode w ≡ 1 → three (getD (map entryNumber comparisonKinds) (w % 8) 0) w u ≡ counted (wordIs w) (masksOf w) u
-unfolding table kindAt
-comparison = row 1 (λ e f w u. three (getD (map entryNumber comparisonKinds) f 0) w u) refl
+-- an opcode whose kinds are these, by f
+pub by-f : (op : ℕ) (es : List Entry) → by-e-f (λ e f w u. three (getD (map entryNumber es) f 0) w u) ≡ by-e-f (λ e f. after (kindAt op e f)) → (w : ℕ) (u : Usage) → opcode w ≡ op
+    → three (getD (map entryNumber es) (w % 8) 0) w u ≡ counted (wordIs w) (masksOf w) u
+by-f op es = row op (λ e f w u. three (getD (map entryNumber es) f 0) w u)
 
 -- opcode 8: BZ, BNZ
 pub branch : (w : ℕ) (u : Usage) → opcode w ≡ 8 → countedBy (eqb (19 + e-of w)) (eqb (a-of w)) nowhere u ≡ counted (wordIs w) (masksOf w) u
@@ -131,10 +131,10 @@ move w u p q =
     sym (λ i. countedBy (eqb (21 + e-of w)) (q i) (eqb (a-of w)) u)
     ∙ row 9 (λ e f w u. countedBy (eqb (21 + e)) (pick (eqb e 1) (eqb (a-of w)) nowhere) (eqb (a-of w)) u) refl w u p
 
--- from 11 on
-unassigned : (op e f : ℕ) → op < 16 → 11 ≤ op → kindAt op e f ≡ Unassigned
+-- from 12 on
+unassigned : (op e f : ℕ) → op < 16 → 12 ≤ op → kindAt op e f ≡ Unassigned
 unfolding table kindAt
-unassigned op e f l h = rw (le-ltb op 11 h) at (at {A = Entry} 16 (λ op. pick (ltb op 11) Unassigned (kindAt op e f)) (λ op. Unassigned) refl op l)
+unassigned op e f l h = rw (le-ltb op 12 h) at (at {A = Entry} 16 (λ op. pick (ltb op 12) Unassigned (kindAt op e f)) (λ op. Unassigned) refl op l)
 
-pub past-10 : (w : ℕ) (u : Usage) → 11 ≤ opcode w → u ≡ counted (wordIs w) (masksOf w) u
-past-10 w u h = ap (λ x. after x w u) (sym (unassigned (opcode w) (e-of w) (f-of w) (omega arith) h)) ∙ of-word w _ _ _ u refl refl refl
+pub past-11 : (w : ℕ) (u : Usage) → 12 ≤ opcode w → u ≡ counted (wordIs w) (masksOf w) u
+past-11 w u h = ap (λ x. after x w u) (sym (unassigned (opcode w) (e-of w) (f-of w) (omega arith) h)) ∙ of-word w _ _ _ u refl refl refl

@@ -3,12 +3,13 @@ ghost use mathlib.Core.Path.{_≡_};
 ghost use Prim.Native.Nat.{_<_, _≤_};
 ghost use lib.Dec.{eqb};
 ghost use lib.ListN.{length, getD};
+ghost use Rattle.kinds.specs.Kinds.{kindCount};
 ghost use Rattle.isa.specs.Masks.{masksOf};
 ghost use Rattle.usage.specs.Usage.{wordIs, added, countedBy, counted, unused, held, Below, Countable, eitherOf, countedThree};
 
 #[repr(C)]
 pub struct Usage {
-    pub kinds: [u64; 25],
+    pub kinds: [u64; kinds::COUNT],
     pub reads: [u64; 8],
     pub writes: [u64; 8],
 }
@@ -18,7 +19,7 @@ impl Usage {
         ensures { λ r. ⌜ r ≡ unused ⌝ }
     {
         Self {
-            kinds: [0; 25],
+            kinds: [0; kinds::COUNT],
             reads: [0; 8],
             writes: [0; 8],
         }
@@ -26,10 +27,13 @@ impl Usage {
 }
 
 // Where an opcode's f has no kind.
-const NO: u8 = 25;
+const NO: u8 = 30;
 
 // Opcode 1 by f: CMPLT, CMPLE, -, CMPEQ, CMPLTU, CMPLEU, -, -.
 const COMPARISONS: [u8; 8] = [8, 9, NO, 10, 11, 12, NO, NO];
+
+// Opcode 11 by f: MUL, MULH, MULHU, -, DIV, DIVU, -, -.
+const MULDIVS: [u8; 8] = [25, 26, 27, NO, 28, 29, NO, NO];
 
 // One more at k.
 fn add(xs: &mut [u64], k: usize)
@@ -40,8 +44,8 @@ fn add(xs: &mut [u64], k: usize)
 }
 
 // A step of kind k that touches Rj.
-fn one(k: usize, j: usize, kinds: &mut [u64; 25], registers: &mut [u64; 8])
-    requires { ⌜ (k < 25) × (j < 8) × Below (now kinds) × Below (now registers) ⌝ }
+fn one(k: usize, j: usize, kinds: &mut [u64; kinds::COUNT], registers: &mut [u64; 8])
+    requires { ⌜ (k < kindCount) × (j < 8) × Below (now kinds) × Below (now registers) ⌝ }
     ensures { λ r. ⌜ (now (kinds .exit) ≡ added (eqb k) (now (kinds .entry))) × (now (registers .exit) ≡ added (eqb j) (now (registers .entry))) ⌝ }
 {
     add(kinds, k);
@@ -49,8 +53,8 @@ fn one(k: usize, j: usize, kinds: &mut [u64; 25], registers: &mut [u64; 8])
 }
 
 // A step of kind k that reads Ra and Rb: one read where the two are one register.
-fn two(k: usize, a: usize, b: usize, kinds: &mut [u64; 25], reads: &mut [u64; 8])
-    requires { ⌜ (k < 25) × (a < 8) × (b < 8) × Below (now kinds) × Below (now reads) ⌝ }
+fn two(k: usize, a: usize, b: usize, kinds: &mut [u64; kinds::COUNT], reads: &mut [u64; 8])
+    requires { ⌜ (k < kindCount) × (a < 8) × (b < 8) × Below (now kinds) × Below (now reads) ⌝ }
     ensures { λ r. ⌜ (now (kinds .exit) ≡ added (eqb k) (now (kinds .entry))) × (now (reads .exit) ≡ added (eitherOf a b) (now (reads .entry))) ⌝ }
 {
     one(k, a, kinds, reads);
@@ -64,11 +68,11 @@ fn ad(
     k: usize,
     a: usize,
     d: usize,
-    kinds: &mut [u64; 25],
+    kinds: &mut [u64; kinds::COUNT],
     reads: &mut [u64; 8],
     writes: &mut [u64; 8],
 )
-    requires { ⌜ (k < 25) × (a < 8) × (d < 8) ⌝ }
+    requires { ⌜ (k < kindCount) × (a < 8) × (d < 8) ⌝ }
     requires { ⌜ Countable (held (now kinds) (now reads) (now writes)) ⌝ }
     ensures { λ r. ⌜ held (now (kinds .exit)) (now (reads .exit)) (now (writes .exit)) ≡ countedBy (eqb k) (eqb a) (eqb d) (held (now (kinds .entry)) (now (reads .entry)) (now (writes .entry))) ⌝ }
 {
@@ -82,11 +86,11 @@ fn abd(
     a: usize,
     b: usize,
     d: usize,
-    kinds: &mut [u64; 25],
+    kinds: &mut [u64; kinds::COUNT],
     reads: &mut [u64; 8],
     writes: &mut [u64; 8],
 )
-    requires { ⌜ (k ≤ 25) × (a < 8) × (b < 8) × (d < 8) ⌝ }
+    requires { ⌜ (k ≤ kindCount) × (a < 8) × (b < 8) × (d < 8) ⌝ }
     requires { ⌜ Countable (held (now kinds) (now reads) (now writes)) ⌝ }
     ensures { λ r. ⌜ held (now (kinds .exit)) (now (reads .exit)) (now (writes .exit)) ≡ countedThree k a b d (held (now (kinds .entry)) (now (reads .entry)) (now (writes .entry))) ⌝ }
 {
@@ -97,7 +101,7 @@ fn abd(
 }
 
 // One step more, of the word w.
-pub fn tally(w: u16, kinds: &mut [u64; 25], reads: &mut [u64; 8], writes: &mut [u64; 8])
+pub fn tally(w: u16, kinds: &mut [u64; kinds::COUNT], reads: &mut [u64; 8], writes: &mut [u64; 8])
     requires { ⌜ Countable (held (now kinds) (now reads) (now writes)) ⌝ }
     ensures { λ r. ⌜ held (now (kinds .exit)) (now (reads .exit)) (now (writes .exit)) ≡ counted (wordIs w) (masksOf w) (held (now (kinds .entry)) (now (reads .entry)) (now (writes .entry))) ⌝ }
 {
@@ -135,6 +139,7 @@ pub fn tally(w: u16, kinds: &mut [u64; 25], reads: &mut [u64; 8], writes: &mut [
                 one(24, a, kinds, reads)
             }
         }
+        11 => abd(MULDIVS[f] as usize, a, b, d, kinds, reads, writes),
         _ => {}
     }
 }

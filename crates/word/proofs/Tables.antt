@@ -1,10 +1,14 @@
--- A number that is none of a table's places is past it; what holds of each element of a table holds of the one looked up.
+-- A number that is none of a table's places is past it; a place with nothing; what holds of each element of a table holds of the one
+-- looked up.
 -- Assumes nothing.
-use mathlib.Core.Path.{_≡_}
+use mathlib.Core.Path.{_≡_, refl, sym}
+use mathlib.Core.Bool.{Bool, true, false}
 use mathlib.Core.List.{List, [], _∷_}
 use Prim.Native.Nat.{ℕ, zero, suc, _≤_}
 use native.Mathlib.Omega.{arith}
-use lib.ListN.{getD}
+use borrow.Author.Tests.{eqb-true, eqb-false}
+use lib.Dec.{eqb}
+use lib.ListN.{getD, length, List·getD-eq-default}
 
 -- f is none of the numbers below n, as a `match` tells it to its last arm
 abbrev pub NoneBelow : ℕ → ℕ → Type 0
@@ -14,6 +18,16 @@ NoneBelow (suc n) f = NoneBelow n f × (f ≡ n → ⊥)
 pub past : (n f : ℕ) → NoneBelow n f → n ≤ f
 past zero f p = omega arith
 past (suc n) f p = omega (arith, past n f (p .0))
+
+-- d stands at place k of a table and past its end
+pub vacant :
+    {A : Type 0} (xs : List A) (k : ℕ) (d : A) (f : ℕ)
+    → getD xs k d ≡ d → ((f ≡ k → ⊥) → length xs ≤ f) → d ≡ getD xs f d
+vacant xs k d f e l = go (eqb f k) refl
+  where
+    go : (t : Bool) → eqb f k ≡ t → d ≡ getD xs f d
+    go true q = rw (eqb-true f k q) (sym e)
+    go false q = sym (List·getD-eq-default xs d (l (eqb-false f k q)))
 
 -- ---- What holds of each element of a list, and of what stands past its end, holds of what is looked up
 

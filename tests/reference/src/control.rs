@@ -1,13 +1,13 @@
 //! The step by a control table, the paper's or any other.
 //!
 //! "Except by f in units 0 and 1, the table engine learns only from this word
-//! what to do." A value that a field doesn't list "stands for the number 0,
-//! bit 15 says nothing, and what a step reads it reads before it stores"
-//! (docs/CONFORMANCE.md).
+//! what to do." L6: "unit 5, which selects by f" too. A value that a field doesn't
+//! list "stands for the number 0", "bit 15 says nothing, and what a step reads it
+//! reads before it stores" (docs/CONFORMANCE.md).
 
 use crate::machine::{
-    branch_target, comparison, data_word, e, f, log_entry, opcode, operation, store_data_word,
-    Places, State, Stepped,
+    branch_target, comparison, data_word, divides_by_zero, e, extension, f, log_entry, opcode,
+    operation, store_data_word, Places, State, Stepped,
 };
 use crate::number::{bit_0_cleared, bits, modulo16, sign_extend, unsigned};
 
@@ -27,7 +27,8 @@ pub const TABLE: Table = [
     0x5000, 0x6000, // 8
     0x4263, 0x4283, // 9
     0x4013, 0x4C00, // 10
-    0, 0, 0, 0, 0, 0, 0, 0, 0, 0, // 11 to 15
+    0x40A1, 0x40A1, // 11
+    0, 0, 0, 0, 0, 0, 0, 0, // 12 to 15
 ];
 
 /// The table's own word for an instruction word.
@@ -40,9 +41,21 @@ fn unit(c: u16) -> i64 {
     bits(c, 7, 5)
 }
 
-/// "Bit 14: assigned, in unit 1 also by f."
+/// "Bit 14: assigned, in unit 1 also by f." By L6 in unit 5 too.
 pub fn assigned(c: u16, w: u16) -> bool {
-    bits(c, 14, 14) == 1 && (unit(c) != 1 || comparison(f(w), 0, 0).is_some())
+    let by_f = match unit(c) {
+        1 => comparison(f(w), 0, 0).is_some(),
+        5 => extension(f(w), 0, 1).is_some(),
+        _ => true,
+    };
+    bits(c, 14, 14) == 1 && by_f
+}
+
+/// "where its unit is 5, f is 4 or 5 and the second operand that its bits 9..8
+/// choose is zero, whatever its other fields are" (docs/CONFORMANCE.md)
+pub fn zero_divisor(c: u16, w: u16, state: &State) -> bool {
+    let (_, rb) = operands(w, state);
+    unit(c) == 5 && divides_by_zero(f(w), second_operand(c, w, rb))
 }
 
 /// "Bits 11..10 store: ... 3 port from Ra."
@@ -61,7 +74,7 @@ fn second_operand(c: u16, w: u16, rb: u16) -> u16 {
 }
 
 /// "unit: 0 opcode 0's operations by f, 1 comparisons by f, 2 sum, 3 second
-/// operand, 4 low byte of the first under low byte of the second."
+/// operand, 4 low byte of the first under low byte of the second." 5 is L6's.
 fn unit_result(c: u16, w: u16, first: u16, second: u16) -> u16 {
     match unit(c) {
         0 => operation(f(w), first, second),
@@ -69,8 +82,15 @@ fn unit_result(c: u16, w: u16, first: u16, second: u16) -> u16 {
         2 => modulo16(unsigned(first) + unsigned(second)),
         3 => second,
         4 => 256 * (second % 256) + first % 256,
+        5 => extension(f(w), first, second).unwrap_or(0),
         _ => 0,
     }
+}
+
+/// Ra, which is the "First operand", and Rb.
+fn operands(w: u16, state: &State) -> (u16, u16) {
+    let of = |register: i64| state.r[register as usize];
+    (of(bits(w, 11, 9)), of(bits(w, 8, 6)))
 }
 
 /// What a step has read before it writes.
@@ -84,9 +104,7 @@ struct Read {
 
 impl Read {
     fn of(c: u16, w: u16, state: &State) -> Read {
-        // "First operand: Ra."
-        let ra = state.r[bits(w, 11, 9) as usize];
-        let rb = state.r[bits(w, 8, 6) as usize];
+        let (ra, rb) = operands(w, state);
         Read {
             ra,
             rb,
@@ -141,9 +159,10 @@ fn next(c: u16, w: u16, x: &Read, pc: u16) -> u16 {
     }
 }
 
-/// One step, with the control word as an argument; None if unassigned.
+/// One step, with the control word as an argument; None if unassigned, or on a
+/// zero divisor.
 pub fn step(c: u16, w: u16, state: State, places: &mut Places) -> Option<Stepped> {
-    if !assigned(c, w) {
+    if !assigned(c, w) || zero_divisor(c, w, &state) {
         return None;
     }
     // "Registers are read before any is written." So is memory.

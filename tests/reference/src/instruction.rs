@@ -2,7 +2,11 @@
 
 use crate::number::{bits, sign_extend};
 
-/// The 25 kinds, numbered 0 to 24 in the order of the sheet's second table.
+/// L6: "30 kinds"
+pub const KINDS: usize = 30;
+
+/// The kinds, numbered 0 to 24 in the order of the sheet's second table, then 25
+/// to 29 in that of L6.
 #[derive(Clone, Copy, Debug, PartialEq, Eq)]
 pub enum Kind {
     And = 0,
@@ -30,6 +34,11 @@ pub enum Kind {
     Movhi = 22,
     In = 23,
     Out = 24,
+    Mul = 25,
+    Mulh = 26,
+    Mulhu = 27,
+    Div = 28,
+    Divu = 29,
 }
 
 impl Kind {
@@ -42,7 +51,7 @@ impl Kind {
     }
 }
 
-/// "An instruction is one of the 25 kinds with a, b, d, n". The parts are wide
+/// "An instruction is one of the [...] kinds with a, b, d, n". The parts are wide
 /// enough to hold values out of range, which the writer refuses.
 #[derive(Clone, Copy, Debug, PartialEq, Eq)]
 pub struct Instruction {
@@ -101,8 +110,9 @@ const fn row(kind: Kind, opcode: i32, select: Select, form: Form) -> Row {
     }
 }
 
-/// The sheet's second table: mnemonic, op. code, e or F, format.
-const SHEET: [Row; 25] = [
+/// The sheet's second table: mnemonic, op. code, e or F, format. Then L6's five,
+/// "a three-register format like opcode 0".
+const SHEET: [Row; KINDS] = [
     row(Kind::And, 0, Select::F(0), Form::Abd),
     row(Kind::Or, 0, Select::F(1), Form::Abd),
     row(Kind::Xor, 0, Select::F(2), Form::Abd),
@@ -128,6 +138,11 @@ const SHEET: [Row; 25] = [
     row(Kind::Movhi, 9, Select::E(1), Form::DUnsignedN8),
     row(Kind::In, 10, Select::E(0), Form::DUnsignedN8),
     row(Kind::Out, 10, Select::E(1), Form::AUnsignedN8),
+    row(Kind::Mul, 11, Select::F(0), Form::Abd),
+    row(Kind::Mulh, 11, Select::F(1), Form::Abd),
+    row(Kind::Mulhu, 11, Select::F(2), Form::Abd),
+    row(Kind::Div, 11, Select::F(4), Form::Abd),
+    row(Kind::Divu, 11, Select::F(5), Form::Abd),
 ];
 
 /// Whether a word is of this row's kind.
@@ -140,7 +155,7 @@ fn is_of(row: &Row, w: u16) -> bool {
     bits(w, 15, 12) == i64::from(row.opcode) && selected
 }
 
-/// "Every 16-bit word reads as one of the 25 instructions or as unassigned"
+/// "Every 16-bit word reads as one of the [...] instructions or as unassigned"
 /// (demand 2); None is unassigned. Unused parts are 0: NOT's b and JALR's bits
 /// 5..0 are ignored.
 pub fn read(w: u16) -> Option<Instruction> {
@@ -219,7 +234,7 @@ pub fn write(x: Instruction) -> Result<u16, u8> {
     Ok((row.opcode * 4_096 + rest) as u16)
 }
 
-/// The same with the kind by its number: "a kind over 24 is refused with 7"
+/// The same with the kind by its number: "a kind over 29 is refused with 7"
 /// (docs/CONFORMANCE.md, and so the header).
 pub fn write_numbered(kind: u8, a: i32, b: i32, d: i32, n: i32) -> Result<u16, u8> {
     let kind = Kind::from_number(kind).ok_or(7)?;

@@ -76,15 +76,22 @@ pub fn f(w: u16) -> i64 {
     bits(w, 2, 0)
 }
 
-/// Whether w is one of the 25 instructions.
+/// Whether w is one of the 30 instructions.
 pub fn assigned(w: u16) -> bool {
     match opcode(w) {
         // "f = 2, 6, 7 unassigned"
         1 => comparison(f(w), 0, 0).is_some(),
-        // "11 to 15 | unassigned"
-        11..=15 => false,
+        // L6: "3, 6 and 7 stay unassigned"
+        11 => extension(f(w), 0, 1).is_some(),
+        // "11 to 15 | unassigned", 11 no more
+        12..=15 => false,
         _ => true,
     }
+}
+
+/// Whether w, an assigned word, is DIV or DIVU and Rb is zero.
+pub fn zero_divisor(w: u16, state: &State) -> bool {
+    opcode(w) == 11 && divides_by_zero(f(w), Fields::of(w, state).rb)
 }
 
 /// "10 | e=1 OUT"
@@ -141,6 +148,33 @@ pub fn comparison(f: i64, ra: u16, rb: u16) -> Option<u16> {
     Some(if holds { 1 } else { 0 })
 }
 
+/// L6: "0 MUL low half, 1 MULH signed, 2 MULHU unsigned high half, 4 DIV
+/// signed, 5 DIVU; 3, 6 and 7 stay unassigned". None for those three, and for a
+/// zero divisor.
+pub fn extension(f: i64, ra: u16, rb: u16) -> Option<u16> {
+    let value = match f {
+        0 => unsigned(ra) * unsigned(rb),
+        1 => high_half(signed(ra) * signed(rb)),
+        2 => high_half(unsigned(ra) * unsigned(rb)),
+        // L6: "DIV rounds toward zero and keeps 16 bits", as `checked_div` and
+        // `modulo16` do
+        4 => signed(ra).checked_div(signed(rb))?,
+        5 => unsigned(ra).checked_div(unsigned(rb))?,
+        _ => return None,
+    };
+    Some(modulo16(value))
+}
+
+/// Bits 31..16 and all above, so that a negative product is rounded down.
+fn high_half(product: i64) -> i64 {
+    product.div_euclid(65_536)
+}
+
+/// Whether `extension` divides for this f, and by zero.
+pub fn divides_by_zero(f: i64, divisor: u16) -> bool {
+    matches!(f, 4 | 5) && divisor == 0
+}
+
 /// "Rd = D[A'] + 256 times D[A'+1]", `even` being A'.
 pub fn data_word(d: &[u8; MEMORY], even: u16) -> u16 {
     let at = usize::from(bit_0_cleared(even));
@@ -184,7 +218,7 @@ impl Fields {
             ra: state.r[bits(w, 11, 9) as usize],
             rb: state.r[bits(w, 8, 6) as usize],
             // "The destination d is 5..3 for opcodes 0 and 1, 8..6 for 2, 3,
-            // 5, 7, and 11..9 for 9 and IN."
+            // 5, 7, and 11..9 for 9 and IN." L6's opcode 11 is "like opcode 0".
             d_5_3: bits(w, 5, 3) as usize,
             d_8_6: bits(w, 8, 6) as usize,
             d_11_9: bits(w, 11, 9) as usize,
@@ -197,10 +231,11 @@ impl Fields {
     }
 }
 
-/// One step, or None: "If w is unassigned, no step is possible."
+/// One step, or None: "If w is unassigned, no step is possible." L6: "the plain
+/// machine so widened, which can't step on a zero divisor".
 pub fn step(state: State, places: &mut Places) -> Option<Stepped> {
     let w = word(places.p, state.pc);
-    if !assigned(w) {
+    if !assigned(w) || zero_divisor(w, &state) {
         return None;
     }
     let x = Fields::of(w, &state);
@@ -213,7 +248,7 @@ pub fn step(state: State, places: &mut Places) -> Option<Stepped> {
     };
     let mut entry = None;
     match opcode(w) {
-        0..=2 => calculate(w, &x, &mut after)?,
+        0..=2 | 11 => calculate(w, &x, &mut after)?,
         3..=6 => access_memory(w, &x, places.d, &mut after),
         7 | 8 => break_sequence(w, &x, state.pc, &mut after),
         9 => move_immediate(w, &x, &mut after),
@@ -225,7 +260,7 @@ pub fn step(state: State, places: &mut Places) -> Option<Stepped> {
     })
 }
 
-/// Opcodes 0 to 2.
+/// Opcodes 0 to 2, and 11.
 fn calculate(w: u16, x: &Fields, after: &mut State) -> Option<()> {
     match opcode(w) {
         // "0 | f = 0..7: AND, OR, XOR, NOT (of Ra), ADD, SUB, SHA, SHL"
@@ -234,7 +269,9 @@ fn calculate(w: u16, x: &Fields, after: &mut State) -> Option<()> {
         // 4 CMPLTU, 5 CMPLEU (unsigned); f = 2, 6, 7 unassigned"
         1 => after.r[x.d_5_3] = comparison(f(w), x.ra, x.rb)?,
         // "2 ADDI | Rd = Ra+SE(N6)"
-        _ => after.r[x.d_8_6] = modulo16(unsigned(x.ra) + x.se_n6),
+        2 => after.r[x.d_8_6] = modulo16(unsigned(x.ra) + x.se_n6),
+        // L6: "Opcode 11 becomes a three-register format like opcode 0"
+        _ => after.r[x.d_5_3] = extension(f(w), x.ra, x.rb)?,
     }
     Some(())
 }

@@ -50,6 +50,8 @@ fn touched(x: Instruction) -> (u8, u8) {
         Kind::In => (0, d),
         // Output[N8]=Ra
         Kind::Out => (a, 0),
+        // Document 000: "Rd Ra FUNC Rb"
+        Kind::Mul | Kind::Mulh | Kind::Mulhu | Kind::Div | Kind::Divu => (a | b, d),
     }
 }
 

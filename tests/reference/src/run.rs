@@ -32,7 +32,29 @@ impl Engine<'_> {
         }
     }
 
-    /// One step; None if the word at PC is unassigned.
+    /// Whether the word, an assigned one, divides by zero.
+    fn zero_divisor(self, w: u16, state: &State) -> bool {
+        match self {
+            Engine::Rules => machine::zero_divisor(w, state),
+            Engine::Table(table) => control::zero_divisor(control_word(table, w), w, state),
+        }
+    }
+
+    /// The stop that the word at PC gives, "in this order", if any.
+    fn stop(self, w: u16, state: &State, free_place: bool) -> Option<u8> {
+        // "word unassigned, stop 1"
+        if !self.assigned(w) {
+            return Some(1);
+        }
+        // L6: "A zero divisor is stop 3, before the step, tested after stop 1"
+        if self.zero_divisor(w, state) {
+            return Some(3);
+        }
+        // "word is OUT and the log has no free place, stop 2"
+        (self.writes_port(w) && !free_place).then_some(2)
+    }
+
+    /// One step; None if the word at PC is unassigned or divides by zero.
     pub fn step(self, state: State, places: &mut Places) -> Option<Stepped> {
         match self {
             Engine::Rules => machine::step(state, places),
@@ -152,14 +174,10 @@ fn admitted(
         if steps == budget {
             break 0;
         }
-        // "word unassigned, stop 1"
         let w = word(places.p, state.pc);
-        if !engine.assigned(w) {
-            break 1;
-        }
-        // "word is OUT and the log has no free place, stop 2"
-        if engine.writes_port(w) && entries as usize >= log.len() {
-            break 2;
+        let free_place = (entries as usize) < log.len();
+        if let Some(stop) = engine.stop(w, &state, free_place) {
+            break stop;
         }
         let Some(stepped) = engine.step(state, places) else {
             break 1;

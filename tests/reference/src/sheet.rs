@@ -2,12 +2,13 @@
 //!
 //! Sentences in quotation marks are that request's.
 
+use crate::instruction::KINDS;
 use crate::usage::Usage;
 
 /// The counts of accepted runs, and how many they were.
 #[derive(Clone, Copy, Debug, PartialEq, Eq)]
 pub struct Sheet {
-    pub kinds: [u64; 25],
+    pub kinds: [u64; KINDS],
     pub reads: [u64; 8],
     pub writes: [u64; 8],
     pub runs: u16,
@@ -23,7 +24,7 @@ pub struct Fed {
 impl Sheet {
     pub fn empty() -> Sheet {
         Sheet {
-            kinds: [0; 25],
+            kinds: [0; KINDS],
             reads: [0; 8],
             writes: [0; 8],
             runs: 0,

@@ -2,7 +2,7 @@
 //!
 //! Sentences in quotation marks are that request's.
 
-use crate::instruction::read;
+use crate::instruction::{read, KINDS};
 use crate::machine::{step, word, Places, State};
 use crate::masks::{masks, registers};
 
@@ -10,7 +10,7 @@ use crate::masks::{masks, registers};
 /// kinds by their numbers. The default is no step counted.
 #[derive(Clone, Copy, Debug, Default, PartialEq, Eq)]
 pub struct Usage {
-    pub kinds: [u64; 25],
+    pub kinds: [u64; KINDS],
     pub reads: [u64; 8],
     pub writes: [u64; 8],
 }

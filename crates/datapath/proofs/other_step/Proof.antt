@@ -19,7 +19,7 @@ returns c =
     let a = start .args in
     let g = store-group (a .control) (a .w) (a .state) (sym (t .before .is-store .ensures) ∙ t .if1 .taken) in
     answered (c .done .result) _ (c .done .ensures)
-    (data-done (a .control) (a .w) _ (g .is-assigned) (start .pre .filled) (g .no-port)
+    (data-done (a .control) (a .w) _ (g .is-assigned) (g .no-zero) (start .pre .filled) (g .no-port)
     (c .before .advanced .ensures ∙ sym (g .state _ _))
     (stored .store .ensures ∙ ap (λ u. storedData (a .control) (R (a .state) (b-of (a .w))) u (a .memory .now)) (sym (g .address))))
 
@@ -30,7 +30,7 @@ returns-2 c =
     let a = start .args in
     let g = jump-group (a .control) (a .w) (a .state) (sym (t .before .is-jump .ensures) ∙ t .if2 .taken) in
     answered (c .done2 .result) _ (c .done2 .ensures)
-    (data-done (a .control) (a .w) _ (g .is-assigned) (start .pre .filled) (g .no-port)
+    (data-done (a .control) (a .w) _ (g .is-assigned) (g .no-zero) (start .pre .filled) (g .no-port)
     (c .before .jump .ensures ∙ sym (g .state _ _)) (sym (g .no-store _)))
 
 pub other-step-spec : {M : Type 1} → statement M

@@ -14,7 +14,7 @@ use Rattle.datapath.proofs.performed.Tie as tie
 store-port-requires : tie.Need-store-port-requires
 store-port-requires c κs =
     let start = c .before .before .before .before .before .before .before .before .before .before .before .before .before .before .before .before .before .before .before .before in
-    (start .pre .0 .outputs, free-place (start .args .control) (start .args .w) _ _ (start .pre .1))
+    (start .pre .0 .outputs, free-place (start .args .control) (start .args .w) (start .args .state) _ _ (start .pre .1))
 
 returns : tie.Need-returns
 returns c =

@@ -9,7 +9,7 @@ use Rattle.word.proofs.Tables.{past}
 use Rattle.machine.specs.Machine.{putWord, putByte}
 use Rattle.machine.specs.Step.{d5-3, d8-6, d11-9, compute, addi, ld, st, ldb, stb, jalr}
 use Rattle.rules.specs.Parts.{raOf, rbOf, sumOf, wordOf, byteOf, linkOf, branchOf, moveOf}
-use Rattle.rules.proofs.Choices.{chosen, past-10}
+use Rattle.rules.proofs.Choices.{chosen, past-11}
 use Rattle.rules.proofs.Effects.{wrote, stored, jumped, stopped, moves, branches}
 use Rattle.rules.proofs.by_rule.Statement.{statement}
 use Rattle.rules.proofs.by_rule.Tie as tie
@@ -88,15 +88,19 @@ returns-10 c =
     (d11-9 w) (λ s D. moveOf w s) (moves w) (c .before .moved .ensures) (c .done9 .ensures)
 
 returns-11 : tie.Need-returns-11
-returns-11 c =
+returns-11 c = c .product .ensures _
+
+returns-12 : tie.Need-returns-12
+returns-12 c =
     let start = c .before .before .before in
     let w = start .args .w in
-    stopped (past-10 _ w (start .fits .w .fits) (start .pre .0 .opcode) (omega (arith, past 10 _ (c .before .match .rest), start .pre .1))) (c .stopped .ensures)
+    stopped (past-11 _ w (start .fits .w .fits) (start .pre .0 .opcode) (omega (arith, past 10 _ (c .before .match .rest .0), c .before .match .rest .1, start .pre .1))) (c .stopped .ensures)
 
 pub by-rule-spec : {M : Type 1} → statement M
 by-rule-spec =
     tie.close
     (tie.spec
+    (λ c κs. search needs)
     (λ c κs. search needs)
     (λ c κs. search needs)
     (λ c κs. search needs)
@@ -131,4 +135,5 @@ by-rule-spec =
     returns-8
     returns-9
     returns-10
-    returns-11)
+    returns-11
+    returns-12)

@@ -6,9 +6,10 @@ use native.Mathlib.Omega.{arith}
 use borrow.Author.Needs.{needs}
 use borrow.Author.Tests.{eq-eqb, ne-eqb}
 use Rattle.word.proofs.Tables.{past}
-use Rattle.isa.specs.Sheet.{comparisonKinds, kindAt}
+use Rattle.isa.specs.Sheet.{comparisonKinds, muldivKinds, kindAt}
 use Rattle.usage.specs.Usage.{held}
-use Rattle.usage.proofs.Words.{of-word, reading, writing, number-few, operation, comparison, branch, move, past-10}
+use Rattle.usage.proofs.Functions.{table}
+use Rattle.usage.proofs.Words.{of-word, reading, writing, number-few, operation, by-f, branch, move, past-11}
 use Rattle.usage.proofs.tally.Statement.{statement}
 use Rattle.usage.proofs.tally.Tie as tie
 
@@ -17,6 +18,12 @@ cast-abd c = omega (arith, number-few comparisonKinds (c .before .args .w % 8))
 
 abd-requires-2 : tie.Need-abd-requires-2
 abd-requires-2 c κs = ((number-few comparisonKinds (c .before .before .before .before .args .w % 8), omega arith, omega arith, omega arith), c .before .before .before .before .pre)
+
+cast-abd-2 : tie.Need-cast-abd-2
+cast-abd-2 c = omega (arith, number-few muldivKinds (c .before .args .w % 8))
+
+abd-requires-3 : tie.Need-abd-requires-3
+abd-requires-3 c κs = ((number-few muldivKinds (c .before .before .before .before .args .w % 8), omega arith, omega arith, omega arith), c .before .before .before .before .pre)
 
 add-requires : tie.Need-add-requires
 add-requires c κs = (omega arith, c .before .before .before .before .before .before .pre .reads _)
@@ -29,7 +36,8 @@ returns-2 : tie.Need-returns-2
 returns-2 c = c .abd .ensures ∙ operation _ _ (omega arith) (c .before .before .before .before .if1 .left)
 
 returns-3 : tie.Need-returns-3
-returns-3 c = c .abd2 .ensures ∙ comparison _ _ (omega arith)
+unfolding table kindAt
+returns-3 c = c .abd2 .ensures ∙ by-f 1 comparisonKinds refl _ _ (omega arith)
 
 returns-4 : tie.Need-returns-4
 unfolding kindAt
@@ -75,7 +83,11 @@ unfolding kindAt
 returns-14 c = reading _ _ _ _ _ (c .one4 .ensures) ∙ of-word _ 10 1 _ _ (omega arith) (omega arith) refl
 
 returns-15 : tie.Need-returns-15
-returns-15 c = past-10 _ _ (omega (arith, past 11 _ (c .match .rest)))
+unfolding table kindAt
+returns-15 c = c .abd3 .ensures ∙ by-f 11 muldivKinds refl _ _ (omega arith)
+
+returns-16 : tie.Need-returns-16
+returns-16 c = past-11 _ _ (omega (arith, past 12 _ (c .match .rest)))
 
 pub tally-spec : {M : Type 1} → statement M
 tally-spec =
@@ -104,6 +116,9 @@ tally-spec =
     add-requires
     (λ c κs. search needs)
     (λ c κs. search needs)
+    (λ c. search needs)
+    cast-abd-2
+    abd-requires-3
     returns
     returns-2
     returns-3
@@ -118,4 +133,5 @@ tally-spec =
     returns-12
     returns-13
     returns-14
-    returns-15)
+    returns-15
+    returns-16)

@@ -3,13 +3,13 @@
 use super::names::Names;
 use super::operand::{operand, Operand};
 use super::token::{register, tokens, Tokens};
-use crate::instruction::{write, Instruction, Kind};
+use crate::instruction::{write, Instruction, Kind, KINDS};
 use crate::number::{modulo16, signed, unsigned};
 
-/// The sheet's column "Assembler", and "`.word` gives a word". Ra, Rb and Rd
-/// stand for registers and N6, N8 and N16 for operands; every other token
-/// stands for itself.
-const SYNTAX: [(&str, Option<Kind>); 26] = [
+/// The sheet's column "Assembler", then document 000's "MNEMO Rd, Ra, Rb" for
+/// L6's five, and "`.word` gives a word". Ra, Rb and Rd stand for registers and
+/// N6, N8 and N16 for operands; every other token stands for itself.
+const SYNTAX: [(&str, Option<Kind>); KINDS + 1] = [
     ("AND Rd, Ra, Rb", Some(Kind::And)),
     ("OR Rd, Ra, Rb", Some(Kind::Or)),
     ("XOR Rd, Ra, Rb", Some(Kind::Xor)),
@@ -35,10 +35,15 @@ const SYNTAX: [(&str, Option<Kind>); 26] = [
     ("MOVHI Rd, N8", Some(Kind::Movhi)),
     ("IN Rd, N8", Some(Kind::In)),
     ("OUT N8, Ra", Some(Kind::Out)),
+    ("MUL Rd, Ra, Rb", Some(Kind::Mul)),
+    ("MULH Rd, Ra, Rb", Some(Kind::Mulh)),
+    ("MULHU Rd, Ra, Rb", Some(Kind::Mulhu)),
+    ("DIV Rd, Ra, Rb", Some(Kind::Div)),
+    ("DIVU Rd, Ra, Rb", Some(Kind::Divu)),
     (".word N16", None),
 ];
 
-/// How the sheet writes an instruction of this kind.
+/// How an instruction of this kind is written.
 pub fn syntax(kind: Kind) -> &'static str {
     SYNTAX[usize::from(kind.number())].0
 }

@@ -13,7 +13,7 @@ fn program_word(c: u64, j: u64) -> u16 {
     let x = number(c, 1_000 + j);
     match number(c, 2_000 + j) % 16 {
         0 => x as u16,
-        _ => (x / 4_096 % 11 * 4_096 + x % 4_096) as u16,
+        _ => (x / 4_096 % 12 * 4_096 + x % 4_096) as u16,
     }
 }
 

@@ -93,13 +93,13 @@ impl Host {
         }
     }
 
-    /// "Where the call was accepted the host keeps that state, after a stop 1
-    /// with PC moved on by 2 (modulo 65,536); where it was refused it keeps
+    /// "Where the call was accepted the host keeps that state, after a stop 1 or
+    /// 3 with PC moved on by 2 (modulo 65,536); where it was refused it keeps
     /// the one it had."
     pub fn keep(&mut self, reply: Reply) {
         if let Reply::Done { state, stop, .. } = reply {
             self.kept = state;
-            if stop == 1 {
+            if stop == 1 || stop == 3 {
                 self.kept.pc = state.pc.wrapping_add(2);
             }
         }

@@ -2,6 +2,7 @@
 
 use super::host::Host;
 use super::{number, Call, Digest};
+use crate::instruction::KINDS;
 use crate::run::{host_step, run_by_rules, run_by_table, Reply, Returned};
 use crate::sheet::Sheet;
 
@@ -34,7 +35,7 @@ pub fn first_sheet(c: u64) -> Sheet {
 }
 
 /// "The digest of counts"
-fn digest(kinds: [u64; 25], reads: [u64; 8], writes: [u64; 8]) -> u64 {
+fn digest(kinds: [u64; KINDS], reads: [u64; 8], writes: [u64; 8]) -> u64 {
     let mut digest = Digest::default();
     digest.take_halves(&kinds);
     digest.take_halves(&reads);

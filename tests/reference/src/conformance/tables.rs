@@ -28,7 +28,7 @@ pub fn table(t: u64) -> Table {
         // "Where t mod 16 is 8 it is otherwise"
         _ if t % 16 == 8 => table[20] = TABLE[21],
         0 => table[at(40, 32)] = number(c, 41) as u16,
-        1 => table.swap(at(40, 22), at(41, 22)),
+        1 => table.swap(at(40, 24), at(41, 24)),
         // "with bit 14 set"
         2 => table = numbers(c, 100).map(|word: u16| word | 0x4000),
         _ => table = numbers(c, 100),

@@ -3,10 +3,11 @@
 use crate::conformance::number;
 use crate::save::header;
 
-/// The words of AND to CMPLEU with their registers at 0.
-const THREE_REGISTERS: [u16; 13] = [
+/// The words of the kinds with three registers, NOT among them, these at 0.
+const THREE_REGISTERS: [u16; 18] = [
     0x0000, 0x0001, 0x0002, 0x0003, 0x0004, 0x0005, 0x0006, 0x0007, // AND to SHL
     0x1000, 0x1001, 0x1003, 0x1004, 0x1005, // CMPLT to CMPLEU
+    0xB000, 0xB001, 0xB002, 0xB004, 0xB005, // MUL to DIVU
 ];
 
 /// ADDI, LD, ST, LDB, STB, JALR
@@ -21,9 +22,9 @@ const N6: [u16; 8] = [0x20, 0x21, 0x3E, 0x3F, 0, 1, 0x1E, 0x1F];
 /// -128, -127, -2, -1, 0, 1, 126, 127; unsigned also 128, 129, 254, 255
 const N8: [u16; 8] = [0x80, 0x81, 0xFE, 0xFF, 0, 1, 0x7E, 0x7F];
 
-/// Opcode 1 with f = 2, 6, 7; opcodes 11 to 15.
-const UNASSIGNED: [u16; 9] = [
-    0x1002, 0x129E, 0x1FFF, 0xB000, 0xBFFF, 0xC123, 0xD000, 0xE9AB, 0xF000,
+/// Opcode 1 with f = 2, 6, 7; opcode 11 with f = 3, 6, 7; opcodes 12 to 15.
+const UNASSIGNED: [u16; 10] = [
+    0x1002, 0x129E, 0x1FFF, 0xB003, 0xB29E, 0xBFFF, 0xC123, 0xD000, 0xE9AB, 0xF000,
 ];
 
 /// Each kind's word with these registers, in the order of their bits, and edge

@@ -303,6 +303,17 @@ impl Sides {
         Ok(expected)
     }
 
+    /// The answer of a call that runs; panics with `at` where both sides differ.
+    pub fn run(&mut self, call: &Call, lengths: &Lengths, at: impl Fn() -> String) -> ffi::Answer {
+        match self.call(call, lengths) {
+            Ok(answer) => answer.of_run().expect("a run"),
+            Err(difference) => panic!(
+                "{}, {call:?}\nfirst difference (reference, library): {difference}",
+                at()
+            ),
+        }
+    }
+
     /// Whether the call changed anything lent.
     fn changed(&self, call: &Call, answer: &Answer) -> bool {
         let destination = match (call, answer) {

@@ -28,7 +28,7 @@ pub struct Load {
 #[repr(C)]
 #[derive(Clone, Copy, Debug, PartialEq, Eq)]
 pub struct Usage {
-    pub kinds: [u64; 25],
+    pub kinds: [u64; 30],
     pub reads: [u64; 8],
     pub writes: [u64; 8],
 }
@@ -37,7 +37,7 @@ pub struct Usage {
 #[repr(C)]
 #[derive(Clone, Copy, Debug, PartialEq, Eq)]
 pub struct Sheet {
-    pub kinds: [u64; 25],
+    pub kinds: [u64; 30],
     pub reads: [u64; 8],
     pub writes: [u64; 8],
     pub runs: u16,

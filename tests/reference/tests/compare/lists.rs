@@ -49,7 +49,7 @@ struct List {
     sides: Sides,
     /// The state that the host keeps.
     kept: State,
-    /// The last run took no step before an unassigned word.
+    /// The last run took no step before an unassigned word or a zero divisor.
     stuck: bool,
     /// The file last loaded.
     loaded: Option<Bytes>,
@@ -191,9 +191,10 @@ impl List {
         };
         let ffi::State { r, pc, n } = state;
         self.kept = State { r, pc, n };
-        self.stuck = stop == 1 && steps == 0;
+        let at_word = stop == 1 || stop == 3;
+        self.stuck = at_word && steps == 0;
         if self.sort == Sort::Altered {
-            if stop == 1 && self.random.below(2) == 0 {
+            if at_word && self.random.below(2) == 0 {
                 self.kept.pc = pc.wrapping_add(2);
             }
             if n > 1 << 31 {

@@ -5,6 +5,8 @@
 
 mod assembly;
 mod call;
+mod divisors;
+mod extension;
 mod ffi;
 mod lists;
 mod make;

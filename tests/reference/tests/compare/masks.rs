@@ -3,7 +3,7 @@
 use crate::call::{of_library, Answer, Call};
 use crate::ffi;
 use crate::registers::merged;
-use crate::steps::{calls, put, random_state, STEPS};
+use crate::steps::{calls, put, random_state, Counts, STEPS};
 use crate::world::{Lengths, World};
 use crate::{random_of, seed};
 use reference::machine::State;
@@ -26,7 +26,7 @@ fn registers_outside_the_masks_of_every_word() {
     // The second world is stepped with other registers outside `reads`.
     let mut world = World::random(&mut random);
     let mut second = world.clone();
-    let (mut pairs, mut steps) = (0, 0);
+    let mut counts = Counts::default();
     for w in 0..=0xFFFF_u16 {
         let masks = ffi::read(w);
         for export in 0..3 {
@@ -37,17 +37,18 @@ fn registers_outside_the_masks_of_every_word() {
             let call = &calls(State { r, ..state })[export];
             let (found, other_answer) = step(&mut second, w, state.pc, call);
             let at = format!("SISA_SEED={seed}, word {w:#06x}, {state:?}, then {call:?}");
-            assert_eq!(left.r, merged(masks.writes, left.r, state.r), "{at}");
+            // A zero divisor is stopped before the step.
+            let writes = if answer.steps == 0 { 0 } else { masks.writes };
+            assert_eq!(left.r, merged(writes, left.r, state.r), "{at}");
             let expected = ffi::State {
-                r: merged(masks.writes, left.r, r),
+                r: merged(writes, left.r, r),
                 ..left
             };
             assert_eq!((expected, answer), (found, other_answer), "{at}");
             assert_eq!(world.difference(&second), None, "{at}");
-            pairs += 1;
-            steps += answer.steps;
+            counts.take(&answer);
         }
     }
-    println!("seed {seed}: {pairs} pairs of one word, {steps} steps");
-    assert_eq!(steps, STEPS);
+    println!("seed {seed}, pairs of one word: {counts:?}");
+    counts.check(STEPS);
 }

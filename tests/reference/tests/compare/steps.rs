@@ -1,7 +1,7 @@
 //! One step of every word, by each export that steps.
 
-use crate::call::{Answer, Call, Sides};
-use crate::ffi::Lent;
+use crate::call::{Call, Sides};
+use crate::ffi::{self, Lent};
 use crate::make::one_of;
 use crate::random::Random;
 use crate::world::{Lengths, World};
@@ -26,9 +26,32 @@ pub fn random_state(random: &mut Random, w: u16) -> State {
     }
 }
 
-/// The steps of all words by three exports. Unassigned: opcodes 11 to 15, and 3
-/// of 8 values of f in opcode 1.
-pub const STEPS: u32 = 3 * (65_536 - 5 * 4_096 - 3 * 512);
+/// The steps of all words by three exports, where no divisor is zero.
+/// Unassigned: opcodes 12 to 15, and 3 of 8 values of f in opcodes 1 and 11.
+pub const STEPS: u32 = 3 * (65_536 - 4 * 4_096 - 2 * 3 * 512);
+
+/// What calls of one word replied.
+#[derive(Clone, Copy, Debug, Default)]
+pub struct Counts {
+    calls: u32,
+    steps: u32,
+    zero_divisors: u32,
+}
+
+impl Counts {
+    pub fn take(&mut self, answer: &ffi::Answer) {
+        self.calls += 1;
+        self.steps += answer.steps;
+        self.zero_divisors += u32::from(answer.stop == 3);
+    }
+
+    /// Asserts that there were so many steps, but for those that a zero divisor
+    /// stopped, and that some were.
+    pub fn check(&self, steps: u32) {
+        assert_eq!(self.steps + self.zero_divisors, steps, "{self:?}");
+        assert!(self.zero_divisors > 30, "{self:?}");
+    }
+}
 
 /// One step from this state by each export that steps.
 pub fn calls(state: State) -> [Call; 3] {
@@ -50,24 +73,18 @@ fn one_step_of_every_word() {
     let seed = seed();
     let mut random = random_of(seed, 3 << 32);
     let mut sides = Sides::new(World::random(&mut random));
-    let (mut count, mut steps) = (0, 0);
+    let mut counts = Counts::default();
     for w in 0..=0xFFFF_u16 {
         for export in 0..3 {
             let state = random_state(&mut random, w);
             let call = &calls(state)[export];
             sides.change(|lent| put(lent, state.pc, w));
-            count += 1;
-            steps += match sides.call(call, &Lengths::right(1)) {
-                Ok(Answer::Run(run)) => run.steps,
-                Ok(Answer::HostStep(_, answer)) => answer.steps,
-                Ok(answer) => panic!("{answer:?}"),
-                Err(difference) => panic!(
-                    "SISA_SEED={seed}, word {w:#06x} at PC, {call:?}\n\
-                     first difference (reference, library): {difference}"
-                ),
-            };
+            let answer = sides.run(call, &Lengths::right(1), || {
+                format!("SISA_SEED={seed}, word {w:#06x} at PC")
+            });
+            counts.take(&answer);
         }
     }
-    println!("seed {seed}: {count} calls of one word, {steps} steps");
-    assert_eq!(steps, STEPS);
+    println!("seed {seed}, one word each: {counts:?}");
+    counts.check(STEPS);
 }

@@ -14,7 +14,7 @@ pub struct Tally {
     /// By export and outcome.
     outcomes: BTreeMap<(&'static str, String), u64>,
     /// The sums of all runs' counts, by export.
-    counts: BTreeMap<&'static str, [u64; 41]>,
+    counts: BTreeMap<&'static str, [u64; 46]>,
 }
 
 /// All counts: kinds, reads, writes.
@@ -42,7 +42,7 @@ impl Tally {
             outcome = format!("stop {}", run.stop);
             self.steps += u64::from(run.steps);
             self.entries += run.entries;
-            let counts = self.counts.entry(export).or_insert([0; 41]);
+            let counts = self.counts.entry(export).or_insert([0; 46]);
             for (sum, count) in counts.iter_mut().zip(all(&run.usage)) {
                 *sum += count;
             }
@@ -63,6 +63,7 @@ impl Tally {
             "stop 0",
             "stop 1",
             "stop 2",
+            "stop 3",
             "refused 1",
             "refused 5",
             "refused 6",

@@ -102,6 +102,12 @@ impl Board {
         self.p[usize::from(pc.wrapping_add(1))] = w.to_le_bytes()[1];
     }
 
+    /// The word at PC.
+    pub fn word(&self) -> u16 {
+        let at = usize::from(self.s.pc);
+        u16::from_le_bytes([self.p[at], self.p[at + 1]])
+    }
+
     /// One step of the engine; None if no step is possible.
     pub fn step(&mut self, engine: Engine) -> Option<Stepped> {
         let stepped = engine.step(self.s, &mut self.places())?;

@@ -67,7 +67,8 @@ fn tables_by_hand() {
     // number(1_000, 40) mod 32 and number(1_000, 41), and so on.
     replaced(0, &[(22, 55_443)]);
     replaced(4, &[(25, 27_614)]);
-    replaced(5, &[(1, 0x4021), (3, 0x4001)]);
+    replaced(5, &[(3, 0x700E), (15, 0x4021)]);
+    replaced(13, &[(18, 0x40A1), (22, 0x4263)]);
     for t in (8..128).step_by(16) {
         replaced(t, &[(20, 0x4C00)]);
     }
@@ -141,6 +142,8 @@ fn instructions_by_hand() {
         (3, 10, 0x9B2E, "1 22 0 0 5 46 32 32 0 39726"), // MOVHI R5,46
         (1, 12, 0xA90A, "1 24 4 0 0 10 16 0 0 43274"), // OUT 10,R4
         (3, 14, 0xD9C2, "0 0 0 0 0 0 0 0 0 3"),    // unassigned; NOT written
+        (45, 10, 0xB3BC, "1 28 1 6 7 0 66 128 0 46012"), // DIV R7,R1,R6
+        (32, 10, 0xB56E, "0 0 0 0 0 0 0 0 0 2"),   // unassigned; XOR written
     ] {
         assert_eq!(number(c, 5_001 + 16 * i), w);
         let line = format!("instruction {c} {i} {expected}");
@@ -168,7 +171,7 @@ fn occur(lines: &[String], start: &str, endings: &[&str]) {
 }
 
 /// Refusals, and stop reasons of accepted runs.
-const OF_RUNS: [&str; 6] = ["1", "5", "6", "0 0", "0 1", "0 2"];
+const OF_RUNS: [&str; 7] = ["1", "5", "6", "0 0", "0 1", "0 2", "0 3"];
 
 #[test]
 fn every_refusal_and_stop_reason_occurs() {
@@ -194,7 +197,7 @@ fn every_refusal_and_stop_reason_occurs() {
     assert_eq!(count(&lines, "again"), accepted);
     assert_eq!(count(&lines, "again * 0"), accepted);
     occur(&lines, "refused", &["2", "3", "4", "8"]);
-    occur(&lines, "run", &["0", "1", "2"]);
+    occur(&lines, "run", &["0", "1", "2", "3"]);
 }
 
 #[test]
@@ -203,9 +206,19 @@ fn every_refusal_and_stop_reason_of_a_run_occurs_by_any_table() {
     assert_eq!(lines.len(), 512);
     assert_eq!(count(&lines, "run control"), 512);
     occur(&lines, "run control * *", &OF_RUNS);
-    // Table 56 has OUT's word at IN's place. Its program: SHA, IN, LDB,
-    // unassigned. The log lent has no place, then four.
-    occur(&lines, "run control 56", &["0 0 2 1 0", "1 0 1 2 1"]);
+    // Table 88 has OUT's word at IN's place. Its program: LD, SHA, STB, SHA, LD,
+    // IN, unassigned. The log lent has three places.
+    occur(&lines, "run control 88", &["0 0 1 6 1"]);
+}
+
+#[test]
+fn pc_moves_on_after_a_zero_divisor() {
+    // Case 38's program: DIVU R3,R5,R2, two ADDI, MOVI, CMPLTU, ADD, unassigned.
+    let lines = lines();
+    assert_eq!(file(38)[16..18], [0x9D, 0xBA]);
+    occur(&lines, "run rules 38 1", &["0 3 0 0"]);
+    occur(&lines, "run table 38 3", &["0 1 5 0"]);
+    occur(&lines, "run table 38 5", &["0 1 0 0"]);
 }
 
 /// Asserts that runs which stop with 2 have filled the log lent, the first

@@ -34,6 +34,12 @@ fn lines_by_hand() {
         "0014|9B3A|MOVHI R5, 58|reads R5|writes R5",
         "0016|A0FF|IN R0, 255|reads|writes R0",
         "0018|A903|OUT 3, R4|reads R4|writes",
+        "001A|B298|MUL R3, R1, R2|reads R1 R2|writes R3",
+        "001C|BA01|MULH R0, R5, R0|reads R0 R5|writes R0",
+        "001E|B492|MULHU R2, R2, R2|reads R2|writes R2",
+        "0020|BFC4|DIV R0, R7, R7|reads R7|writes R0",
+        "0022|B1FD|DIVU R7, R0, R7|reads R0 R7|writes R7",
+        "0024|B29B|.word 0xB29B|reads|writes",
         "001A|129F|.word 0x129F|reads|writes",
         "FFFE|FABC|.word 0xFABC|reads|writes",
     ] {
@@ -175,8 +181,11 @@ fn the_sample_has_ignored_bits_unassigned_words_and_far_branches() {
     // Bits that reading ignores.
     assert!(count(&|_, w| w < 0x1000 && written_back(w) != w) >= 7);
     assert!(count(&|_, w| w >> 12 == 7 && written_back(w) != w) >= 7);
-    assert!(count(&|_, w| w >> 12 == 1 && read(w).is_none()) >= 3);
-    for opcode in 11..16 {
+    for (opcode, f) in [(1, 2), (1, 6), (1, 7), (11, 3), (11, 6), (11, 7)] {
+        let found = count(&|_, w| (w >> 12, w & 7) == (opcode, f));
+        assert!(found > 0, "{opcode}, {f}");
+    }
+    for opcode in 12..16 {
         assert!(count(&|_, w| w >> 12 == opcode) > 0, "{opcode}");
     }
     // Branches backwards with and without wrapping, to themselves, forwards.

@@ -4,7 +4,9 @@
 mod assembly;
 mod board;
 mod conformance;
+mod divisors;
 mod engines;
+mod extension;
 mod listing;
 mod marked;
 mod masks;

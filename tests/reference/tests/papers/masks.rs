@@ -4,7 +4,7 @@
 use crate::board::{Board, Engine};
 use crate::random::Random;
 use crate::registers::merged;
-use crate::words::BY_HAND;
+use crate::words::{zero_divisor, BY_HAND};
 use reference::instruction::{read, Instruction, Kind};
 use reference::machine::{assigned, State, Stepped};
 use reference::masks::{masks, registers, Masks};
@@ -14,7 +14,7 @@ const R5: u8 = 0b0010_0000;
 const R6: u8 = 0b0100_0000;
 
 /// What the words of `BY_HAND` read and write.
-pub const MASKS: [(u8, u8); 25] = [
+pub const MASKS: [(u8, u8); 30] = [
     (R5 | R6, R3), // AND R3,R5,R6
     (R5 | R6, R3), // OR
     (R5 | R6, R3), // XOR
@@ -40,6 +40,11 @@ pub const MASKS: [(u8, u8); 25] = [
     (R3, R3),      // MOVHI R3,254
     (0, R3),       // IN R3,254
     (R5, 0),       // OUT 254,R5
+    (R5 | R6, R3), // MUL R3,R5,R6
+    (R5 | R6, R3), // MULH
+    (R5 | R6, R3), // MULHU
+    (R5 | R6, R3), // DIV
+    (R5 | R6, R3), // DIVU
 ];
 
 #[test]
@@ -61,6 +66,8 @@ fn edges_by_hand() {
         (0b1001_111_1_00000000, 0b1000_0000, 0b1000_0000),  // MOVHI R7,0
         (0b1001_000_0_11111111, 0, 0b0000_0001),            // MOVI R0,-1
         (0b1010_111_0_11111111, 0, 0b1000_0000),            // IN R7,255
+        (0b1011_010_010_001_100, 0b0000_0100, 0b0000_0010), // DIV R1,R2,R2
+        (0b1011_000_111_111_000, 0b1000_0001, 0b1000_0000), // MUL R7,R0,R7
     ] {
         assert_eq!(masks(w), Masks { reads, writes }, "{w:04X}");
     }
@@ -182,10 +189,11 @@ fn a_step_changes_the_register_of_writes_and_no_other() {
         let mut changed = 0;
         for _ in 0..30 {
             let state = random_state(&mut random);
-            let r = step(&mut board, w, state)
-                .expect("an assigned word")
-                .state
-                .r;
+            let Some(stepped) = step(&mut board, w, state) else {
+                assert!(zero_divisor(w, &state.r), "{w:04X} {state:?}");
+                continue;
+            };
+            let r = stepped.state.r;
             assert_eq!(r, merged(writes, r, state.r), "{w:04X} {state:?}");
             changed += u32::from(r != state.r);
         }

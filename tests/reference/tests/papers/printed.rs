@@ -44,6 +44,20 @@ fn refusal_8_comes_before_the_load() {
 }
 
 #[test]
+fn a_zero_divisor_is_stop_3() {
+    // MOVI R1,-6; OUT 1,R1; DIV R2,R1,R0
+    assert_eq!(
+        lines(&trim(&[0x92FA, 0xA301, 0xB214])),
+        [
+            "run 3 2 1",
+            "out 1 1 FFFA",
+            "pc 0004",
+            "r 0000 FFFA 0000 0000 0000 0000 0000 0000"
+        ]
+    );
+}
+
+#[test]
 fn the_budget_is_1_000() {
     // No program: every word is 0, AND R0,R0,R0.
     assert_eq!(

@@ -1,6 +1,7 @@
 //! Budgets, stop reasons and the log.
 
 use crate::board::{Board, ENGINES};
+use crate::words::unassigned;
 use reference::machine::State;
 use reference::run::{host_step, Reply};
 
@@ -50,10 +51,11 @@ fn stop_1_on_every_unassigned_word_and_on_no_other() {
         let mut log = [0; 1];
         for w in 0..=0xFFFF_u16 {
             board.s = State::reset();
+            // No divisor is zero.
+            board.s.r = [1; 8];
             board.put(0, w);
-            let unassigned = w >= 0xB000 || (w >> 12 == 1 && [2, 6, 7].contains(&(w & 7)));
             let (stop, steps, _) = done(board.run(engine, 1, &mut log));
-            let expected = if unassigned { (1, 0) } else { (0, 1) };
+            let expected = if unassigned(w) { (1, 0) } else { (0, 1) };
             assert_eq!((stop, steps), expected, "{w:04X}");
             assert_eq!(board.s.n, steps);
         }

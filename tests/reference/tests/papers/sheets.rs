@@ -17,19 +17,19 @@ fn sheet(counts: Usage, runs: u16) -> Sheet {
     }
 }
 
-/// Count k of all 41, kinds first, then reads, then writes.
+/// Count k of all 46, kinds first, then reads, then writes.
 fn count(counts: &mut Usage, k: usize) -> &mut u64 {
     match k {
-        0..=24 => &mut counts.kinds[k],
-        25..=32 => &mut counts.reads[k - 25],
-        _ => &mut counts.writes[k - 33],
+        0..=29 => &mut counts.kinds[k],
+        30..=37 => &mut counts.reads[k - 30],
+        _ => &mut counts.writes[k - 38],
     }
 }
 
 /// Counts that are all different: count k is `start` + `step` · k.
 fn ascending(start: u64, step: u64) -> Usage {
     let mut counts = Usage::default();
-    (0..41).for_each(|k| *count(&mut counts, k) = start + step * k as u64);
+    (0..46).for_each(|k| *count(&mut counts, k) = start + step * k as u64);
     counts
 }
 
@@ -83,7 +83,7 @@ fn thirteen_after_65_535_accepted_runs() {
 #[test]
 fn each_count_wraps_alone() {
     const MAX: u64 = u64::MAX;
-    for k in 0..41 {
+    for k in 0..46 {
         for (before, added, after) in [
             (MAX, 1, 0),
             (1, MAX, 0),
@@ -134,7 +134,7 @@ fn any_order_gives_the_sheet_of_the_plain_machine_s_steps() {
     }
     let mut expected = Usage::default();
     for mut counts in worked.iter().copied() {
-        (0..41).for_each(|k| *count(&mut expected, k) += *count(&mut counts, k));
+        (0..46).for_each(|k| *count(&mut expected, k) += *count(&mut counts, k));
     }
     assert!(worked.len() < runs.len());
     // "The sheet equals one worked out from the plain machine's steps, in

@@ -76,7 +76,40 @@ fn units() {
         (0x4061, 0x2204),
         (0x4081, 0x0481),
     ]);
-    check_r3(&[(0x40A1, 0), (0x40C1, 0), (0x40E1, 0)]);
+    check_r3(&[(0x40C1, 0), (0x40E1, 0)]);
+}
+
+/// Asserts what W with this f gives R3 by unit 5, of R1 = 0x9181 and each second
+/// operand: Rb = 0x0204, SE(N6) = 24 + f, SE(N8) = -104 + f, and none.
+fn check_unit_5(f: u16, values: [Option<u16>; 4]) {
+    let mut before = board();
+    before.s.r[1..3].copy_from_slice(&[0x9181, 0x0204]);
+    before.put(0x0100, W - 4 + f);
+    for (c, value) in [0x40A1, 0x41A1, 0x42A1, 0x43A1].into_iter().zip(values) {
+        let mut found = before.clone();
+        found.step(Engine::Table(&[c; 32]));
+        let mut expected = before.clone();
+        if let Some(value) = value {
+            expected.s.r[3] = value;
+            (expected.s.n, expected.s.pc) = (1, 0x0102);
+        }
+        assert!(found == expected, "{c:04X}, f {f}: {:?}", found.s);
+    }
+}
+
+#[test]
+fn unit_5_with_each_second_operand() {
+    // As signed 0x9181 is -28,287, as unsigned 37,249.
+    check_unit_5(0, [0x4804, 0xA418, 0xE398, 0].map(Some));
+    check_unit_5(1, [0xFF21, 0xFFF5, 0x002C, 0].map(Some));
+    check_unit_5(2, [0x0125, 0x000E, 0x9147, 0].map(Some));
+    // -28,287 / 516, 28, -100; no second operand stands for the number 0.
+    check_unit_5(4, [Some(0xFFCA), Some(0xFC0E), Some(0x011A), None]);
+    // 37,249 / 516, 29, 65,437
+    check_unit_5(5, [Some(0x0048), Some(0x0504), Some(0), None]);
+    for f in [3, 6, 7] {
+        check_unit_5(f, [None; 4]);
+    }
 }
 
 #[test]
@@ -108,9 +141,11 @@ fn stores() {
         board.o[0x9C] = 0x1181;
     });
     // A unit that isn't listed gives address 0.
-    check(0x44A0, 0x0102, None, |board| {
+    check(0x44C0, 0x0102, None, |board| {
         board.d[..2].copy_from_slice(&[0x04, 0x22]);
     });
+    // The quotient of Ra and SE(N6) is 160.
+    check(0x49A0, 0x0102, None, |board| board.d[160] = 0x04);
 }
 
 #[test]
@@ -148,17 +183,21 @@ fn several_at_once_read_before_any_writes() {
 fn every_control_word_with_every_f_stops_as_it_says() {
     let mut board = Board::new();
     for c in 0..=0xFFFF_u16 {
-        for f in 0..8 {
+        let (unit, second, store) = (c >> 5 & 7, c >> 8 & 3, c >> 10 & 3);
+        // N6 and N8 are f, so not zero where unit 5 divides; Rb is R0.
+        for (f, rb) in (0..8).flat_map(|f| [(f, 0), (f, 1)]) {
             board.s = State::reset();
+            board.s.r[0] = rb;
             board.put(0, f);
-            let unassigned = c & 0x4000 == 0 || (c >> 5 & 7 == 1 && [2, 6, 7].contains(&f));
-            let expected = match c >> 10 & 3 {
-                _ if unassigned => (1, 0, 0),
-                3 => (2, 0, 0),
+            let expected = match (unit, f) {
+                _ if c & 0x4000 == 0 => (1, 0, 0),
+                (1, 2 | 6 | 7) | (5, 3 | 6 | 7) => (1, 0, 0),
+                (5, 4 | 5) if second == 3 || (second == 0 && rb == 0) => (3, 0, 0),
+                _ if store == 3 => (2, 0, 0),
                 _ => (0, 1, 0),
             };
             let reply = board.run(Engine::Table(&[c; 32]), 1, &mut []);
-            assert_eq!(done(reply), expected, "{c:04X}, f {f}");
+            assert_eq!(done(reply), expected, "{c:04X}, f {f}, Rb {rb}");
         }
     }
 }
@@ -181,11 +220,12 @@ fn bit_15_says_nothing() {
     assert!((clear.d, clear.o) == (set.d, set.o));
 }
 
-/// The word with this place's opcode and, from opcode 8 on, its e.
+/// The word with this place's opcode and, where the table has a word for each,
+/// its e.
 fn moved_to(place: u16, w: u16) -> u16 {
     let opcode = place / 2 * 4_096;
     match place {
-        0..=15 => opcode + w % 4_096,
+        0..=15 | 22.. => opcode + w % 4_096,
         _ => opcode + (w & 0x0EFF) + place % 2 * 256,
     }
 }

@@ -5,7 +5,7 @@ use crate::board::{Board, Engine, COUNTED};
 use crate::masks::MASKS;
 use crate::random::Random;
 use crate::runs::done;
-use crate::words::BY_HAND;
+use crate::words::{zero_divisor, BY_HAND};
 use reference::machine::{assigned, State};
 use reference::usage::Usage;
 
@@ -39,7 +39,10 @@ fn check_one_step(w: u16, kind: usize, reads: u8, writes: u8) {
         expected.reads[k] = u64::from(reads >> k & 1);
         expected.writes[k] = u64::from(writes >> k & 1);
     }
-    assert_eq!(of_one_step(&Board::new(), w), expected, "{w:04X}");
+    let mut board = Board::new();
+    // No divisor is zero.
+    board.s.r = [1; 8];
+    assert_eq!(of_one_step(&board, w), expected, "{w:04X}");
 }
 
 #[test]
@@ -66,6 +69,8 @@ fn a_register_once_a_step() {
         (0b1000_111_1_00000000, 20, 0b1000_0000, 0),           // BNZ R7,0
         (0b1001_111_1_00000000, 22, 0b1000_0000, 0b1000_0000), // MOVHI R7,0
         (0b1001_111_0_00000000, 21, 0, 0b1000_0000),           // MOVI R7,0
+        (0b1011_010_010_010_000, 25, 0b0000_0100, 0b0000_0100), // MUL R2,R2,R2
+        (0b1011_011_000_011_101, 29, 0b0000_1001, 0b0000_1000), // DIVU R3,R3,R0
     ] {
         check_one_step(w, kind, reads, writes);
     }
@@ -159,8 +164,9 @@ fn count(usage: &mut Usage, w: u16) {
         (8, _) => (19 + e, vec![a], None),
         (9, 0) => (21, vec![], Some(a)),
         (9, _) => (22, vec![a], Some(a)),
-        (_, 0) => (23, vec![], Some(a)),
-        _ => (24, vec![a], None),
+        (10, 0) => (23, vec![], Some(a)),
+        (10, _) => (24, vec![a], None),
+        _ => (25 + f - usize::from(f > 3), vec![a, b], Some(d)),
     };
     usage.kinds[kind] += 1;
     (0..8).for_each(|k| usage.reads[k] += u64::from(reads.contains(&k)));
@@ -170,9 +176,10 @@ fn count(usage: &mut Usage, w: u16) {
 #[test]
 fn one_step_of_every_word() {
     let mut board = Board::random(&mut Random::new(0x5EE7));
+    board.s.r[3] = 0;
     for w in 0..=0xFFFF {
         let mut expected = Usage::default();
-        if assigned(w) {
+        if assigned(w) && !zero_divisor(w, &board.s.r) {
             count(&mut expected, w);
         }
         board.put(board.s.pc, w);
@@ -190,9 +197,7 @@ fn one_step_of_every_word() {
 pub fn worked_out(mut board: Board, steps: u32) -> (Usage, State) {
     let mut usage = Usage::default();
     for _ in 0..steps {
-        let at = usize::from(board.s.pc);
-        let w = u16::from_le_bytes([board.p[at], board.p[at + 1]]);
-        count(&mut usage, w);
+        count(&mut usage, board.word());
         board.step(Engine::Rules).expect("a step is possible");
     }
     (usage, board.s)
@@ -215,7 +220,7 @@ fn random_runs() {
         assert_eq!(usage.kinds.iter().sum::<u64>(), u64::from(steps));
         let of_registers = usage.reads.iter().chain(&usage.writes);
         assert!(of_registers.max() <= Some(&steps.into()));
-        (0..25).for_each(|k| total.kinds[k] += usage.kinds[k]);
+        (0..30).for_each(|k| total.kinds[k] += usage.kinds[k]);
     }
     assert!(total.kinds.iter().all(|&count| count > 100), "{total:?}");
 }

@@ -5,7 +5,7 @@ use reference::machine::{assigned, is_out};
 
 /// One word of each kind, put together by hand from the sheet's formats, with
 /// its a, b, d, n.
-pub const BY_HAND: [(u16, i32, i32, i32, i32); 25] = [
+pub const BY_HAND: [(u16, i32, i32, i32, i32); 30] = [
     (0b0000_101_110_011_000, 5, 6, 3, 0),   // AND R3,R5,R6
     (0b0000_101_110_011_001, 5, 6, 3, 0),   // OR
     (0b0000_101_110_011_010, 5, 6, 3, 0),   // XOR
@@ -31,6 +31,11 @@ pub const BY_HAND: [(u16, i32, i32, i32, i32); 25] = [
     (0b1001_011_1_11111110, 0, 0, 3, 254),  // MOVHI R3,254
     (0b1010_011_0_11111110, 0, 0, 3, 254),  // IN R3,254
     (0b1010_101_1_11111110, 5, 0, 0, 254),  // OUT 254,R5
+    (0b1011_101_110_011_000, 5, 6, 3, 0),   // MUL R3,R5,R6
+    (0b1011_101_110_011_001, 5, 6, 3, 0),   // MULH
+    (0b1011_101_110_011_010, 5, 6, 3, 0),   // MULHU
+    (0b1011_101_110_011_100, 5, 6, 3, 0),   // DIV
+    (0b1011_101_110_011_101, 5, 6, 3, 0),   // DIVU
 ];
 
 fn kind(number: usize) -> Kind {
@@ -53,17 +58,33 @@ fn one_word_of_each_kind_by_hand() {
 }
 
 #[test]
-fn kinds_are_numbered_in_the_sheet_s_order() {
+fn kinds_are_numbered_in_the_sheet_s_order_then_l6_s() {
     for number in 0..=255_u8 {
         match Kind::from_number(number) {
             Some(kind) => assert_eq!(kind.number(), number),
-            None => assert!(number >= 25),
+            None => assert!(number >= 30),
         }
-        assert_eq!(Kind::from_number(number).is_some(), number < 25);
+        assert_eq!(Kind::from_number(number).is_some(), number < 30);
     }
     assert_eq!(Kind::from_number(3), Some(Kind::Not));
     assert_eq!(Kind::from_number(18), Some(Kind::Jalr));
     assert_eq!(Kind::from_number(24), Some(Kind::Out));
+    assert_eq!(Kind::from_number(25), Some(Kind::Mul));
+    assert_eq!(Kind::from_number(29), Some(Kind::Divu));
+}
+
+/// Of opcode 1 f = 2, 6, 7; of opcode 11 f = 3, 6, 7; opcodes 12 to 15.
+pub fn unassigned(w: u16) -> bool {
+    match w >> 12 {
+        1 => [2, 6, 7].contains(&(w & 7)),
+        11 => [3, 6, 7].contains(&(w & 7)),
+        opcode => opcode >= 12,
+    }
+}
+
+/// DIV or DIVU where Rb is zero.
+pub fn zero_divisor(w: u16, r: &[u16; 8]) -> bool {
+    w >> 12 == 11 && [4, 5].contains(&(w & 7)) && r[usize::from(w >> 6 & 7)] == 0
 }
 
 /// "Writing what was read returns the word with those bits cleared."
@@ -77,24 +98,23 @@ pub fn written_back(w: u16) -> u16 {
 
 #[test]
 fn all_words_read_then_written() {
-    let mut unassigned = 0;
+    let mut count = 0;
     for w in 0..=0xFFFF_u16 {
-        let expected_unassigned = w >= 0xB000 || (w >> 12 == 1 && [2, 6, 7].contains(&(w & 7)));
         match read(w) {
             None => {
-                assert!(expected_unassigned, "{w:04X}");
-                unassigned += 1;
+                assert!(unassigned(w), "{w:04X}");
+                count += 1;
             }
             Some(x) => {
-                assert!(!expected_unassigned, "{w:04X}");
+                assert!(!unassigned(w), "{w:04X}");
                 assert_eq!(write(x), Ok(written_back(w)));
                 assert_eq!(read(written_back(w)), Some(x));
                 assert_eq!(is_out(w), x.kind == Kind::Out);
             }
         }
-        assert_eq!(assigned(w), !expected_unassigned);
+        assert_eq!(assigned(w), !unassigned(w));
     }
-    assert_eq!(unassigned, 5 * 4_096 + 4_096 * 3 / 8);
+    assert_eq!(count, 4 * 4_096 + 2 * 4_096 * 3 / 8);
 }
 
 /// Least and greatest of a, b, d, n by kind: "Registers are 0 to 7. n is
@@ -144,7 +164,7 @@ fn every_kind_with_parts_in_and_out_of_range() {
         65_536,
         i32::MAX,
     ];
-    for number in 0..25 {
+    for number in 0..30 {
         let kind = kind(number);
         let [of_a, of_b, of_d, of_n] = limits(kind);
         for a in registers {
@@ -177,7 +197,7 @@ fn every_kind_with_parts_in_and_out_of_range() {
 fn every_instruction_reads_back_as_itself_and_no_two_share_a_word() {
     let mut seen = vec![false; 65_536];
     let mut count = 0;
-    for number in 0..25 {
+    for number in 0..30 {
         let kind = kind(number);
         let [of_a, of_b, of_d, of_n] = limits(kind);
         for a in of_a.0..=of_a.1 {
@@ -195,6 +215,6 @@ fn every_instruction_reads_back_as_itself_and_no_two_share_a_word() {
             }
         }
     }
-    // Opcode 0: 7 of 512 and NOT's 64; opcode 1: 5 of 512; 2 to 6; JALR; 8 to 10.
-    assert_eq!(count, 7 * 512 + 64 + 5 * 512 + 5 * 4_096 + 64 + 3 * 4_096);
+    // Opcode 0: 7 of 512 and NOT's 64; 1 and 11: 5 of 512 each; 2 to 6; JALR; 8 to 10.
+    assert_eq!(count, 7 * 512 + 64 + 10 * 512 + 5 * 4_096 + 64 + 3 * 4_096);
 }

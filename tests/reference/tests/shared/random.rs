@@ -46,9 +46,11 @@ impl Random {
         if self.below(200) == 0 {
             return self.word();
         }
-        let w = (self.below(11) * 4_096 + self.below(4_096)) as u16;
+        let w = (self.below(12) * 4_096 + self.below(4_096)) as u16;
         match w / 4_096 {
             1 => w - w % 8 + [0, 1, 3, 4, 5][self.below(5) as usize],
+            // Few divisions, or runs soon end before a zero divisor.
+            11 => w - w % 8 + [0, 0, 1, 1, 2, 2, 4, 5][self.below(8) as usize],
             // Few jumps, or runs soon end in a short loop.
             7 | 8 if self.below(2) == 0 => 0x2000 + w % 4_096,
             _ => w,

@@ -11,7 +11,7 @@ large-counts-spec =
     tie.close
     (tie.spec
     (λ _ _ _ _ _. Unit {0})
-    (λ _ _ _ _ k. 25 - k)
+    (λ _ _ _ _ k. 30 - k)
     (λ _ _ _ _ _ _ _ _. Unit {0})
     (λ _ _ _ _ _ _ _ j. 8 - j)
     (λ c. tt)

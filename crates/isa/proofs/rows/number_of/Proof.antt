@@ -5,13 +5,14 @@ use mathlib.Core.Path.{_≡_, refl, _∙_, ap}
 use Prim.Native.Nat.{ℕ, _+_, _-_, _*_, _/_, _%_, _<_}
 use native.Mathlib.Omega.{arith}
 use borrow.Author.Needs.{needs}
-use borrow.Author.Tests.{lt-ltb, le-ltb}
+use borrow.Author.Tests.{lt-ltb, le-ltb, eq-eqb, ne-eqb}
 use lib.Dec.{T, eqb, ltb, eqb→eq}
-use lib.ListN.{getD, drop}
+use lib.ListN.{length, getD, take, drop}
 use Rattle.word.specs.Fields.{opcode, e-of, f-of}
 use Rattle.word.specs.Word.{pick}
 use Rattle.word.proofs.Computed.{all}
-use Rattle.isa.specs.Sheet.{Row, operationKinds, comparisonKinds, rows, inRow, kindAt}
+use Rattle.kinds.specs.Kinds.{kinds}
+use Rattle.isa.specs.Sheet.{Row, operationKinds, comparisonKinds, muldivKinds, rows, inRow, kindAt}
 use Rattle.isa.specs.Layouts.{entryNumber}
 use Rattle.isa.proofs.Every.{at-word, kind-same}
 use Rattle.isa.proofs.rows.number_of.Statement.{statement}
@@ -22,7 +23,8 @@ abbrev numberAt : ℕ → ℕ → ℕ → ℕ
 numberAt op e f =
     pick (ltb op 2)
     (getD (map entryNumber (operationKinds ++ comparisonKinds)) (op * 8 + f) 0)
-    (getD (map (λ (r : Row). entryNumber (inRow r e 0)) (drop 2 rows)) (op - 2) 0)
+    (pick (eqb op 11) (getD (map entryNumber muldivKinds) f 0)
+    (pick (ltb 11 op) (length kinds) (getD (map (λ (r : Row). entryNumber (inRow r e 0)) (take 9 (drop 2 rows))) (op - 2) 0)))
 
 tested : T (all 16 (λ op. all 2 (λ e. all 8 (λ f. eqb (numberAt op e f) (entryNumber (kindAt op e f))))))
 unfolding all kindAt
@@ -38,10 +40,21 @@ returns : tie.Need-returns
 returns c = rw (lt-ltb _ _ (c .if1 .taken)) at (number-is (c .before .args .w) _ (omega arith) refl)
 
 returns-2 : tie.Need-returns-2
-returns-2 c = rw (le-ltb _ _ (c .before .if1 .left)) at (number-is (c .before .before .args .w) 0 (omega arith) (omega arith))
+returns-2 c = rw (le-ltb _ _ (c .before .if1 .left), eq-eqb _ _ (c .if2 .taken)) at (number-is (c .before .before .args .w) _ (omega arith) refl)
 
 returns-3 : tie.Need-returns-3
-returns-3 c = rw (le-ltb _ _ (c .before .if1 .left)) at (number-is (c .before .before .args .w) 1 (omega arith) (omega arith))
+returns-3 c =
+    rw (le-ltb _ _ (c .before .before .if1 .left), ne-eqb _ _ (c .before .if2 .left), lt-ltb _ _ (c .if3 .taken)) at (number-is (c .before .before .before .args .w) _ (omega arith) refl)
+
+returns-4 : tie.Need-returns-4
+returns-4 c =
+    let t = c .before .before .before in
+    rw (le-ltb _ _ (t .if1 .left), ne-eqb _ _ (c .before .before .if2 .left), le-ltb _ _ (c .before .if3 .left)) at (number-is (t .before .args .w) 0 (omega arith) (omega arith))
+
+returns-5 : tie.Need-returns-5
+returns-5 c =
+    let t = c .before .before .before in
+    rw (le-ltb _ _ (t .if1 .left), ne-eqb _ _ (c .before .before .if2 .left), le-ltb _ _ (c .before .if3 .left)) at (number-is (t .before .args .w) 1 (omega arith) (omega arith))
 
 pub number-of-spec : {M : Type 1} → statement M
 number-of-spec =
@@ -54,6 +67,9 @@ number-of-spec =
     (λ c. search needs)
     returns
     (λ c. search needs)
-    (λ c. search needs)
     returns-2
-    returns-3)
+    returns-3
+    (λ c. search needs)
+    (λ c. search needs)
+    returns-4
+    returns-5)

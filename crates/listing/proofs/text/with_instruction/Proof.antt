@@ -5,11 +5,12 @@ use mathlib.Core.Path.{ap}
 use native.Mathlib.Omega.{arith}
 use borrow.Author.Needs.{needs}
 use lib.ListN.{length}
+use Rattle.statement.specs.Syntax.{table}
 use Rattle.listing.proofs.Rows.{row-small, name-short, instruction-written}
 use Rattle.listing.proofs.text.with_instruction.Statement.{statement}
 use Rattle.listing.proofs.text.with_instruction.Tie as tie
 
-small : (c : tie.After-kind-number) → c .kind-number .result < 26
+small : (c : tie.After-kind-number) → c .kind-number .result < length table
 small c = row-small (c .before .args .i .kind) (c .kind-number .ensures)
 
 add-to : tie.Need-add-to

@@ -7,6 +7,7 @@ use native.Mathlib.Omega.{arith}
 use borrow.Author.Needs.{needs}
 use lib.ListN.{length}
 use Rattle.token.specs.Scan.{part}
+use Rattle.statement.specs.Syntax.{table}
 use Rattle.statement.proofs.Search.{Searching, searching, searched, found, passed-by, other-first}
 use Rattle.statement.proofs.Tables.{short-row}
 use Rattle.statement.proofs.rows.row_of.Statement.{statement}
@@ -16,7 +17,7 @@ abbrev Inv-loop : tie.InvT-loop
 Inv-loop text rows start end lengths first k₀ k = Searching (part start end text) k
 
 abbrev μ-loop : tie.MeasureT-loop
-μ-loop text rows start end lengths first k₀ k = 26 - k
+μ-loop text rows start end lengths first k₀ k = length table - k
 
 read-first-of-row : tie.Need-shared-slice-read-if1 Inv-loop μ-loop
 read-first-of-row c =

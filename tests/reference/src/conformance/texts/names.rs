@@ -15,11 +15,12 @@ pub fn sorts() -> Vec<Sort> {
     ]
 }
 
-const GOOD: [&str; 12] = [
+const GOOD: [&str; 13] = [
     ".word a\n.word b-a\na: .word b\nb:",
     "a:\n\n  b :\nc:.word a+b+c\nd:",
     " a : .word b\n  \nb:\n",
     "ADD: ADD R1, R2, R3\nMOVI: MOVI R1, ADD\nBZ R0, MOVI\n.word ADD|MOVI",
+    "MUL: MUL R1, R2, R3\nDIVU:\nDIV R1, R2, R3\nMOVI R1, DIVU\n.word MUL-DIVU",
     "word: .word word\nx: .word x\nxFF: .word xFF\nFF: .word FF\nBEEF: .word BEEF",
     "R8: .word R8\nR: .word R\nR00: .word R00\nr0: .word r0\nR10: .word R10\nRR1: .word RR1",
     "a: .word 1\nA: .word 2\n.word a-A\n.word A",

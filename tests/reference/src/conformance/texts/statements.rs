@@ -61,7 +61,7 @@ fn token_missing() -> Vec<String> {
     texts
 }
 
-const WRONG_SHAPE: [&str; 12] = [
+const WRONG_SHAPE: [&str; 15] = [
     "ADD R1, R2, R3, R4",
     "ADD R1, R2, 5",
     "NOT R1, R2, R3",
@@ -73,13 +73,20 @@ const WRONG_SHAPE: [&str; 12] = [
     "BNZ 4, R1",
     "MOVHI R1 5",
     "OUT R1, 4",
+    "MUL R1, R2",
+    "MULH R1, R2, 4",
+    "DIV R1, R2, R3, R4",
     ".word 1 .word 2",
 ];
 
-const WRONG_WORD: [&str; 9] = [
+const WRONG_WORD: [&str; 13] = [
     "add R1, R2, R3",
     "CMPL R1, R2, R3",
     "MOVIR1, 5",
+    "MULU R1, R2, R3",
+    "DIVH R1, R2, R3",
+    "Mulhu R1, R2, R3",
+    "DIVUR1, R2, R3",
     ".WORD 1",
     ".word1",
     "..word 1",

@@ -2,7 +2,7 @@
 
 /// Each statement: the mnemonic, then its parts. r is a register, s a signed
 /// N6, t a branch's target, m MOVI's N8, u an unsigned N8, w a word.
-pub const SHAPES: [(&str, &str); 26] = [
+pub const SHAPES: [(&str, &str); 31] = [
     ("AND", "r,r,r"),
     ("OR", "r,r,r"),
     ("XOR", "r,r,r"),
@@ -28,6 +28,11 @@ pub const SHAPES: [(&str, &str); 26] = [
     ("MOVHI", "r,u"),
     ("IN", "r,u"),
     ("OUT", "u,r"),
+    ("MUL", "r,r,r"),
+    ("MULH", "r,r,r"),
+    ("MULHU", "r,r,r"),
+    ("DIV", "r,r,r"),
+    ("DIVU", "r,r,r"),
     (".word", "w"),
 ];
 

@@ -4,7 +4,7 @@ use super::{all_outside, words};
 
 /// "One instruction a line in 004's syntax": one of each, with its word put
 /// together by hand from the sheet's formats.
-const BY_HAND: [(&str, u16); 25] = [
+const BY_HAND: [(&str, u16); 30] = [
     ("AND R3, R5, R6", 0b0000_101_110_011_000),
     ("OR R3, R5, R6", 0b0000_101_110_011_001),
     ("XOR R3, R5, R6", 0b0000_101_110_011_010),
@@ -32,6 +32,11 @@ const BY_HAND: [(&str, u16); 25] = [
     ("MOVHI R3, 254", 0b1001_011_1_11111110),
     ("IN R3, 254", 0b1010_011_0_11111110),
     ("OUT 254, R5", 0b1010_101_1_11111110),
+    ("MUL R3, R5, R6", 0b1011_101_110_011_000),
+    ("MULH R3, R5, R6", 0b1011_101_110_011_001),
+    ("MULHU R3, R5, R6", 0b1011_101_110_011_010),
+    ("DIV R3, R5, R6", 0b1011_101_110_011_100),
+    ("DIVU R3, R5, R6", 0b1011_101_110_011_101),
 ];
 
 #[test]
@@ -115,6 +120,11 @@ fn operands_missing_too_many_or_in_another_order() {
         "IN R1",
         "OUT R1, 5",
         "OUT 5",
+        "MUL R1, R2",
+        "MULH R1, R2, R3, R4",
+        "MULHU R1, R2, 3",
+        "DIV 1, R2, R3",
+        "DIVU R1 R2 R3",
     ]);
 }
 
@@ -136,7 +146,12 @@ fn no_register() {
 #[test]
 fn no_mnemonic() {
     all_outside(&[
-        "MUL R1, R2, R3",
+        "MULU R1, R2, R3",
+        "DIVH R1, R2, R3",
+        "MOD R1, R2, R3",
+        "Mul R1, R2, R3",
+        "div R1, R2, R3",
+        "MULF R1, R2, R3",
         "CMPL R1, R2, R3",
         "HALT",
         "EI",

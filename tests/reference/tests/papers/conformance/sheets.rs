@@ -6,7 +6,7 @@ use reference::conformance::{lines, number, Digest};
 /// "The digest of counts", count k in its order being `count(k)`.
 fn digest(count: impl Fn(u64) -> u64) -> u64 {
     let mut digest = Digest::default();
-    for k in 0..41 {
+    for k in 0..46 {
         digest.take(count(k) % (1 << 32));
         digest.take(count(k) >> 32);
     }
@@ -16,8 +16,8 @@ fn digest(count: impl Fn(u64) -> u64) -> u64 {
 #[test]
 fn first_runs_by_hand() {
     // Places of counts in the digest's order.
-    const READ: u64 = 25;
-    const WRITE: u64 = 33;
+    const READ: u64 = 30;
+    const WRITE: u64 = 38;
     let lines = lines();
     for (at, numbers, counted, runs) in [
         // ADD R4,R6,R2
@@ -31,10 +31,13 @@ fn first_runs_by_hand() {
         ("20 0", "0 0 1 0", &[20, READ + 4], 1),
         // STB -26(R4),R1
         ("50 0", "0 0 1 0", &[17, READ + 4, READ + 1], 65_531),
-        // ST -18(R6),R3
-        ("6 2", "0 0 1 0", &[15, READ + 6, READ + 3], 1),
-        // Unassigned, and refused
-        ("19 2", "0 1 0 0", &[], 65_531),
+        // LD R3,-18(R6)
+        ("6 2", "0 0 1 0", &[14, READ + 6, WRITE + 3], 1),
+        // MULH R5,R6,R6
+        ("7 0", "0 0 1 0", &[26, READ + 6, WRITE + 5], 1),
+        // DIVU R3,R5,R2 by zero
+        ("38 1", "0 3 0 0", &[], 1),
+        // Refused
         ("12 0", "6 0 0 0", &[], 65_530),
         ("5 0", "6 0 0 0", &[], 0),
     ] {

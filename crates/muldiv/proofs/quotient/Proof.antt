@@ -1,0 +1,13 @@
+-- `muldiv::quotient` meets its contract: a quotient by 0 is 0.
+-- Assumes nothing.
+use mathlib.Core.Path.{sym}
+use native.Mathlib.Nat.{div-zero}
+use borrow.Author.Needs.{needs}
+use Rattle.muldiv.proofs.quotient.Statement.{statement}
+use Rattle.muldiv.proofs.quotient.Tie as tie
+
+returns : tie.Need-returns
+returns c = rw (c .if1 .taken) (sym (div-zero (c .before .args .x)))
+
+pub quotient-spec : {M : Type 1} → statement M
+quotient-spec = tie.close (tie.spec (λ c. search needs) returns (λ c. search needs))
