@@ -8,7 +8,10 @@ use Rattle.machine.specs.Machine.{Machine}
 use Rattle.machine.specs.Step.{choice, stepBy, Next}
 use Rattle.machine.specs.Run.{Stepper, isOut, byRules}
 use Rattle.control.specs.Control.{controlIn, controlStep, writesPort, byControl}
-use Rattle.run.specs.Runs.{Given}
+use Rattle.machine.specs.declared.State.{State}
+use Rattle.machine.specs.Slices.{Slice}
+use Rattle.run.specs.declared.Counted.{Counted}
+use Rattle.run.specs.Runs.{Given, CountedLeft, lentTo, leftWith, acceptedCounted}
 
 -- what the loop of an accepted run needs, which the refusals leave
 pub record CanRun (g : Given) : Type 0 where
@@ -32,3 +35,9 @@ stepOf false words w m = stepBy (choice w) w m
 abbrev pub writesOf : Bool → List ℕ → ℕ → Bool
 writesOf true words w = writesPort (controlIn words w)
 writesOf false words w = isOut w
+
+-- the contract of the loop of an accepted run
+abbrev pub RunsAccepted : Stepper → State → Slice → Slice → Slice → Slice → ℕ → Slice → Counted → Type 0
+RunsAccepted v start program memory inputs outputs budget log r =
+    _≡_ {A = CountedLeft} (record { left = leftWith program memory inputs outputs log (r .answer) (r .state); usage = r .usage })
+    (acceptedCounted v (lentTo start program memory inputs outputs budget log))

@@ -1,8 +1,7 @@
 // The loop of a run: fetch, step and count.
-ghost use mathlib.Core.Path.{_≡_};
-ghost use Rattle.machine.specs.Held.{held, Ready, StepMeets};
-ghost use Rattle.run.specs.Runs.{CountedLeft, given, left, shownAnswer, acceptedCounted};
-ghost use Rattle.cycle.specs.Loops.{CanRun, chosen, stepOf, writesOf};
+ghost use Rattle.machine.specs.Held.{held, Ready, StepsAs};
+ghost use Rattle.run.specs.Runs.{given};
+ghost use Rattle.cycle.specs.Loops.{CanRun, RunsAccepted, chosen, stepOf, writesOf};
 use machine::State;
 use machine::Stepped;
 use run::Answer;
@@ -23,7 +22,7 @@ fn step(
     entries: usize,
 ) -> Stepped
     requires { ⌜ Ready (held state (now memory) (now inputs) (now outputs) (now log) entries) ⌝ }
-    ensures { λ r. ⌜ StepMeets (stepOf «by_table» (now (table .entry)) w) (writesOf «by_table» (now (table .entry)) w) (held state (now (memory .entry)) (now (inputs .entry)) (now (outputs .entry)) (now (log .entry)) entries) (r .stop) (held (r .state) (now (memory .exit)) (now (inputs .exit)) (now (outputs .exit)) (now (log .exit)) (r .entries)) ⌝ }
+    ensures { λ r. ⌜ StepsAs (stepOf «by_table» (now (table .entry)) w) (writesOf «by_table» (now (table .entry)) w) state memory inputs outputs log entries r ⌝ }
 {
     if by_table {
         let control = control::control_of(table, w);
@@ -46,7 +45,7 @@ pub fn run_accepted(
     log: &mut [u64],
 ) -> Counted
     requires { ⌜ CanRun (given start (now program) (now memory) (now inputs) (now outputs) budget (now log)) ⌝ }
-    ensures { λ r. ⌜ _≡_ {A = CountedLeft} (record { left = left (shownAnswer (r .answer)) (r .state) (now (program .exit)) (now (memory .exit)) (now (inputs .exit)) (now (outputs .exit)) (now (log .exit)); usage = r .usage }) (acceptedCounted (chosen «by_table» (now (table .entry))) (given start (now (program .entry)) (now (memory .entry)) (now (inputs .entry)) (now (outputs .entry)) budget (now (log .entry)))) ⌝ }
+    ensures { λ r. ⌜ RunsAccepted (chosen «by_table» (now (table .entry))) start program memory inputs outputs budget log r ⌝ }
 {
     let mut state = start;
     let mut steps: u32 = 0;

@@ -3,7 +3,7 @@ ghost use mathlib.Core.Path.{_≡_};
 ghost use mathlib.Core.Bool.{true};
 ghost use lib.Dec.{leb};
 ghost use lib.ListN.{length};
-ghost use Rattle.machine.specs.Held.{held, Ready, StepMeets};
+ghost use Rattle.machine.specs.Held.{held, Ready, StepsAs};
 ghost use Rattle.control.specs.Control.{writesPort, controlStep};
 ghost use Rattle.datapath.specs.Parts.{Lent, stopOf, resultAnswer, isResult};
 use machine::State;
@@ -44,7 +44,7 @@ fn performed(
 ) -> Stepped
     requires { ⌜ Ready (held state (now memory) (now inputs) (now outputs) (now log) entries) ⌝ }
     requires { ⌜ stopOf control w state (leb (length (now log)) entries) ≡ 0 ⌝ }
-    ensures { λ r. ⌜ StepMeets (controlStep control w) (writesPort control) (held state (now (memory .entry)) (now (inputs .entry)) (now (outputs .entry)) (now (log .entry)) entries) (r .stop) (held (r .state) (now (memory .exit)) (now (inputs .exit)) (now (outputs .exit)) (now (log .exit)) (r .entries)) ⌝ }
+    ensures { λ r. ⌜ StepsAs (controlStep control w) (writesPort control) state memory inputs outputs log entries r ⌝ }
 {
     let x = state.ra(w);
     let y = state.rb(w);
@@ -71,7 +71,7 @@ fn field_step(
     entries: usize,
 ) -> Stepped
     requires { ⌜ Ready (held state (now memory) (now inputs) (now outputs) (now log) entries) ⌝ }
-    ensures { λ r. ⌜ StepMeets (controlStep control w) (writesPort control) (held state (now (memory .entry)) (now (inputs .entry)) (now (outputs .entry)) (now (log .entry)) entries) (r .stop) (held (r .state) (now (memory .exit)) (now (inputs .exit)) (now (outputs .exit)) (now (log .exit)) (r .entries)) ⌝ }
+    ensures { λ r. ⌜ StepsAs (controlStep control w) (writesPort control) state memory inputs outputs log entries r ⌝ }
 {
     let stop = stop_of(control, w, state, log.len() <= entries);
     if stop == 0 {
@@ -93,7 +93,7 @@ fn other_step(
     entries: usize,
 ) -> Stepped
     requires { ⌜ Ready (held state (now memory) (now inputs) (now outputs) (now log) entries) ⌝ }
-    ensures { λ r. ⌜ StepMeets (controlStep control w) (writesPort control) (held state (now (memory .entry)) (now (inputs .entry)) (now (outputs .entry)) (now (log .entry)) entries) (r .stop) (held (r .state) (now (memory .exit)) (now (inputs .exit)) (now (outputs .exit)) (now (log .exit)) (r .entries)) ⌝ }
+    ensures { λ r. ⌜ StepsAs (controlStep control w) (writesPort control) state memory inputs outputs log entries r ⌝ }
 {
     if groups::is_store(control) {
         groups::store(control, w, state, memory);
@@ -143,7 +143,7 @@ pub fn step(
     entries: usize,
 ) -> Stepped
     requires { ⌜ Ready (held state (now memory) (now inputs) (now outputs) (now log) entries) ⌝ }
-    ensures { λ r. ⌜ StepMeets (controlStep control w) (writesPort control) (held state (now (memory .entry)) (now (inputs .entry)) (now (outputs .entry)) (now (log .entry)) entries) (r .stop) (held (r .state) (now (memory .exit)) (now (inputs .exit)) (now (outputs .exit)) (now (log .exit)) (r .entries)) ⌝ }
+    ensures { λ r. ⌜ StepsAs (controlStep control w) (writesPort control) state memory inputs outputs log entries r ⌝ }
 {
     if groups::is_result(control) {
         result_step(control, w, state, memory, inputs, entries)

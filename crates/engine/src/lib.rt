@@ -1,7 +1,7 @@
 // Runs of a trim, by the rules or by a control table.
 ghost use Rattle.machine.specs.Run.{byRules};
 ghost use Rattle.control.specs.Control.{byControl, byTable};
-ghost use Rattle.run.specs.Runs.{given, left, RunMeets, CountedMeets, shownAnswer};
+ghost use Rattle.run.specs.Runs.{RunsCounted, RunsOnly};
 ghost use Rattle.cycle.specs.Loops.{chosen};
 use control::control_table;
 use machine::State;
@@ -23,7 +23,7 @@ fn run(
     budget: u32,
     log: &mut [u64],
 ) -> Counted
-    ensures { λ r. ⌜ CountedMeets (chosen «by_table» (now (table .entry))) (given state (now (program .entry)) (now (memory .entry)) (now (inputs .entry)) (now (outputs .entry)) budget (now (log .entry))) (record { left = left (shownAnswer (r .answer)) (r .state) (now (program .exit)) (now (memory .exit)) (now (inputs .exit)) (now (outputs .exit)) (now (log .exit)); usage = r .usage }) ⌝ }
+    ensures { λ r. ⌜ RunsCounted (chosen «by_table» (now (table .entry))) state program memory inputs outputs budget log r ⌝ }
 {
     match run::checked(state, program, memory, inputs, outputs, budget) {
         Check::Accepted => cycle::run_accepted(
@@ -55,7 +55,7 @@ pub fn run_by_rules(
     budget: u32,
     log: &mut [u64],
 ) -> Counted
-    ensures { λ r. ⌜ CountedMeets byRules (given state (now (program .entry)) (now (memory .entry)) (now (inputs .entry)) (now (outputs .entry)) budget (now (log .entry))) (record { left = left (shownAnswer (r .answer)) (r .state) (now (program .exit)) (now (memory .exit)) (now (inputs .exit)) (now (outputs .exit)) (now (log .exit)); usage = r .usage }) ⌝ }
+    ensures { λ r. ⌜ RunsCounted byRules state program memory inputs outputs budget log r ⌝ }
 {
     run(
         false,
@@ -81,7 +81,7 @@ pub fn run_by_control(
     budget: u32,
     log: &mut [u64],
 ) -> Ran
-    ensures { λ r. ⌜ RunMeets (byControl (now (words .entry))) (given state (now (program .entry)) (now (memory .entry)) (now (inputs .entry)) (now (outputs .entry)) budget (now (log .entry))) (left (shownAnswer (r .answer)) (r .state) (now (program .exit)) (now (memory .exit)) (now (inputs .exit)) (now (outputs .exit)) (now (log .exit))) ⌝ }
+    ensures { λ r. ⌜ RunsOnly (byControl (now (words .entry))) state program memory inputs outputs budget log r ⌝ }
 {
     let ran = run(
         true,
@@ -109,7 +109,7 @@ pub fn run_by_table(
     budget: u32,
     log: &mut [u64],
 ) -> Counted
-    ensures { λ r. ⌜ CountedMeets byTable (given state (now (program .entry)) (now (memory .entry)) (now (inputs .entry)) (now (outputs .entry)) budget (now (log .entry))) (record { left = left (shownAnswer (r .answer)) (r .state) (now (program .exit)) (now (memory .exit)) (now (inputs .exit)) (now (outputs .exit)) (now (log .exit)); usage = r .usage }) ⌝ }
+    ensures { λ r. ⌜ RunsCounted byTable state program memory inputs outputs budget log r ⌝ }
 {
     run(
         true,

@@ -2,6 +2,7 @@
 use Prim.Native.Nat.{ℕ, _+_, _-_, _*_}
 use mathlib.Core.Bool.{Bool, true, false, _&&_}
 use mathlib.Core.List.{List, [], _++_}
+use mathlib.Core.Path.{_≡_}
 use lib.Dec.{leb}
 use lib.ListN.{length, getD, take, drop, replicate}
 use Rattle.refusal.specs.Refusals.{refusalNumber, Verdict, accepted, refused}
@@ -9,6 +10,8 @@ use Rattle.word.specs.Word.{pick}
 use Rattle.machine.specs.declared.State.{State}
 use Rattle.machine.specs.Machine.{Machine, reset}
 use Rattle.machine.specs.Lengths.{lengthsFit}
+use Rattle.machine.specs.Slices.{Slice, before, after}
+use Rattle.image.specs.declared.Loaded.{Loaded}
 use Rattle.image.specs.declared.Loading.{Loading}
 use Rattle.image.specs.declared.Loading.the-variants.{Accepted, Refused}
 
@@ -101,3 +104,16 @@ leftBy (refused k) g = record { reply = refused k; state = reset; P = g .P; D = 
 
 unfoldable pub loadLeft : LoadGiven → LoadLeft
 loadLeft g = leftBy (loadReply g) g
+
+-- ---- The contract, of load's parameters in their order and what it replies
+
+abbrev pub fileLent : Slice → Slice → Slice → Slice → Slice → LoadGiven
+fileLent file program memory inputs outputs =
+    record { file = before file; P = before program; D = before memory; I = before inputs; O = before outputs }
+
+abbrev pub loadedWith : Slice → Slice → Slice → Slice → Loaded → LoadLeft
+loadedWith program memory inputs outputs r =
+    record { reply = shownLoading (r .reply); state = r .state; P = after program; D = after memory; I = after inputs; O = after outputs }
+
+abbrev pub Loads : Slice → Slice → Slice → Slice → Slice → Loaded → Type 0
+Loads file program memory inputs outputs r = loadedWith program memory inputs outputs r ≡ loadLeft (fileLent file program memory inputs outputs)

@@ -5,7 +5,7 @@ ghost use Prim.Native.Nat.{_+_, _-_, _<_, _≤_};
 ghost use lib.ListN.{length, take, drop, replicate};
 ghost use Rattle.refusal.specs.Refusals.{accepted};
 ghost use Rattle.image.specs.Parts.{programPart, dataPart, ReadAs};
-ghost use Rattle.image.specs.Image.{number32, partsFit, inside, partsInside, LoadLeft, fileReply, loadReply, leftBy, loadLeft, shownLoading};
+ghost use Rattle.image.specs.Image.{number32, partsFit, inside, partsInside, fileReply, loadReply, leftBy, shownLoading, fileLent, loadedWith, Loads};
 use block::copy;
 use bus::lengths_fit;
 use machine::State;
@@ -116,7 +116,7 @@ pub fn file_verdict(file: &[u8]) -> Loading
 
 // What is lent is tested before the file.
 fn verdict(file: &[u8], program: &[u8], memory: &[u8], inputs: &[u16], outputs: &[u16]) -> Loading
-    ensures { λ r. ⌜ shownLoading r ≡ loadReply (record { file = now (file .entry); P = now (program .entry); D = now (memory .entry); I = now (inputs .entry); O = now (outputs .entry) }) ⌝ }
+    ensures { λ r. ⌜ shownLoading r ≡ loadReply (fileLent file program memory inputs outputs) ⌝ }
 {
     if !lengths_fit(program, memory, inputs, outputs) {
         return Loading::Refused(Refusal::LentLength);
@@ -165,7 +165,7 @@ fn accept(
     outputs: &mut [u16],
 ) -> Loaded
     requires { ⌜ accepted ≡ loadReply (record { file = now file; P = now program; D = now memory; I = now inputs; O = now outputs }) ⌝ }
-    ensures { λ r. ⌜ _≡_ {A = LoadLeft} (record { reply = shownLoading (r .reply); state = r .state; P = now (program .exit); D = now (memory .exit); I = now (inputs .exit); O = now (outputs .exit) }) (leftBy accepted (record { file = now (file .entry); P = now (program .entry); D = now (memory .entry); I = now (inputs .entry); O = now (outputs .entry) })) ⌝ }
+    ensures { λ r. ⌜ loadedWith program memory inputs outputs r ≡ leftBy accepted (fileLent file program memory inputs outputs) ⌝ }
 {
     place(file, program_part(file), program);
     place(file, data_part(file), memory);
@@ -185,7 +185,7 @@ pub fn load(
     inputs: &mut [u16],
     outputs: &mut [u16],
 ) -> Loaded
-    ensures { λ r. ⌜ _≡_ {A = LoadLeft} (record { reply = shownLoading (r .reply); state = r .state; P = now (program .exit); D = now (memory .exit); I = now (inputs .exit); O = now (outputs .exit) }) (loadLeft (record { file = now (file .entry); P = now (program .entry); D = now (memory .entry); I = now (inputs .entry); O = now (outputs .entry) })) ⌝ }
+    ensures { λ r. ⌜ Loads file program memory inputs outputs r ⌝ }
 {
     let reply = verdict(file, program, memory, inputs, outputs);
     match reply {

@@ -6,9 +6,11 @@ use Prim.Native.Nat.{ℕ, _<_, _≤_}
 use lib.Dec.{leb}
 use lib.ListN.{length, take, drop}
 use Rattle.machine.specs.declared.State.{State}
+use Rattle.machine.specs.declared.Stepped.{Stepped}
 use Rattle.machine.specs.Machine.{Machine}
 use Rattle.machine.specs.Step.{Next, cannot, to}
 use Rattle.machine.specs.Run.{Outcome, unless}
+use Rattle.machine.specs.Slices.{Slice, before, after}
 
 -- registers, data memory, ports, and the lent log with the number of entries in it
 pub record Held : Type 0 where
@@ -45,8 +47,14 @@ outcomeOf m (to next) = record { reason = 0; after = next }
 
 -- What a step function answers and leaves. `next` is what a machine steps to, `writes` whether that writes a port. With stop 0
 -- it is what the machine steps to; with another it is the machine as it was. The log is as it was after its entries.
-pub record StepMeets (next : Machine → Next) (writes : Bool) (h : Held) (stop : ℕ) (after : Held) : Type 0 where
+pub record StepMeets (next : Machine → Next) (writes : Bool) (h : Held) (stop : ℕ) (left : Held) : Type 0 where
   pub machine :
-      (P : List ℕ) → outcomeOf (machineOf P h) (unless (writes && isFull h) (next (machineOf P h))) ≡ record { reason = stop; after = machineOf P after }
-  pub rest : drop (after .entries) (after .log) ≡ drop (after .entries) (h .log)
-  pub filled : after .entries ≤ length (after .log)
+      (P : List ℕ) → outcomeOf (machineOf P h) (unless (writes && isFull h) (next (machineOf P h))) ≡ record { reason = stop; after = machineOf P left }
+  pub rest : drop (left .entries) (left .log) ≡ drop (left .entries) (h .log)
+  pub filled : left .entries ≤ length (left .log)
+
+-- the contract of a step function, of its parameters and what it hands back
+abbrev pub StepsAs : (Machine → Next) → Bool → State → Slice → Slice → Slice → Slice → ℕ → Stepped → Type 0
+StepsAs next writes state memory inputs outputs log entries r =
+    StepMeets next writes (held state (before memory) (before inputs) (before outputs) (before log) entries) (r .stop)
+    (held (r .state) (after memory) (after inputs) (after outputs) (after log) (r .entries))

@@ -2,6 +2,8 @@
 -- (`loadLeft`, `saveLeft`, `assembleLeft`, `setLeft`, `countedLeft`, `decodingOf`, `writeOf`, `windowOf`); here their replies become the numbers of the header's
 -- structs. A refusal of 0 is an accepted call; a field that a case does not speak of is 0.
 use Prim.Native.Nat.{ℕ, _+_}
+use denote.Ref.{RefT, now}
+use denote.Triple.Both.{Both}
 use mathlib.Core.Bool.{_&&_, not}
 use mathlib.Core.List.{List}
 use mathlib.Core.Path.{_≡_}
@@ -16,15 +18,16 @@ use Rattle.isa.specs.Instructions.{Read, instruction, unassigned, Written, word
 use Rattle.isa.specs.Masks.{Masks, Decoding}
 use Rattle.machine.specs.declared.State.{State}
 use Rattle.machine.specs.Run.{Stepper}
+use Rattle.machine.specs.Slices.{Slice, before, after}
 use Rattle.panel.specs.Calls.{SetGiven, SetLeft, setLeft}
-use Rattle.image.specs.Image.{LoadGiven, LoadLeft, loadLeft}
+use Rattle.image.specs.Image.{LoadGiven, LoadLeft, loadLeft, fileLent}
 use Rattle.save.specs.Saved.{SaveReply, saved, refused as save-refused, SaveGiven, SaveLeft, saveLeft}
 use Rattle.assembler.specs.Text.{Reply, words, turned-away, AssembleLeft, assembleLeft}
 use Rattle.control.specs.Control.{byTable}
 use Rattle.usage.specs.declared.Usage.{Usage}
 use Rattle.sheet.specs.declared.Sheet.{Sheet}
 use Rattle.sheet.specs.Sheet.{FeedLeft, feedBy}
-use Rattle.run.specs.Runs.{Given, given, RunReply, stopped, refused as run-refused, CountedLeft, countedLeft}
+use Rattle.run.specs.Runs.{Given, given, RunReply, stopped, refused as run-refused, CountedLeft, countedLeft, lentTo}
 use Rattle.replies.specs.declared.SisaLoad.{SisaLoad}
 use Rattle.replies.specs.declared.SisaSaved.{SisaSaved}
 use Rattle.replies.specs.declared.SisaAssembly.{SisaAssembly}
@@ -58,6 +61,11 @@ loadInNumbers l = record { reply = sisaLoad (l .reply) (l .state); P = l .P; D =
 unfoldable pub sisaLoadLeft : LoadGiven → SisaLoadLeft
 sisaLoadLeft g = loadInNumbers (loadLeft g)
 
+abbrev pub SisaLoads : Slice → Slice → Slice → Slice → Slice → SisaLoad → Type 0
+SisaLoads file program memory inputs outputs r =
+    _≡_ {A = SisaLoadLeft} (record { reply = r; P = after program; D = after memory; I = after inputs; O = after outputs })
+    (sisaLoadLeft (fileLent file program memory inputs outputs))
+
 -- ---- sisa_save
 
 abbrev pub sisaSaved : SaveReply → SisaSaved
@@ -76,6 +84,11 @@ saveInNumbers l = record { reply = sisaSaved (l .reply); P = l .P; D = l .D; des
 unfoldable pub sisaSaveLeft : SaveGiven → SisaSaveLeft
 sisaSaveLeft g = saveInNumbers (saveLeft g)
 
+abbrev pub SisaSaves : Slice → Slice → Slice → SisaSaved → Type 0
+SisaSaves program memory destination r =
+    _≡_ {A = SisaSaveLeft} (record { reply = r; P = after program; D = after memory; destination = after destination })
+    (sisaSaveLeft (record { P = before program; D = before memory; destination = before destination }))
+
 -- ---- sisa_assemble
 
 abbrev pub sisaAssembly : Reply → SisaAssembly
@@ -92,6 +105,10 @@ assemblyInNumbers l = record { reply = sisaAssembly (l .reply); program = l .pro
 unfoldable pub sisaAssembleLeft : List ℕ → List ℕ → SisaAssembleLeft
 sisaAssembleLeft text program = assemblyInNumbers (assembleLeft text program)
 
+abbrev pub SisaAssembles : Slice → Slice → SisaAssembly → Type 0
+SisaAssembles text program r =
+    _≡_ {A = SisaAssembleLeft} (record { reply = r; program = after program }) (sisaAssembleLeft (before text) (before program))
+
 -- ---- sisa_set_input
 
 pub record SisaSetLeft : Type 0 where
@@ -103,6 +120,10 @@ setInNumbers l = record { refusal = verdictNumber (l .reply); I = l .I }
 
 unfoldable pub sisaSetLeft : SetGiven → SisaSetLeft
 sisaSetLeft g = setInNumbers (setLeft g)
+
+abbrev pub SisaSets : Slice → ℕ → ℕ → ℕ → Type 0
+SisaSets inputs port value r =
+    _≡_ {A = SisaSetLeft} (record { refusal = r; I = after inputs }) (sisaSetLeft (record { I = before inputs; port = port; value = value }))
 
 -- ---- sisa_run_by_rules, sisa_run_by_table and sisa_host_step
 
@@ -132,6 +153,11 @@ sisaRunLeft v g = runInNumbers (countedLeft v g)
 abbrev pub SisaRunMeets : Stepper → Given → SisaRunLeft → Type 0
 SisaRunMeets v g l = l ≡ sisaRunLeft v g
 
+abbrev pub SisaRuns : Stepper → State → Slice → Slice → Slice → Slice → ℕ → Slice → SisaRun → Type 0
+SisaRuns v state program memory inputs outputs budget log r =
+    SisaRunMeets v (lentTo state program memory inputs outputs budget log)
+    (sisaLeft r (after program) (after memory) (after inputs) (after outputs) (after log))
+
 -- what the host holds and lends to a host step, before or after it
 pub record HostLent : Type 0 where
   pub state : State
@@ -150,9 +176,15 @@ withState s a = record { state = s; refusal = a .refusal; stop = a .stop; steps 
 
 -- A host step is a run by the table with budget 1 over registers that the host holds: its contract.
 abbrev pub HostStepMeets : HostLent → SisaAnswer → HostLent → Type 0
-HostStepMeets h answer after =
+HostStepMeets h answer kept =
     SisaRunMeets byTable (given (h .state) (h .P) (h .D) (h .I) (h .O) 1 (h .log))
-    (sisaLeft (withState (after .state) answer) (after .P) (after .D) (after .I) (after .O) (after .log))
+    (sisaLeft (withState (kept .state) answer) (kept .P) (kept .D) (kept .I) (kept .O) (kept .log))
+
+-- the same of its parameters, the state by reference
+abbrev pub HostSteps : Both (RefT State) (RefT State) → Slice → Slice → Slice → Slice → Slice → SisaAnswer → Type 0
+HostSteps state program memory inputs outputs log r =
+    HostStepMeets (hostLent (now (state .entry)) (before program) (before memory) (before inputs) (before outputs) (before log)) r
+    (hostLent (now (state .exit)) (after program) (after memory) (after inputs) (after outputs) (after log))
 
 -- ---- sisa_read
 

@@ -6,7 +6,7 @@ ghost use Prim.Native.Nat.{ℕ, _≤_};
 ghost use lib.ListN.{length};
 ghost use Rattle.machine.specs.Step.{rule, choice, stepBy, output};
 ghost use Rattle.machine.specs.Run.{isOut};
-ghost use Rattle.machine.specs.Held.{held, Ready, StepMeets};
+ghost use Rattle.machine.specs.Held.{held, Ready, StepMeets, StepsAs};
 ghost use Rattle.rules.specs.Parts.{Begun, RuleMeets};
 use machine::Port;
 use machine::State;
@@ -128,7 +128,7 @@ pub fn step(
     entries: usize,
 ) -> Stepped
     requires { ⌜ Ready (held state (now memory) (now inputs) (now outputs) (now log) entries) ⌝ }
-    ensures { λ r. ⌜ StepMeets (stepBy (choice w) w) (isOut w) (held state (now (memory .entry)) (now (inputs .entry)) (now (outputs .entry)) (now (log .entry)) entries) (r .stop) (held (r .state) (now (memory .exit)) (now (inputs .exit)) (now (outputs .exit)) (now (log .exit)) (r .entries)) ⌝ }
+    ensures { λ r. ⌜ StepsAs (stepBy (choice w) w) (isOut w) state memory inputs outputs log entries r ⌝ }
 {
     let op = w / 4096;
     let next = state.advanced();

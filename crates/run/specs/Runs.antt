@@ -9,12 +9,15 @@ use Rattle.word.specs.Word.{pick}
 use Rattle.machine.specs.declared.State.{State}
 use Rattle.machine.specs.Machine.{Machine}
 use Rattle.machine.specs.Lengths.{lengthsFit}
+use Rattle.machine.specs.Slices.{Slice, before, after}
 use Rattle.machine.specs.Run.{Stepper, Outcome, run, trace}
 use Rattle.usage.specs.declared.Usage.{Usage}
 use Rattle.usage.specs.Usage.{unused, usageOf}
 use Rattle.run.specs.declared.Report.{Report}
 use Rattle.run.specs.declared.Answer.{Answer}
 use Rattle.run.specs.declared.Answer.the-variants.{Stopped, Refused}
+use Rattle.run.specs.declared.Ran.{Ran}
+use Rattle.run.specs.declared.Counted.{Counted}
 use Rattle.run.specs.declared.Check.{Check}
 use Rattle.run.specs.declared.Check.the-variants.{Accepted, Refused as CheckRefused}
 
@@ -125,3 +128,24 @@ countedLeft v g = countedBy v (verdictOn g) g
 -- the contract of a run that counts
 abbrev pub CountedMeets : Stepper → Given → CountedLeft → Type 0
 CountedMeets v g l = l ≡ countedLeft v g
+
+-- ---- The contracts, of what a run goes by, its parameters in their order and what it replies
+
+abbrev pub lentTo : State → Slice → Slice → Slice → Slice → ℕ → Slice → Given
+lentTo state program memory inputs outputs budget log =
+    given state (before program) (before memory) (before inputs) (before outputs) budget (before log)
+
+abbrev pub leftWith : Slice → Slice → Slice → Slice → Slice → Answer → State → Left
+leftWith program memory inputs outputs log answer state =
+    left (shownAnswer answer) state (after program) (after memory) (after inputs) (after outputs) (after log)
+
+-- a run that counts
+abbrev pub RunsCounted : Stepper → State → Slice → Slice → Slice → Slice → ℕ → Slice → Counted → Type 0
+RunsCounted v state program memory inputs outputs budget log r =
+    CountedMeets v (lentTo state program memory inputs outputs budget log)
+    (record { left = leftWith program memory inputs outputs log (r .answer) (r .state); usage = r .usage })
+
+-- a run without counts
+abbrev pub RunsOnly : Stepper → State → Slice → Slice → Slice → Slice → ℕ → Slice → Ran → Type 0
+RunsOnly v state program memory inputs outputs budget log r =
+    RunMeets v (lentTo state program memory inputs outputs budget log) (leftWith program memory inputs outputs log (r .answer) (r .state))

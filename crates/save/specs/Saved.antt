@@ -2,11 +2,13 @@
 use Prim.Native.Nat.{ℕ, zero, suc, _+_, _*_, _/_, _%_}
 use mathlib.Core.Bool.{Bool, _&&_}
 use mathlib.Core.List.{List, [], _∷_, _++_}
+use mathlib.Core.Path.{_≡_}
 use lib.Dec.{eqb, leb}
 use lib.ListN.{length, getD, take, drop}
 use Rattle.refusal.specs.Refusals.{refusalNumber}
 use Rattle.word.specs.Word.{pick}
 use Rattle.machine.specs.Machine.{wordAt}
+use Rattle.machine.specs.Slices.{Slice, before, after}
 use Rattle.save.specs.declared.Saving.{Saving}
 use Rattle.save.specs.declared.Saving.the-variants.{Saved, Refused}
 
@@ -82,3 +84,9 @@ leftBy (refused k) g = record { reply = refused k; P = g .P; D = g .D; destinati
 
 unfoldable pub saveLeft : SaveGiven → SaveLeft
 saveLeft g = leftBy (saveReply g) g
+
+-- the contract, of save's parameters in their order and what it replies
+abbrev pub Saves : Slice → Slice → Slice → Saving → Type 0
+Saves program memory destination r =
+    _≡_ {A = SaveLeft} (record { reply = shownSaving r; P = after program; D = after memory; destination = after destination })
+    (saveLeft (record { P = before program; D = before memory; destination = before destination }))

@@ -4,7 +4,7 @@ ghost use mathlib.Core.List.{_++_};
 ghost use Prim.Native.Nat.{_+_, _*_, _<_, _≤_};
 ghost use lib.Dec.{eqb};
 ghost use lib.ListN.{length, getD, take, drop};
-ghost use Rattle.save.specs.Saved.{kept, wordsKept, bytesKept, header, fileOf, SaveLeft, shownSaving, saveLeft};
+ghost use Rattle.save.specs.Saved.{kept, wordsKept, bytesKept, header, fileOf, Saves};
 use block::copy;
 use image::HEADER_BYTES;
 use machine::State;
@@ -114,7 +114,7 @@ fn write(program: &[u8], memory: &[u8], words: usize, bytes: usize, destination:
 
 // The trim file of both memories, without trailing zeros, at the front of the destination; its unused end keeps its bytes.
 pub fn save(program: &[u8], memory: &[u8], destination: &mut [u8]) -> Saving
-    ensures { λ r. ⌜ _≡_ {A = SaveLeft} (record { reply = shownSaving r; P = now (program .exit); D = now (memory .exit); destination = now (destination .exit) }) (saveLeft (record { P = now (program .entry); D = now (memory .entry); destination = now (destination .entry) })) ⌝ }
+    ensures { λ r. ⌜ Saves program memory destination r ⌝ }
 {
     if program.len() != State::MEMORY_BYTES {
         return Saving::Refused(Refusal::LentLength);

@@ -1,6 +1,6 @@
 // The host step, the one function that takes the register state by reference. The borrow checker does not cover such a
 // function, and its proof walks the code by hand: so it only calls the run, stores the state and hands on the numbers.
-ghost use Rattle.replies.specs.Sisa.{hostLent, HostStepMeets};
+ghost use Rattle.replies.specs.Sisa.{HostSteps};
 use crate::sisa_run_by_table;
 use machine::State;
 use replies::SisaAnswer;
@@ -14,7 +14,7 @@ pub extern "C" fn sisa_host_step(
     outputs: &mut [u16],
     log: &mut [u64],
 ) -> SisaAnswer
-    ensures { λ r. ⌜ HostStepMeets (hostLent (now (state .entry)) (now (program .entry)) (now (memory .entry)) (now (inputs .entry)) (now (outputs .entry)) (now (log .entry))) r (hostLent (now (state .exit)) (now (program .exit)) (now (memory .exit)) (now (inputs .exit)) (now (outputs .exit)) (now (log .exit))) ⌝ }
+    ensures { λ r. ⌜ HostSteps state program memory inputs outputs log r ⌝ }
 {
     let ran = sisa_run_by_table(*state, program, memory, inputs, outputs, 1, log);
     *state = ran.state;

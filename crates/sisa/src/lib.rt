@@ -6,9 +6,8 @@ ghost use lib.Dec.{eqb};
 ghost use Rattle.machine.specs.Run.{byRules};
 ghost use Rattle.panel.specs.Calls.{windowOf};
 ghost use Rattle.control.specs.Control.{byTable};
-ghost use Rattle.run.specs.Runs.{given};
 ghost use Rattle.isa.specs.Masks.{decodingOf};
-ghost use Rattle.replies.specs.Sisa.{SisaLoadLeft, sisaLoadLeft, SisaSaveLeft, sisaSaveLeft, SisaAssembleLeft, sisaAssembleLeft, SisaSetLeft, sisaSetLeft, sisaLeft, SisaRunMeets, sisaInstruction, sisaWrite, sisaFeed, chosen, sisaWindow, bytesOf};
+ghost use Rattle.replies.specs.Sisa.{SisaLoads, SisaSaves, SisaAssembles, SisaSets, SisaRuns, sisaInstruction, sisaWrite, sisaFeed, chosen, sisaWindow, bytesOf};
 use machine::Port;
 use machine::State;
 use replies::SisaAssembly;
@@ -32,7 +31,7 @@ pub extern "C" fn sisa_load(
     inputs: &mut [u16],
     outputs: &mut [u16],
 ) -> SisaLoad
-    ensures { λ r. ⌜ _≡_ {A = SisaLoadLeft} (record { reply = r; P = now (program .exit); D = now (memory .exit); I = now (inputs .exit); O = now (outputs .exit) }) (sisaLoadLeft (record { file = now (file .entry); P = now (program .entry); D = now (memory .entry); I = now (inputs .entry); O = now (outputs .entry) })) ⌝ }
+    ensures { λ r. ⌜ SisaLoads file program memory inputs outputs r ⌝ }
 {
     let loaded = image::load(file, program, memory, inputs, outputs);
     replies::load(loaded)
@@ -40,7 +39,7 @@ pub extern "C" fn sisa_load(
 
 #[no_mangle]
 pub extern "C" fn sisa_save(program: &[u8], memory: &[u8], destination: &mut [u8]) -> SisaSaved
-    ensures { λ r. ⌜ _≡_ {A = SisaSaveLeft} (record { reply = r; P = now (program .exit); D = now (memory .exit); destination = now (destination .exit) }) (sisaSaveLeft (record { P = now (program .entry); D = now (memory .entry); destination = now (destination .entry) })) ⌝ }
+    ensures { λ r. ⌜ SisaSaves program memory destination r ⌝ }
 {
     let saving = save::save(program, memory, destination);
     replies::save(saving)
@@ -48,7 +47,7 @@ pub extern "C" fn sisa_save(program: &[u8], memory: &[u8], destination: &mut [u8
 
 #[no_mangle]
 pub extern "C" fn sisa_assemble(text: &[u8], program: &mut [u8]) -> SisaAssembly
-    ensures { λ r. ⌜ _≡_ {A = SisaAssembleLeft} (record { reply = r; program = now (program .exit) }) (sisaAssembleLeft (now (text .entry)) (now (program .entry))) ⌝ }
+    ensures { λ r. ⌜ SisaAssembles text program r ⌝ }
 {
     let assembly = assembler::assemble(text, program);
     replies::assembly(assembly)
@@ -56,7 +55,7 @@ pub extern "C" fn sisa_assemble(text: &[u8], program: &mut [u8]) -> SisaAssembly
 
 #[no_mangle]
 pub extern "C" fn sisa_set_input(inputs: &mut [u16], port: u8, value: u16) -> u8
-    ensures { λ r. ⌜ _≡_ {A = SisaSetLeft} (record { refusal = r; I = now (inputs .exit) }) (sisaSetLeft (record { I = now (inputs .entry); port = port; value = value })) ⌝ }
+    ensures { λ r. ⌜ SisaSets inputs port value r ⌝ }
 {
     let setting = panel::set_input(inputs, Port(port), value);
     replies::set(setting)
@@ -72,7 +71,7 @@ pub extern "C" fn sisa_run_by_rules(
     budget: u32,
     log: &mut [u64],
 ) -> SisaRun
-    ensures { λ r. ⌜ SisaRunMeets byRules (given state (now (program .entry)) (now (memory .entry)) (now (inputs .entry)) (now (outputs .entry)) budget (now (log .entry))) (sisaLeft r (now (program .exit)) (now (memory .exit)) (now (inputs .exit)) (now (outputs .exit)) (now (log .exit))) ⌝ }
+    ensures { λ r. ⌜ SisaRuns byRules state program memory inputs outputs budget log r ⌝ }
 {
     let ran = engine::run_by_rules(state, program, memory, inputs, outputs, budget, log);
     replies::run(ran)
@@ -88,7 +87,7 @@ pub extern "C" fn sisa_run_by_table(
     budget: u32,
     log: &mut [u64],
 ) -> SisaRun
-    ensures { λ r. ⌜ SisaRunMeets byTable (given state (now (program .entry)) (now (memory .entry)) (now (inputs .entry)) (now (outputs .entry)) budget (now (log .entry))) (sisaLeft r (now (program .exit)) (now (memory .exit)) (now (inputs .exit)) (now (outputs .exit)) (now (log .exit))) ⌝ }
+    ensures { λ r. ⌜ SisaRuns byTable state program memory inputs outputs budget log r ⌝ }
 {
     let ran = engine::run_by_table(state, program, memory, inputs, outputs, budget, log);
     replies::run(ran)
