@@ -127,9 +127,9 @@ SisaSaved sisa_save(const uint8_t *program, size_t program_len,
                     const uint8_t *memory, size_t memory_len,
                     uint8_t *destination, size_t destination_len);
 
-/* Assembles a text of at most 65,536 bytes, one instruction a line, into a program memory from address 0 on; bytes past the
-   words stay. The first bad line is refused with the lowest number that holds of it: 10, it is outside the grammar or past
-   a stated size; 11, a name is unknown or was given before; 12, a value does not fit its field. */
+/* Assembles a text of at most 65,536 bytes, one instruction a line (docs/TEXT.md has the language), into a program memory from
+   address 0 on; bytes past the words stay. The first bad line is refused with the lowest number that holds of it: 10, it is
+   outside the grammar or past a stated size; 11, a name is unknown or was given before; 12, a value does not fit its field. */
 SisaAssembly sisa_assemble(const uint8_t *text, size_t text_len, uint8_t *program, size_t program_len);
 
 /* The input at a port becomes the value. Replies 0 or the refusal. */

@@ -5,6 +5,8 @@ use Rattle.claims.specs.Contracts.{Contracts}
 pub contracts : Contracts
 contracts =
     record {
+      state-reset-asks = λ κs a. tt;
+      state-reset = λ κs a r s. (λ h. h, λ h. h);
       read-asks = λ κs a. tt;
       read = λ κs a r s. (λ h. h, λ h. h);
       write-asks = λ κs a. tt;
@@ -25,6 +27,8 @@ contracts =
       run-by-table = λ κs a r s. (λ h. h, λ h. h);
       run-by-control-asks = λ κs a. tt;
       run-by-control = λ κs a r s. (λ h. h, λ h. h);
+      sheet-empty-asks = λ κs a. tt;
+      sheet-empty = λ κs a r s. (λ h. h, λ h. h);
       feed-asks = λ κs a. tt;
       feed = λ κs a r s. (λ h. h, λ h. h);
       report-asks = λ κs a. tt;

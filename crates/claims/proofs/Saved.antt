@@ -57,8 +57,8 @@ then-loaded g l n e r =
     by-reply (saved k) q z = let same : k ≡ n = cc in rw (same, z) (take-append-seam (savedFile (g .P) (g .D)) (drop (length (savedFile (g .P) (g .D))) (g .destination)))
     by-reply (refused k) q z = clash (cc)
 
-pub saved-claims : Saved
-saved-claims =
+pub saving : Saved
+saving =
     record {
       loads-back = loads-back;
       saved-then-loaded = then-loaded;

@@ -1,5 +1,33 @@
 -- Writing trims as text (02, L2): the reading of a line is unique; words are returned exactly where every line has a reading and
 -- nothing turns it away, and they are those of the reading; and which line is turned away, with which number.
+--
+-- The grammar, as docs/TEXT.md has it. `{ x }` is any number of x, also none; `[ x ]` is x or nothing. A line is divided into
+-- tokens, each as long as it can be, with any number of spaces between them.
+--
+--   text      = line { newline line }
+--   line      = [ name ":" ] [ statement ]
+--   statement = three R "," R "," R | two R "," R | "ADDI" R "," R "," value
+--             | ( "LD" | "LDB" ) R "," value "(" R ")" | ( "ST" | "STB" ) value "(" R ")" "," R
+--             | ( "BZ" | "BNZ" | "MOVI" | "MOVHI" | "IN" ) R "," value
+--             | "OUT" value "," R | ".word" value
+--   three     = "AND" | "OR" | "XOR" | "ADD" | "SUB" | "SHA" | "SHL"
+--             | "CMPLT" | "CMPLE" | "CMPEQ" | "CMPLTU" | "CMPLEU"
+--             | "MUL" | "MULH" | "MULHU" | "DIV" | "DIVU"
+--   two       = "NOT" | "JALR"
+--   R         = "R0" | "R1" | "R2" | "R3" | "R4" | "R5" | "R6" | "R7"
+--   value     = masked { "|" masked }
+--   masked    = shifted { "&" shifted }
+--   shifted   = sum { "<<" sum }
+--   sum       = product { ( "+" | "-" ) product }
+--   product   = operand { "*" operand }
+--   operand   = number | name | "-" operand | "(" value ")", nested at most 16 deep
+--   number    = digit { digit } | "0x" hexdigit { hexdigit }
+--   name      = letter { letter | digit }, at most 16 of them, and not R
+--   token     = [ "." ] ( letter | digit ) { letter | digit } | "<<" | any other byte but the space
+--
+-- The definitions in reading order: token/specs/Tokens.antt (tokens), expression/specs/Operands.antt (numbers, names, what an
+-- operator gives), expression/specs/Grammar.antt (values), statement/specs/Syntax.antt (lines and statements), encoding/specs/Words.antt
+-- (the word of a statement, and what fits), assembler/specs/Text.antt (the lines of a text, names and addresses, the call).
 use mathlib.Core.Bool.{true, false}
 use mathlib.Core.Path.{_≡_}
 use mathlib.Core.Logic.{_⊎_, _↔_}

@@ -8,6 +8,7 @@ use mathlib.Core.List.{List}
 use Prim.Native.Nat.{ℕ}
 use Rattle.refusal.specs.Refusals.{refusalNumber}
 use Rattle.machine.specs.declared.State.{State}
+use Rattle.machine.specs.Machine.{reset}
 use Rattle.machine.specs.Run.{Stepper, byRules}
 use Rattle.panel.specs.Calls.{SetLeft, shownSetting, setLeft, windowOf}
 use Rattle.isa.specs.Instructions.{shownWriting, writeOf}
@@ -22,11 +23,12 @@ use Rattle.run.specs.declared.Answer.{Answer}
 use Rattle.run.specs.declared.Counted.{Counted}
 use Rattle.run.specs.Runs.{Given, given, Left, left, shownAnswer, RunMeets, CountedMeets}
 use Rattle.sheet.specs.declared.Sheet.{Sheet}
-use Rattle.sheet.specs.Sheet.{FeedLeft, shownFeeding, feedLeft}
+use Rattle.sheet.specs.Sheet.{empty, FeedLeft, shownFeeding, feedLeft}
 use Rattle.printing.specs.Text.{held}
 use Rattle.report.specs.Printed.{printed}
 use Rattle.diagnostic.specs.Diagnostic.{diagnosticOf}
 use Rattle.listing.specs.File.{listing, lineAt}
+use Rattle.machine.proofs.State.reset.Reads as state-reset
 use Rattle.isa.proofs.read.Reads as read
 use Rattle.isa.proofs.write.Reads as write
 use Rattle.panel.proofs.set_input.Reads as set-input
@@ -37,6 +39,7 @@ use Rattle.assembler.proofs.assemble.Reads as assemble
 use Rattle.engine.proofs.run_by_rules.Reads as run-by-rules
 use Rattle.engine.proofs.run_by_table.Reads as run-by-table
 use Rattle.engine.proofs.run_by_control.Reads as run-by-control
+use Rattle.sheet.proofs.Sheet.empty.Reads as sheet-empty
 use Rattle.sheet.proofs.feed.Reads as feed
 use Rattle.report.proofs.report.Reads as report
 use Rattle.listing.proofs.line_at.Reads as line-at
@@ -64,6 +67,9 @@ abbrev pub RunSays : Stepper → RunArguments → Counted → RunArguments → T
 RunSays v a r s = CountedMeets v (givenBy a) (record { left = leftBy (r .answer) (r .state) s; usage = r .usage })
 
 pub record Contracts : Type 1 where
+  -- State::reset()
+  pub state-reset-asks : (κs : Lfts 0) (a : _) → state-reset.Asked κs a
+  pub state-reset : (κs : Lfts 0) (a : _) (r : _) (s : _) → state-reset.Learnt κs a r s ↔ (r ≡ reset)
   -- read(w)
   pub read-asks : (κs : Lfts 0) (a : _) → read.Asked κs a
   pub read : (κs : Lfts 0) (a : _) (r : _) (s : _) → read.Learnt κs a r s ↔ (shownDecoded r ≡ decodingOf (a .0))
@@ -129,6 +135,9 @@ pub record Contracts : Type 1 where
   -- run_by_control, with its words before these; it reports no counts
   pub run-by-control-asks : (κs : Lfts 6) (a : _) → run-by-control.Asked κs a
   pub run-by-control : (κs : Lfts 6) (a : _) (r : _) (s : _) → run-by-control.Learnt κs a r s ↔ RunMeets (byControl (now (a .0))) (givenBy (a .1)) (leftBy (r .answer) (r .state) (s .1))
+  -- Sheet::empty()
+  pub sheet-empty-asks : (κs : Lfts 0) (a : _) → sheet-empty.Asked κs a
+  pub sheet-empty : (κs : Lfts 0) (a : _) (r : _) (s : _) → sheet-empty.Learnt κs a r s ↔ (r ≡ empty)
   -- feed(sheet, answer, usage)
   pub feed-asks : (κs : Lfts 0) (a : _) → feed.Asked κs a
   pub feed :
