@@ -14,7 +14,7 @@ use Rattle.encoding.specs.Words.{Judged, bad, nothing, gives}
 use Rattle.assembler.specs.Text.{textLines, start, namesFrom, textVerdicts, wordsOf, words, turned-away, AssembleLeft, stored, leftBy, assembleLeft}
 use Rattle.claims.specs.Assembly.{textParts, lineAt, Bad, First, Assembles, Assembly}
 use Rattle.claims.proofs.Readings.{found, readings-unique, readings-length, taken}
-use Rattle.claims.proofs.Judging.{Rightly, rightly-at}
+use Rattle.claims.proofs.Judging.{ten, Rightly, rightly-at}
 use Rattle.claims.proofs.Replies.{Fine, FirstBad, Turned, Counted, replied, verdict-at, verdicts-length}
 
 -- ---- Lines
@@ -152,6 +152,15 @@ module _ (text : List ℕ) where
     refused-untouched k r e (no-memory n x y) = y
     refused-untouched k r e (refused h i q f x y) = y
     refused-untouched k r e (accepted h g x y) = clash (cc)
+
+    -- no refusal has the number 0
+    pub refused-not-0 : (k r : ℕ) → left .reply ≡ turned-away k r → r ≡ 0 → ⊥
+    refused-not-0 k r e z = go outcome
+      where
+        go : Outcome → ⊥
+        go (no-memory n x y) = let q : 1 ≡ r = cc in omega arith
+        go (refused h i q f x y) = let s : q ≡ r = cc in omega (arith, ten text i (f .bad))
+        go (accepted h g x y) = clash (cc)
 
     assembles : Assembles text program
     assembles =

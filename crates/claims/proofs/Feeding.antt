@@ -6,7 +6,7 @@ use mathlib.Core.List.{List, [], _∷_}
 use Prim.Native.Nat.{ℕ, _+_, _%_, _^_, _≤_}
 use native.Mathlib.Nat.{mod-add-mod}
 use native.Mathlib.Omega.{arith}
-use borrow.Author.Tests.{ltb-false, lt-ltb}
+use borrow.Author.Tests.{ltb-true, ltb-false, lt-ltb}
 use lib.Dec.{ltb}
 use Rattle.refusal.specs.Refusals.{accepted, refused}
 use Rattle.word.specs.Word.{pick, flag}
@@ -14,7 +14,7 @@ use Rattle.word.proofs.Tests.{clash}
 use Rattle.usage.specs.declared.Usage.{Usage}
 use Rattle.sheet.specs.declared.Sheet.{Sheet}
 use Rattle.sheet.specs.Sheet.{sums, withRun, FeedLeft, feedBy, wasAccepted, feedLeft}
-use Rattle.claims.specs.Usage.{Fed, Reordered, nothing, same, swapped, then, Feeds, done, feed}
+use Rattle.claims.specs.Usage.{Fed, Reordered, nothing, same, swapped, then, Feeds, done, feed, stepsIn, stepsOf}
 
 -- ---- A feeding that is not refused
 
@@ -41,6 +41,15 @@ came true s next u e = by-test (ltb (s .runs) 65535) e
     by-test true e = ap (λ (l : FeedLeft). l .sheet) e
     by-test false e = let z = ap (λ (l : FeedLeft). l .reply) e in clash (cc)
 came false s next u e = ap (λ (l : FeedLeft). l .sheet) e
+
+-- it was not refused, so the sheet had a place
+had-place : (t : Bool) (s next : Sheet) (u : Usage) → feedBy t s u ≡ record { reply = accepted; sheet = next } → s .runs ≤ 65535 → s .runs + flag t ≤ 65535
+had-place true s next u e h = by-test (ltb (s .runs) 65535) refl e
+  where
+    by-test : (b : Bool) → ltb (s .runs) 65535 ≡ b → takenIf b s u ≡ record { reply = accepted; sheet = next } → s .runs + 1 ≤ 65535
+    by-test true t e = omega (arith, ltb-true (s .runs) 65535 t)
+    by-test false t e = let z = ap (λ (l : FeedLeft). l .reply) e in clash (cc)
+had-place false s next u e h = omega arith
 
 -- ---- A refused one
 
@@ -110,6 +119,14 @@ unfolding into feedLeft
 fed-into done = refl
 fed-into (feed {s} {next = after} {fs = fs} f e r) = ap (λ (x : Sheet). into x fs) (came (wasAccepted (f .reply)) s after (f .usage) e) ∙ fed-into r
 
+pub fed-few : {s last : Sheet} {fs : List Fed} → Feeds s fs last → s .runs ≤ 65535 → s .runs + takenOf fs ≤ 65535
+unfolding takenOf feedLeft
+fed-few done h = omega arith
+fed-few (feed {s} {next = after} {fs = fs} f e r) h =
+    let t = wasAccepted (f .reply) in
+    let runs : after .runs ≡ s .runs + flag t = ap (λ (x : Sheet). x .runs) (sym (came t s after (f .usage) e)) ∙ runs-next t s (f .usage) in
+    omega (arith, had-place t s after (f .usage) e h, fed-few r (omega (arith, had-place t s after (f .usage) e h)))
+
 swap-next : (f g : Fed) (s : Sheet) → next (next s f) g ≡ next (next s g) f
 swap-next f g s = swap (wasAccepted (f .reply)) (wasAccepted (g .reply)) s (f .usage) (g .usage)
 
@@ -126,6 +143,13 @@ any-taken nothing = refl
 any-taken (same f r) = ap (λ (k : ℕ). once f + k) (any-taken r)
 any-taken (swapped f g fs) = omega arith
 any-taken (then p q) = any-taken p ∙ any-taken q
+
+pub any-steps : {fs gs : List Fed} → Reordered fs gs → stepsOf fs ≡ stepsOf gs
+unfolding stepsOf
+any-steps nothing = refl
+any-steps (same f r) = ap (λ (k : ℕ). stepsIn (f .reply) + k) (any-steps r)
+any-steps (swapped f g fs) = omega arith
+any-steps (then p q) = any-steps p ∙ any-steps q
 
 -- what is fed first may be fed last
 pub first-last : (f : Fed) (fs : List Fed) (s : Sheet) → into (next s f) fs ≡ next (into s fs) f

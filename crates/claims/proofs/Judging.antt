@@ -85,7 +85,7 @@ module _ (text : List ℕ) (k : ℕ) where
   place = placeAt text k
 
   -- no number is lower
-  ten : {q : ℕ} → Bad text k q → 10 ≤ q
+  pub ten : {q : ℕ} → Bad text k q → 10 ≤ q
   ten (too-long h e) = omega arith
   ten (no-reading n) = omega arith
   ten (crowds l w r e n h) = omega arith

@@ -2,6 +2,7 @@ pub mod Agreement
 pub mod Answers
 pub mod Apart
 pub mod Assembly
+pub mod CReplies
 pub mod Chains
 pub mod Computed
 pub mod Contracts

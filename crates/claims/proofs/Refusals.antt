@@ -12,7 +12,9 @@ use Rattle.machine.specs.Run.{Stepper}
 use Rattle.machine.specs.Lengths.{lengthsFit}
 use Rattle.panel.specs.Calls.{SetGiven, SetLeft, setLeft}
 use Rattle.image.specs.Image.{W, programOffset, C, dataOffset, LoadGiven, fileReply, loadReply, leftBy as load-leftBy, loadLeft}
-use Rattle.run.specs.Runs.{Given, stopped, refused as run-refused, verdict, leftBy as run-leftBy, runLeft}
+use Rattle.usage.specs.Usage.{unused}
+use Rattle.run.specs.Runs.{Given, stopped, refused as run-refused, verdict, verdictOn, leftBy as run-leftBy, runLeft, countedBy, countedLeft}
+use Rattle.run.proofs.Uncounted.{uncounted}
 use Rattle.claims.specs.Refusals.{Lengths, LoadRefusals, SetRefusals, RunRefusals, Refusals}
 use Rattle.claims.proofs.Decides.{Fails, fails-eq, fails-le, fails-and, decides-eq, decides-stable}
 use Rattle.claims.proofs.Chains.{Reply, Tests, last, _then_, at, number, none, one-of}
@@ -124,8 +126,12 @@ module _ (v : Stepper) (g : Given) where
       then at 5 (fails-eq (g .state .pc % 2) 0)
       then last (at 6 (fails-le (g .state .n + g .budget) 4294967295))
 
+  no-counts : (x : Verdict) (k : ℕ) → run-leftBy v x g .reply ≡ run-refused k → countedBy v x g .usage ≡ unused
+  no-counts accepted k e = clash (cc)
+  no-counts (refused j) k e = refl
+
   run : RunRefusals v g
-  unfolding runLeft verdict run-replies run-tests
+  unfolding runLeft countedLeft verdict run-replies run-tests
   run =
       record {
         number-1 = number run-replies run-tests 0 1 refl;
@@ -134,6 +140,8 @@ module _ (v : Stepper) (g : Given) where
         accepts = flat3 (none run-replies run-tests);
         no-other = λ k e. one-of run-replies run-tests k e .0;
         nothing-changes = λ k e. ap (λ x. run-leftBy v x g) (one-of run-replies run-tests k e .1);
+        without-counts = uncounted v g refl;
+        no-counts = no-counts (verdictOn g);
       }
 
 pub refusals : Refusals

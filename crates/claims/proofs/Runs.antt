@@ -16,6 +16,7 @@ use Rattle.machine.proofs.Runs.{Lawful, run-none, run-cannot, run-full, run-on}
 use Rattle.control.specs.Control.{byControl}
 use Rattle.control.proofs.Laws.{lawful-control, lawful-rules, cannot-rules, cannot-control}
 use Rattle.run.specs.Runs.{Given, left, stopped, machineAt, leftOf, leftBy, runLeft, verdictOn}
+use Rattle.run.proofs.Uncounted.{uncounted}
 use Rattle.claims.specs.Runs.{Takes, none, more, First, budget-used, word-unassigned, zero-divisor, no-place, Reported, Runs}
 
 -- the number of steps, said in another way
@@ -121,4 +122,5 @@ runs =
     record {
       by-rules = reported byRules (record { lawful = lawful-rules; reasons = cannot-rules });
       by-control = λ words. reported (byControl words) (record { lawful = lawful-control words; reasons = cannot-control words });
+      without-counts = λ v g. uncounted v g refl;
     }

@@ -20,9 +20,11 @@ use Rattle.run.specs.Runs.{Given, verdictOn, machineAt, leftBy, runLeft, Counte
 use Rattle.sheet.specs.declared.Sheet.{Sheet}
 use Rattle.sheet.specs.Sheet.{empty, sums, wasAccepted, feedLeft}
 use Rattle.claims.specs.Session.{Engine, by-rules, by-table, stepperOf}
-use Rattle.claims.specs.Usage.{Run, Fed, Returned, none, more, plus, plusUsage, countsBy, oneBy, countsOf, acceptedOf, Feeds, stepsIn, stepsOf, sheetOf, Sheets}
+use Rattle.claims.specs.CReplies.{runOf, stepLeft}
+use Rattle.claims.specs.Usage.{Run, stepRun, Fed, Returned, none, more, more-step, Reordered, plus, plusUsage, countsBy, oneBy, countsOf, acceptedOf, Feeds, stepsIn, stepsOf, sheetOf, Sheets}
 use Rattle.claims.proofs.Counts.{at-total, Counts, counts-none, counts-plus, traced}
-use Rattle.claims.proofs.Feeding.{nextBy, turned, next, into, takenOf, feeds, fed-into, any-into, any-taken, first-last}
+use Rattle.claims.proofs.Feeding.{nextBy, turned, next, into, takenOf, feeds, fed-into, fed-few, any-into, any-taken, any-steps, first-last}
+use Rattle.claims.proofs.CReplies.{host-step}
 use Rattle.claims.proofs.Refusals.{refusals}
 
 -- ---- A run, by its verdict
@@ -130,6 +132,17 @@ summed : {rs : List Run} {fs : List Fed} → Returned rs fs → Summed rs fs
 unfolding takenOf into countsOf acceptedOf stepsOf
 summed none = record { taken = refl; counts = counts-none; few = omega arith; sheet = λ h. refl }
 summed (more {rs} {fs} r l h p) = one-more r l rs fs (ran r l h) (summed p)
+summed (more-step {rs} {fs} h after a e p) =
+    let l = runOf (stepLeft a after) in
+    one-more (stepRun h) l rs fs (ran (stepRun h) l (host-step h after a e .gives-back)) (summed p)
+
+-- the counts of a sheet that was fed
+fed-counts : {rs : List Run} {fs order : List Fed} {s : Sheet} → Returned rs fs → Reordered fs order → Feeds empty order s
+    → Counts (record { kinds = s .kinds; reads = s .reads; writes = s .writes }) (stepsOf order)
+fed-counts {rs} {s = s} p q f =
+    let few : acceptedOf rs ≤ 65535 = omega (arith, fed-few f (omega arith), any-taken q, summed p .taken) in
+    let is : sheetOf (countsOf rs) (acceptedOf rs) ≡ s = sym (summed p .sheet few) ∙ any-into q empty ∙ fed-into f in
+    rw (← is, ← any-steps q) (summed p .counts)
 
 returned : (rs : List Run) → (fs : List Fed) × Returned rs fs
 returned [] = ([], none)
@@ -143,9 +156,9 @@ sheets =
       any-order = λ rs fs order p h q.
           subst (Feeds empty order) (sym (any-into q empty) ∙ summed p .sheet h) (feeds order empty (omega (arith, any-taken q, summed p .taken)));
       one-sheet = λ s a b fs p q. sym (fed-into p) ∙ fed-into q;
-      kinds-sum = λ rs fs p. summed p .counts .sum;
-      reads-at-most = λ rs fs j p. summed p .counts .reads .at j;
-      writes-at-most = λ rs fs j p. summed p .counts .writes .at j;
+      kinds-sum = λ rs fs order s p q f. fed-counts p q f .sum;
+      reads-at-most = λ rs fs order s j p q f. fed-counts p q f .reads .at j;
+      writes-at-most = λ rs fs order s j p q f. fed-counts p q f .writes .at j;
       few-steps = λ rs fs p. summed p .few;
       refused-13 = λ s r u. (
         λ e. let t = turned (wasAccepted r) s u 13 e in (t .was, t .full),

@@ -5,9 +5,9 @@ use Prim.Native.Nat.{ℕ}
 use lib.Dec.{eqb}
 use Rattle.word.specs.Word.{pick}
 use Rattle.machine.specs.declared.State.{State}
-use Rattle.run.specs.Runs.{RunReply, stopped, refused}
+use Rattle.run.specs.Runs.{Given, given, RunReply, stopped, refused}
 use Rattle.replies.specs.declared.SisaAnswer.{SisaAnswer}
-use Rattle.replies.specs.Sisa.{hostLent, HostStepMeets}
+use Rattle.replies.specs.Sisa.{HostLent, hostLent, HostStepMeets}
 use Rattle.claims.specs.Session.{by-table, Lent, Call, runs, Reply, of-run, Host, CallMeets, Calls}
 
 -- a call of Session.antt, or a host step and the log that it is lent
@@ -22,6 +22,10 @@ budget1 log = record { budget = 1; log = log }
 abbrev pub asRun : HostCall → Call
 asRun (call c) = c
 asRun (host-step log) = runs by-table (budget1 log)
+
+-- what that run is given, where the host holds and lends h
+abbrev pub stepGiven : HostLent → Given
+stepGiven h = given (h .state) (h .P) (h .D) (h .I) (h .O) 1 (h .log)
 
 -- a host step's answer as a run's reply: refusal 0 is an accepted one
 abbrev pub replyOf : SisaAnswer → RunReply

@@ -1,6 +1,7 @@
 pub mod Agreement
 pub mod Answers
 pub mod Assembly
+pub mod CReplies
 pub mod Contracts
 pub mod Exports
 pub mod HostSteps

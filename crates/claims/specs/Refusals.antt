@@ -10,7 +10,8 @@ use Rattle.machine.specs.Machine.{reset}
 use Rattle.machine.specs.Run.{Stepper}
 use Rattle.panel.specs.Calls.{SetGiven, SetLeft, setLeft}
 use Rattle.image.specs.Image.{W, programOffset, C, dataOffset, LoadGiven, LoadLeft, loadLeft}
-use Rattle.run.specs.Runs.{Given, left, stopped, refused as run-refused, runLeft}
+use Rattle.usage.specs.Usage.{unused}
+use Rattle.run.specs.Runs.{Given, left, stopped, refused as run-refused, runLeft, countedLeft}
 
 -- ---- The conditions, as 01's table has them
 
@@ -62,7 +63,8 @@ pub record SetRefusals (g : SetGiven) : Type 0 where
   pub no-other : (k : ℕ) → setLeft g .reply ≡ refused k → k ≡ 1
   pub nothing-changes : (k : ℕ) → setLeft g .reply ≡ refused k → setLeft g ≡ record { reply = refused k; I = g .I }
 
--- ---- Runs: 1, 5, 6, whatever the run goes by: the rules, the control table, or another table
+-- ---- Runs: 1, 5, 6, whatever the run goes by: the rules, the control table, or another table. `run_by_control` promises
+-- `runLeft`; `run_by_rules` and `run_by_table`, which also count, promise `countedLeft`.
 
 -- 5: PC odd
 abbrev pub OddPC : Given → Type 0
@@ -85,6 +87,9 @@ pub record RunRefusals (v : Stepper) (g : Given) : Type 0 where
   pub nothing-changes :
       (k : ℕ) → runLeft v g .reply ≡ run-refused k
       → runLeft v g ≡ left (run-refused k) (g .state) (g .P) (g .D) (g .I) (g .O) (g .log)
+  -- A run that counts leaves the same besides its counts, which are zero where it is refused.
+  pub without-counts : countedLeft v g .left ≡ runLeft v g
+  pub no-counts : (k : ℕ) → runLeft v g .reply ≡ run-refused k → countedLeft v g .usage ≡ unused
 
 pub record Refusals : Type 0 where
   pub load : (g : LoadGiven) → LoadRefusals g

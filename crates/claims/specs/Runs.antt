@@ -9,7 +9,7 @@ use Rattle.machine.specs.Machine.{Machine}
 use Rattle.machine.specs.Step.{cannot, to}
 use Rattle.machine.specs.Run.{Stepper, byRules, noPlace}
 use Rattle.control.specs.Control.{byControl}
-use Rattle.run.specs.Runs.{Given, Left, left, stopped, machineAt, runLeft}
+use Rattle.run.specs.Runs.{Given, Left, left, stopped, machineAt, runLeft, countedLeft}
 
 -- so many possible steps lead from one machine to the other, where v is what the run goes by
 pub data Takes (v : Stepper) : ℕ → Machine → Machine → Type 0 where
@@ -45,3 +45,6 @@ pub record Runs : Type 0 where
   pub by-control :
       (words : List ℕ) (g : Given) (q s k : ℕ) → runLeft (byControl words) g .reply ≡ stopped q s k
       → Reported (byControl words) g (runLeft (byControl words) g) q s k
+  -- `run_by_control` promises `runLeft`; `run_by_rules` and `run_by_table`, which also count, promise `countedLeft`, the same besides
+  -- the counts.
+  pub without-counts : (v : Stepper) (g : Given) → countedLeft v g .left ≡ runLeft v g

@@ -13,7 +13,10 @@ use Rattle.usage.specs.Usage.{unused, usageOf}
 use Rattle.run.specs.Runs.{Given, RunReply, stopped, refused as run-refused, verdictOn, machineAt, CountedLeft, CountedMeets}
 use Rattle.sheet.specs.declared.Sheet.{Sheet}
 use Rattle.sheet.specs.Sheet.{empty, wasAccepted, feedLeft}
-use Rattle.claims.specs.Session.{Engine, stepperOf}
+use Rattle.replies.specs.declared.SisaAnswer.{SisaAnswer}
+use Rattle.replies.specs.Sisa.{HostLent, HostStepMeets}
+use Rattle.claims.specs.Session.{Engine, by-table, stepperOf}
+use Rattle.claims.specs.HostSteps.{stepGiven, replyOf}
 
 -- ---- Runs, and what each returned
 
@@ -22,17 +25,24 @@ pub record Run : Type 0 where
   pub engine : Engine
   pub of : Given
 
+-- a host step is a run by the table with budget 1
+abbrev pub stepRun : HostLent → Run
+stepRun h = record { engine = by-table; of = stepGiven h }
+
 -- what is fed: a run's reply and its counts
 pub record Fed : Type 0 where
   pub reply : RunReply
   pub usage : Usage
 
--- what runs returned, each known by its contract alone
+-- what runs and host steps returned, each known by its contract alone
 pub data Returned : List Run → List Fed → Type 0 where
   none : Returned [] []
   more :
       {rs : List Run} {fs : List Fed} (r : Run) (l : CountedLeft) → CountedMeets (stepperOf (r .engine)) (r .of) l → Returned rs fs
       → Returned (r ∷ rs) (record { reply = l .left .reply; usage = l .usage } ∷ fs)
+  more-step :
+      {rs : List Run} {fs : List Fed} (h after : HostLent) (a : SisaAnswer) → HostStepMeets h a after → Returned rs fs
+      → Returned (stepRun h ∷ rs) (record { reply = replyOf a; usage = a .usage } ∷ fs)
 
 -- ---- The same, worked out from the plain machine's steps
 
@@ -108,11 +118,17 @@ pub record Sheets : Type 0 where
       → Feeds empty order (sheetOf (countsOf rs) (acceptedOf rs))
   -- and no other sheet comes of it
   pub one-sheet : (s a b : Sheet) (fs : List Fed) → Feeds s fs a → Feeds s fs b → a ≡ b
-  -- kind counts sum to the steps that the runs reported
-  pub kinds-sum : (rs : List Run) (fs : List Fed) → Returned rs fs → total (countsOf rs .kinds) ≡ stepsOf fs
-  -- a register is counted at most once a step
-  pub reads-at-most : (rs : List Run) (fs : List Fed) (j : ℕ) → Returned rs fs → getD (countsOf rs .reads) j 0 ≤ stepsOf fs
-  pub writes-at-most : (rs : List Run) (fs : List Fed) (j : ℕ) → Returned rs fs → getD (countsOf rs .writes) j 0 ≤ stepsOf fs
+  -- Whatever sheet comes of feeding them to an empty one, its kind counts sum to the steps that the runs fed to it reported,
+  pub kinds-sum :
+      (rs : List Run) (fs order : List Fed) (s : Sheet) → Returned rs fs → Reordered fs order → Feeds empty order s
+      → total (s .kinds) ≡ stepsOf order
+  -- and it counts a register at most once a step.
+  pub reads-at-most :
+      (rs : List Run) (fs order : List Fed) (s : Sheet) (j : ℕ) → Returned rs fs → Reordered fs order → Feeds empty order s
+      → getD (s .reads) j 0 ≤ stepsOf order
+  pub writes-at-most :
+      (rs : List Run) (fs order : List Fed) (s : Sheet) (j : ℕ) → Returned rs fs → Reordered fs order → Feeds empty order s
+      → getD (s .writes) j 0 ≤ stepsOf order
   -- why no count wraps
   pub few-steps : (rs : List Run) (fs : List Fed) → Returned rs fs → stepsOf fs ≤ acceptedOf rs * 4294967295
   -- 13 exactly where an accepted run is fed after 65,535 such
