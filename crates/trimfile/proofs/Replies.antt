@@ -6,7 +6,6 @@ use mathlib.Core.List.{List, []}
 use native.Mathlib.Omega.{arith}
 use lib.ListN.{length, replicate}
 use Rattle.printing.specs.declared.Printed.{Printed}
-use Rattle.printing.specs.Text.{held}
 use Rattle.printing.proofs.Writing.{count-fits}
 use Rattle.save.specs.Saved.{SaveReply, saved, refused, SaveGiven, SaveLeft, saveLeft}
 use Rattle.save.proofs.Saved.{saves}

@@ -1,6 +1,5 @@
 // What the program `panelasm` writes for a text: a trim file, or why there is none.
 ghost use mathlib.Core.Path.{_≡_};
-ghost use lib.ListN.{replicate};
 ghost use Rattle.refusal.specs.Refusals.{refusalNumber};
 ghost use Rattle.trimfile.specs.TrimFile.{FileLeft, turnedAway, savedLeft, fileLeft};
 use assembler::Assembly;

@@ -1,6 +1,5 @@
 -- By the tests.
 -- Assumes nothing.
-use native.Mathlib.Omega.{arith}
 use borrow.Author.Tests.{le-leb, lt-leb}
 use Rattle.diagnostic.proofs.shown_byte.Statement.{statement}
 use Rattle.diagnostic.proofs.shown_byte.Tie as tie
