@@ -37,4 +37,6 @@ contracts =
       line-at = λ κs a r s. (λ h. h, λ h. h);
       diagnostic-asks = λ κs a. tt;
       diagnostic = λ κs a r s. (λ h. h, λ h. h);
+      from-text-asks = λ κs a. tt;
+      from-text = λ κs a r s. (λ h. h, λ h. h);
     }

@@ -19,6 +19,7 @@ pub mod Joined
 pub mod Judging
 pub mod Lengths
 pub mod Listed
+pub mod Listings
 pub mod Marked
 pub mod Masks
 pub mod Names

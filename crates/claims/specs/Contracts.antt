@@ -27,6 +27,7 @@ use Rattle.sheet.specs.Sheet.{empty, FeedLeft, shownFeeding, feedLeft}
 use Rattle.printing.specs.Text.{held}
 use Rattle.report.specs.Printed.{printed}
 use Rattle.diagnostic.specs.Diagnostic.{diagnosticOf}
+use Rattle.trimfile.specs.TrimFile.{FileLeft, fileLeft}
 use Rattle.listing.specs.File.{listing, lineAt}
 use Rattle.machine.proofs.State.reset.Reads as state-reset
 use Rattle.isa.proofs.read.Reads as read
@@ -44,6 +45,7 @@ use Rattle.sheet.proofs.feed.Reads as feed
 use Rattle.report.proofs.report.Reads as report
 use Rattle.listing.proofs.line_at.Reads as line-at
 use Rattle.diagnostic.proofs.diagnostic.Reads as diagnostic
+use Rattle.trimfile.proofs.from_text.Reads as from-text
 
 -- a lent slice
 abbrev pub Lent : Type 0
@@ -150,6 +152,12 @@ pub record Contracts : Type 1 where
   -- line_at(file, k)
   pub line-at-asks : (κs : Lfts 1) (a : _) → line-at.Asked κs a
   pub line-at : (κs : Lfts 1) (a : _) (r : _) (s : _) → line-at.Learnt κs a r s ↔ (r ≡ lineAt (listing (now (a .0))) (a .1 .0))
-  -- diagnostic(line, refusal)
-  pub diagnostic-asks : (κs : Lfts 0) (a : _) → diagnostic.Asked κs a
-  pub diagnostic : (κs : Lfts 0) (a : _) (r : _) (s : _) → diagnostic.Learnt κs a r s ↔ (r ≡ held (diagnosticOf (a .0) (refusalNumber (a .1 .0))))
+  -- diagnostic(text, line, refusal)
+  pub diagnostic-asks : (κs : Lfts 1) (a : _) → diagnostic.Asked κs a
+  pub diagnostic : (κs : Lfts 1) (a : _) (r : _) (s : _) → diagnostic.Learnt κs a r s ↔ (r ≡ held (diagnosticOf (now (a .0)) (a .1 .0) (refusalNumber (a .1 .1 .0))))
+  -- from_text(text, destination)
+  pub from-text-asks : (κs : Lfts 2) (a : _) → from-text.Asked κs a
+  pub from-text :
+      (κs : Lfts 2) (a : _) (r : _) (s : _)
+      → from-text.Learnt κs a r s
+      ↔ (_≡_ {A = FileLeft} (record { trim = r; destination = now (s .1 .0) }) (fileLeft (now (a .0)) (now (a .1 .0))))

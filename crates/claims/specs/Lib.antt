@@ -6,6 +6,7 @@ pub mod Contracts
 pub mod Exports
 pub mod HostSteps
 pub mod Instructions
+pub mod Listings
 pub mod Marked
 pub mod Masks
 pub mod Quotients

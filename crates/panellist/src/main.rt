@@ -1,10 +1,11 @@
 // Reads a trim file on standard input, and writes its listing.
 use libc::STDIN_FILENO;
 use libc::STDOUT_FILENO;
+use report::FILE_BYTES;
 
 fn main() {
     // As `panelrun` reads it: one byte more than a file may have.
-    let mut file = [0u8; 65537];
+    let mut file = [0u8; FILE_BYTES + 1];
     let n = io::read_full(STDIN_FILENO, &mut file);
     let mut k = 0;
     loop {

@@ -1,4 +1,4 @@
--- Part after part of the line, for which the array has room.
+-- Part after part, for which the array has room.
 -- Assumes nothing.
 use native.Mathlib.Omega.{arith}
 use borrow.Author.Needs.{needs}
@@ -10,17 +10,18 @@ use Rattle.diagnostic.proofs.diagnostic.Tie as tie
 returns : tie.Need-returns
 unfolding diagnosticOf
 returns c =
-    let refused = c .before .before in
-    let line = refused .before .before .before in
+    let message = c .before .before .before in
+    let line = message .before .before .before in
     let start = line .before .before .before in
     let number = start .before .number .ensures in
     wrote-held (start .empty .ensures)
     (line .before .with-word .ensures
     then line .with-decimal .ensures
-    then refused .before .with-word2 .ensures
-    then (rw number at (refused .with-decimal2 .ensures))
-    then (rw number at (c .before .with-reason .ensures))
-    then c .with-byte .ensures)
+    then message .before .with-word2 .ensures
+    then (rw number at (message .with-decimal2 .ensures))
+    then (rw number at (c .before .before .with-reason .ensures))
+    then c .before .with-byte .ensures
+    then c .with-source .ensures)
     (omega arith)
 
 pub diagnostic-spec : {M : Type 1} → statement M
@@ -35,6 +36,7 @@ diagnostic-spec =
     (λ c. search needs)
     (λ c κs. search needs)
     (λ c. search needs)
+    (λ c κs. search needs)
     (λ c κs. search needs)
     (λ c κs. search needs)
     (λ c κs. search needs)

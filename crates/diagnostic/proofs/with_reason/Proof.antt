@@ -26,9 +26,13 @@ returns-4 c = rw (c .before .before .match .keys4) (at-most (omega arith) (c .wi
 
 returns-5 : tie.Need-returns-5
 unfolding reason
-returns-5 c =
+returns-5 c = rw (c .before .before .match .keys5) (at-most (omega arith) (c .with-word5 .ensures))
+
+returns-6 : tie.Need-returns-6
+unfolding reason
+returns-6 c =
     let n = c .match .rest in
-    rw (ne-eqb _ 1 (n .0 .0 .0 .1), ne-eqb _ 10 (n .0 .0 .1), ne-eqb _ 11 (n .0 .1), ne-eqb _ 12 (n .1)) wrote-nothing
+    rw (ne-eqb _ 1 (n .0 .0 .0 .0 .1), ne-eqb _ 9 (n .0 .0 .0 .1), ne-eqb _ 10 (n .0 .0 .1), ne-eqb _ 11 (n .0 .1), ne-eqb _ 12 (n .1)) wrote-nothing
 
 pub with-reason-spec : {M : Type 1} → statement M
 with-reason-spec =
@@ -42,8 +46,11 @@ with-reason-spec =
     (λ c κs. search needs)
     (λ c. search needs)
     (λ c κs. search needs)
+    (λ c. search needs)
+    (λ c κs. search needs)
     returns
     returns-2
     returns-3
     returns-4
-    returns-5)
+    returns-5
+    returns-6)
