@@ -22,6 +22,7 @@ pub mod Marked
 pub mod Masks
 pub mod Names
 pub mod Operands
+pub mod Placed
 pub mod Quotients
 pub mod Ranges
 pub mod Readings
@@ -40,5 +41,6 @@ pub mod Together
 pub mod Touched
 pub mod Unassigned
 pub mod Usage
+pub mod Widths
 pub mod Witnesses
 pub mod Written
