@@ -9,6 +9,7 @@ pub mod Counts
 pub mod Decided
 pub mod Decides
 pub mod Exact
+pub mod Examples
 pub mod Exports
 pub mod Feeding
 pub mod Fitting

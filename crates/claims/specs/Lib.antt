@@ -2,6 +2,7 @@ pub mod Agreement
 pub mod Answers
 pub mod Assembly
 pub mod Contracts
+pub mod Examples
 pub mod Exports
 pub mod HostSteps
 pub mod Instructions
