@@ -1,6 +1,6 @@
 -- Writing trims as text: the theorem.
 -- Assumes nothing.
-use Prim.Native.Nat.{ℕ, suc, _+_, _<_}
+use Prim.Native.Nat.{ℕ, suc, _+_, _*_, _<_}
 use mathlib.Core.Bool.{Bool, true, false}
 use mathlib.Core.Path.{_≡_, refl, sym, ap, _∙_, subst, subst₂}
 use mathlib.Core.Logic.{_⊎_, inl, inr}
@@ -10,11 +10,20 @@ use lib.Dec.{eqb, ltb}
 use lib.ListN.{length, getD}
 use borrow.Author.Tests.{ltb-true, ltb-false, eqb-true, eqb-false}
 use Rattle.word.proofs.Tests.{clash}
-use Rattle.encoding.specs.Words.{Judged, bad, nothing, gives}
-use Rattle.assembler.specs.Text.{textLines, start, namesFrom, textVerdicts, wordsOf, words, turned-away, AssembleLeft, stored, leftBy, assembleLeft}
-use Rattle.claims.specs.Assembly.{textParts, lineAt, Bad, First, Assembles, Assembly}
+use Rattle.machine.specs.Machine.{wordAt}
+use Rattle.expression.specs.declared.Value.{Value}
+use Rattle.expression.specs.Operands.{Label, operandValue}
+use Rattle.expression.specs.Grammar.{Tree, valueOf}
+use Rattle.statement.specs.Syntax.{table, Parts, of-row, Line}
+use Rattle.statement.specs.Reading.{ReadLine, reads, valuedParts, valued}
+use Rattle.encoding.specs.Words.{Judged, bad, nothing, gives, encoded}
+use Rattle.assembler.specs.Text.{textLines, start, admitted, judged, namesFrom, textVerdicts, wordsOf, words, turned-away, AssembleLeft, stored, leftBy, assembleLeft}
+use Rattle.claims.specs.Assembly.{Reads, WordOf, textParts, valueIn, lineAt, placeAt, Bad, too-long, First, Assembles, Assembly}
 use Rattle.claims.proofs.Readings.{found, readings-unique, readings-length, taken}
 use Rattle.claims.proofs.Judging.{ten, Rightly, rightly-at}
+use Rattle.claims.proofs.Fitting.{Sized, line-sized}
+use Rattle.claims.proofs.Placed.{word-of, line-word, placed, word-stored}
+use Rattle.claims.proofs.Widths.{fits}
 use Rattle.claims.proofs.Replies.{Fine, FirstBad, Turned, Counted, replied, verdict-at, verdicts-length}
 
 -- ---- Lines
@@ -62,12 +71,47 @@ module _ (text : List ℕ) where
       let f′ : First text i r = subst (λ (j : ℕ). First text j r) e f in
       (e, one-least (Bad text i) r q (f′ .bad) (g .bad) (f′ .lowest) (g .lowest))
 
-  -- no number holds of any line
+  -- no line is turned away, and no number holds of any
+  abbrev AllFine : Type 0
+  AllFine = (k : ℕ) → Fine (getD (textVerdicts text) k nothing)
+
   abbrev Good : Type 0
   Good = (k r : ℕ) → k < length (textParts text) → Bad text k r → ⊥
 
   abbrev count : ℕ
   count = length (wordsOf (textVerdicts text))
+
+  -- ---- The words
+
+  abbrev names : List Label
+  names = namesFrom start (textLines text)
+
+  abbrev value : Tree → Value
+  value = valueOf (operandValue names)
+
+  -- a line that says a statement, and is not turned away, gives the statement's word
+  line-gives : (k : ℕ) (l : Line Tree) (q : ℕ) (p : Parts Tree) → k < length (textParts text) → Reads (lineAt text k) l → l .statement ≡ of-row q p
+      → Fine (getD (textVerdicts text) k nothing)
+      → (w : ℕ) × (getD (textVerdicts text) k nothing ≡ gives w) × (encoded q (placeAt text k .address) (valuedParts value p) ≡ gives w)
+  unfolding textVerdicts
+  line-gives k l q p h r s f =
+      let t = taken text k h (λ c. good k h f 10 (too-long (c .0) (c .1))) ∙ found (lineAt text k) l .1 r in
+      let v : getD (textVerdicts text) k nothing ≡ judged (placeAt text k) (valued value (admitted (placeAt text k) (reads l)))
+      = verdict-at names start (textLines text) k (omega (arith, lines-length)) ∙ ap (λ (x : ReadLine Tree). judged (placeAt text k) (valued value (admitted (placeAt text k) x))) t in
+      let (w, x, y) = line-word value (placeAt text k) l q p s (subst Fine v f) in
+      (w, v ∙ x, y)
+
+  -- it stands at the line's address
+  word-at : (k w : ℕ) → AllFine → getD (textVerdicts text) k nothing ≡ gives w
+      → (program : List ℕ) → wordAt (stored (wordsOf (textVerdicts text)) program) (placeAt text k .address) ≡ w
+  unfolding textVerdicts
+  word-at k w g e program =
+      let (i, a, h, b) = placed names start (textLines text) k w g e in
+      let c : placeAt text k .address ≡ 2 * i = omega arith in
+      ap (wordAt (stored (wordsOf (textVerdicts text)) program)) c ∙ word-stored (wordsOf (textVerdicts text)) program i h (fits text) ∙ b
+
+  sized : (l : Line Tree) (q : ℕ) (p : Parts Tree) {s : List ℕ} → Reads s l → l .statement ≡ of-row q p → q < length table
+  sized l q p r e = subst Sized e (line-sized (r .parsed)) .0
 
   -- ---- The call
 
@@ -82,7 +126,7 @@ module _ (text : List ℕ) where
     data Outcome : Type 0 where
       no-memory : (Memory → ⊥) → left .reply ≡ turned-away 0 1 → left .program ≡ program → Outcome
       refused : Memory → (k r : ℕ) → First text k r → left .reply ≡ turned-away (suc k) r → left .program ≡ program → Outcome
-      accepted : Memory → Good → left .reply ≡ words count → left .program ≡ stored (wordsOf (textVerdicts text)) program → Outcome
+      accepted : Memory → AllFine → left .reply ≡ words count → left .program ≡ stored (wordsOf (textVerdicts text)) program → Outcome
 
     outcome : Outcome
     unfolding assembleLeft leftBy
@@ -106,7 +150,7 @@ module _ (text : List ℕ) where
         go true e (inr t) =
             let s : 0 + count ≡ count = omega arith in
             let x : left ≡ record { reply = words count; program = stored (wordsOf (textVerdicts text)) program } = rw (e, t .1, s) in
-            accepted (eqb-true _ _ e) (λ k r h. good k h (t .0 k) r) (reply-of x) (program-of x)
+            accepted (eqb-true _ _ e) (t .0) (reply-of x) (program-of x)
 
     -- each part of the claim, by what it comes to
     memory-not-1 : left .reply ≡ turned-away 0 1 → Memory → Outcome → ⊥
@@ -131,12 +175,12 @@ module _ (text : List ℕ) where
     first-refused : (k r : ℕ) → Memory → First text k r → Outcome → left .reply ≡ turned-away (suc k) r
     first-refused k r m f (no-memory n x y) = absurd (n m)
     first-refused k r m f (refused h i q g x y) = let (a, b) = one-first i k q r g f in cc (x, a, b)
-    first-refused k r m f (accepted h g x y) = absurd (g k r (f .there) (f .bad))
+    first-refused k r m f (accepted h g x y) = absurd (good k (f .there) (g k) r (f .bad))
 
     accepted-good : (n : ℕ) → left .reply ≡ words n → Outcome → Memory × Good × (n ≡ count)
     accepted-good n e (no-memory m x y) = clash (cc)
     accepted-good n e (refused h k r f x y) = clash (cc)
-    accepted-good n e (accepted h g x y) = (h, g, cc)
+    accepted-good n e (accepted h g x y) = (h, λ k r l. good k l (g k) r, cc)
 
     good-accepted : (n : ℕ) → Memory → Good → n ≡ count → Outcome → left .reply ≡ words n
     good-accepted n m g e (no-memory a x y) = absurd (a m)
@@ -147,6 +191,18 @@ module _ (text : List ℕ) where
     accepted-stored n e (no-memory m x y) = clash (cc)
     accepted-stored n e (refused h k r f x y) = clash (cc)
     accepted-stored n e (accepted h g x y) = y
+
+    accepted-holds :
+        (n : ℕ) → left .reply ≡ words n
+        → (k : ℕ) (l : Line Tree) (q : ℕ) (p : Parts Tree) → k < length (textParts text) → Reads (lineAt text k) l → l .statement ≡ of-row q p
+        → Outcome → WordOf q (placeAt text k .address) (valueIn text (p .n)) p (wordAt (left .program) (placeAt text k .address))
+    accepted-holds n e k l q p h r s (no-memory m x y) = clash (cc)
+    accepted-holds n e k l q p h r s (refused m i t f x y) = clash (cc)
+    accepted-holds n e k l q p h r s (accepted m g x y) =
+        let (w, u, v) = line-gives k l q p h r s (g k) in
+        let c = word-at k w g u in
+        subst (WordOf q (placeAt text k .address) (valueIn text (p .n)) p) (sym (ap (λ (z : List ℕ). wordAt z (placeAt text k .address)) y ∙ c program))
+        (word-of value q (placeAt text k .address) w p (sized l q p r s) v)
 
     refused-untouched : (k r : ℕ) → left .reply ≡ turned-away k r → Outcome → left .program ≡ program
     refused-untouched k r e (no-memory n x y) = y
@@ -169,6 +225,7 @@ module _ (text : List ℕ) where
           refuses = λ k r. (λ e. refused-first k r e outcome, λ p. first-refused k r (p .0) (p .1) outcome);
           accepts = λ n. (λ e. accepted-good n e outcome, λ p. good-accepted n (p .0) (p .1) (p .2) outcome);
           stores = λ n e. accepted-stored n e outcome;
+          holds = λ n e k l q p h r s. accepted-holds n e k l q p h r s outcome;
           untouched = λ k r e. refused-untouched k r e outcome;
         }
 
@@ -177,5 +234,6 @@ assembly =
     record {
       unique = readings-unique;
       readings = λ text k l h n. (λ e. found (lineAt text k) l .0 (sym (taken text k h n) ∙ e), λ r. taken text k h n ∙ found (lineAt text k) l .1 r);
+      fits = fits;
       assembles = assembles;
     }

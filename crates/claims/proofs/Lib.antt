@@ -10,6 +10,7 @@ pub mod Counts
 pub mod Decided
 pub mod Decides
 pub mod Exact
+pub mod Examples
 pub mod Exports
 pub mod Feeding
 pub mod Fitting
@@ -24,6 +25,7 @@ pub mod Marked
 pub mod Masks
 pub mod Names
 pub mod Operands
+pub mod Placed
 pub mod Quotients
 pub mod Ranges
 pub mod Readings
@@ -42,5 +44,6 @@ pub mod Together
 pub mod Touched
 pub mod Unassigned
 pub mod Usage
+pub mod Widths
 pub mod Witnesses
 pub mod Written

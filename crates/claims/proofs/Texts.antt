@@ -27,7 +27,7 @@ use Rattle.statement.specs.Reading.{valuedParts, valuedStatement, valued}
 use Rattle.encoding.specs.Words.{odd, numberOf, gives, written, encoded, stated}
 use Rattle.listing.specs.Listing.{instructionText, wordText, textAs, textOf}
 use Rattle.assembler.specs.Text.{lines, repeated, judged}
-use Rattle.claims.specs.Texts.{clearedAs, clearedWord, GivesBack, listed, Words, none, more, Texts}
+use Rattle.claims.specs.Texts.{clearedAs, clearedWord, GivesBack, thirdColumn, Words, none, more, Texts}
 use Rattle.claims.proofs.Computed.{read-then-written}
 use Rattle.claims.proofs.Joined.{row-test, word-test, plain, Text, wider, nothing-there, spaced-before, one-line, first-line}
 use Rattle.claims.proofs.Operands.{worth, word-means}
@@ -111,19 +111,19 @@ gives-back address w h =
     let g = word-gives address w h in
     record { line = g .line; read = g .read; unnamed = g .unnamed; gives-back = g .gives-back }
 
-listed-lines : (address : ℕ) {ws : List ℕ} → Words ws → Lines address (lines (listed address ws)) (map clearedWord ws)
-unfolding listed lines
-listed-lines address none = empty
-listed-lines address (more {w} {ws} h r) =
+column-lines : (address : ℕ) {ws : List ℕ} → Words ws → Lines address (lines (thirdColumn address ws)) (map clearedWord ws)
+unfolding thirdColumn lines
+column-lines address none = empty
+column-lines address (more {w} {ws} h r) =
     let g = word-gives address w h in
-    rw (first-line (textOf address w) (listed (address + 2) ws) (g .whole)) (a-word g (listed-lines (address + 2) r))
+    rw (first-line (textOf address w) (thirdColumn (address + 2) ws) (g .whole)) (a-word g (column-lines (address + 2) r))
 
 pub texts : Texts
 texts =
     record {
       gives-back = gives-back;
       assembles = λ ws program h l m.
-          rw (← length-map ws clearedWord) (assembled (listed 0 ws) program (map clearedWord ws) (listed-lines 0 h) l m);
+          rw (← length-map ws clearedWord) (assembled (thirdColumn 0 ws) program (map clearedWord ws) (column-lines 0 h) l m);
       instructions = λ i w program h m.
           let g = instruction-gives 0 i w h in
           assembled (instructionText 0 i) program (w ∷ []) (rw (one-line (instructionText 0 i) (g .whole)) (a-word g no-line)) (omega (arith, g .short)) m;

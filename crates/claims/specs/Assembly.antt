@@ -32,19 +32,23 @@ use mathlib.Core.Bool.{true, false}
 use mathlib.Core.Path.{_≡_}
 use mathlib.Core.Logic.{_⊎_, _↔_}
 use mathlib.Core.List.{List, [], _∷_}
-use Prim.Native.Nat.{ℕ, zero, suc, _<_, _≤_}
+use Prim.Native.Nat.{ℕ, zero, suc, _+_, _*_, _%_, _<_, _≤_}
+use lib.IntN.{ℤ}
 use lib.ListN.{length, take, getD}
+use Rattle.word.specs.Word.{add, signed, lowBits}
 use Rattle.kinds.specs.declared.Kind.the-variants.{And}
 use Rattle.kinds.specs.Kinds.{kinds}
 use Rattle.isa.specs.Sheet.{sheet}
-use Rattle.isa.specs.Instructions.{inRange}
+use Rattle.isa.specs.Instructions.{inRange, word, writeOf}
+use Rattle.machine.specs.Machine.{wordAt}
 use Rattle.token.specs.Tokens.{Token, digit, Divided}
 use Rattle.expression.specs.Operands.{Label, operandValue}
 use Rattle.expression.specs.Grammar.{Tree, operand, negation, operation, valueOf}
-use Rattle.statement.specs.Syntax.{rowAt, Parts, of-row, Line, IsLine}
+use Rattle.statement.specs.Syntax.{Field, number, eight-bits, target, rowAt, Parts, of-row, Line, IsLine}
 use Rattle.statement.specs.Reading.{ReadLine, outside, reads}
 use Rattle.encoding.specs.Words.{odd, numberOf}
 use Rattle.assembler.specs.Text.{lines, textLines, Place, start, admitted, after, namesFrom, textVerdicts, wordsOf, words, turned-away, stored, assembleLeft}
+use Rattle.claims.specs.Rules.{SE-n}
 
 -- ---- A line's reading, from its bytes
 
@@ -83,6 +87,25 @@ Fits k address v =
     ⊎ ((odd (rowAt k .field) address v ≡ false)
     × (inRange (sheet (getD kinds k And) .number) (sheet (getD kinds k And) .format .n) (numberOf (rowAt k .field) address v) ≡ true))
 
+-- ---- Words
+
+-- n is what an instruction at an address has for the value v:
+abbrev pub Stands : Field → ℕ → ℕ → ℤ → Type 0
+-- the value read as signed;
+Stands number address v n = n ≡ signed 16 v
+-- for MOVI 128 to 255 also as the same eight bits;
+Stands eight-bits address v n = (n ≡ signed 16 v) ⊎ ((128 ≤ v) × (v ≤ 255) × (lowBits 8 n ≡ v))
+-- for BZ and BNZ the target address is v, modulo 65,536:  PC=PC+2; PC=PC+SE(N8)*2
+Stands target address v n = add (address + 2) (SE-n n * 2) ≡ v % 65536
+
+-- w is the word of row q with the parts p, at an address, where its expression comes to v:
+pub data WordOf (q address v : ℕ) (p : Parts Tree) (w : ℕ) : Type 0 where
+  -- of `.word` the value,
+  of-value : q ≡ length kinds → w ≡ v → WordOf q address v p w
+  -- of an instruction the word that `write` gives for its parts
+  of-instruction : (n : ℤ) → q < length kinds → Stands (rowAt q .field) address v n
+      → writeOf (record { kind = getD kinds q And; a = p .a; b = p .b; d = p .d; n = n }) ≡ word w → WordOf q address v p w
+
 -- ---- The lines of a text
 
 -- the place of line k, from 0, where the lines before it read as they do
@@ -94,6 +117,10 @@ placeOf (suc k) p (l ∷ ls) = placeOf k (after p (admitted p l)) ls
 -- A longer text is read up to the line holding its 65,537th byte.
 abbrev pub textParts : List ℕ → List (List ℕ)
 textParts text = lines (take 65536 text)
+
+-- the value of an expression, by all names that the text gives
+abbrev pub valueIn : List ℕ → Tree → ℕ
+valueIn text t = valueOf (operandValue (namesFrom start (textLines text))) t .word
 
 module _ (text : List ℕ) (k : ℕ) where
   -- line k, from 0, and its place
@@ -119,7 +146,7 @@ module _ (text : List ℕ) (k : ℕ) where
     -- 12: its value does not fit its field
     misfit : (l : Line Tree) (q : ℕ) (p : Parts Tree)
         → Reads lineAt l → l .statement ≡ of-row q p
-        → (Fits q (placeAt .address) (valueOf (operandValue (namesFrom start (textLines text))) (p .n) .word) → ⊥) → Bad 12
+        → (Fits q (placeAt .address) (valueIn text (p .n)) → ⊥) → Bad 12
 
 -- The first bad line wins, then the lowest number.
 pub record First (text : List ℕ) (k r : ℕ) : Type 0 where
@@ -141,6 +168,11 @@ pub record Assembles (text program : List ℕ) : Type 0 where
       ↔ ((length program ≡ 65536) × ((k r : ℕ) → k < length (textParts text) → Bad text k r → ⊥) × (n ≡ length (wordsOf (textVerdicts text))))
   -- stored from address 0 on, and bytes past the words stay;
   pub stores : (n : ℕ) → assembleLeft text program .reply ≡ words n → assembleLeft text program .program ≡ stored (wordsOf (textVerdicts text)) program
+  -- so that the word at the address of a line is the one of what it says;
+  pub holds :
+      (n : ℕ) → assembleLeft text program .reply ≡ words n
+      → (k : ℕ) (l : Line Tree) (q : ℕ) (p : Parts Tree) → k < length (textParts text) → Reads (lineAt text k) l → l .statement ≡ of-row q p
+      → WordOf q (placeAt text k .address) (valueIn text (p .n)) p (wordAt (assembleLeft text program .program) (placeAt text k .address))
   -- a refusal leaves the memory untouched.
   pub untouched : (k r : ℕ) → assembleLeft text program .reply ≡ turned-away k r → assembleLeft text program .program ≡ program
 
@@ -150,4 +182,6 @@ pub record Assembly : Type 0 where
   pub readings :
       (text : List ℕ) (k : ℕ) (l : Line Tree) → k < length (textParts text) → ((65536 < length text) × (suc k ≡ length (textParts text)) → ⊥)
       → (getD (textLines text) k outside ≡ reads l) ↔ Reads (lineAt text k) l
+  -- a text's words fit the program memory: a line with a word is not empty, and a newline stands between two
+  pub fits : (text : List ℕ) → length (wordsOf (textVerdicts text)) ≤ 32768
   pub assembles : (text program : List ℕ) → Assembles text program

@@ -3,6 +3,7 @@ pub mod Answers
 pub mod Assembly
 pub mod CReplies
 pub mod Contracts
+pub mod Examples
 pub mod Exports
 pub mod HostSteps
 pub mod Instructions

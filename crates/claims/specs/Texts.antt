@@ -31,10 +31,10 @@ pub record GivesBack (address w : ℕ) : Type 0 where
   pub unnamed : line .label ≡ []
   pub gives-back : judged (record { names = []; address = address }) (valued (valueOf (operandValue [])) (reads line)) ≡ gives (clearedWord w)
 
--- the texts of words that run on from an address, a line each
-unfoldable pub listed : ℕ → List ℕ → List ℕ
-listed address [] = []
-listed address (w ∷ ws) = textOf address w ++ (10 ∷ listed (address + 2) ws)
+-- the third column of a listing: the texts of words that run on from an address, a line each
+unfoldable pub thirdColumn : ℕ → List ℕ → List ℕ
+thirdColumn address [] = []
+thirdColumn address (w ∷ ws) = textOf address w ++ (10 ∷ thirdColumn (address + 2) ws)
 
 -- 16-bit words
 pub data Words : List ℕ → Type 0 where
@@ -44,10 +44,10 @@ pub data Words : List ℕ → Type 0 where
 pub record Texts : Type 0 where
   -- the text of every word, at every address, gives the word back,
   pub gives-back : (address w : ℕ) → w < 65536 → GivesBack address w
-  -- so a whole listing of at most 65,536 bytes assembles to its words,
+  -- so the third column of a listing, where it has at most 65,536 bytes, assembles to the listing's words, their ignored bits cleared,
   pub assembles :
-      (ws program : List ℕ) → Words ws → length (listed 0 ws) ≤ 65536 → length program ≡ 65536
-      → assembleLeft (listed 0 ws) program ≡ record { reply = words (length ws); program = stored (map clearedWord ws) program }
+      (ws program : List ℕ) → Words ws → length (thirdColumn 0 ws) ≤ 65536 → length program ≡ 65536
+      → assembleLeft (thirdColumn 0 ws) program ≡ record { reply = words (length ws); program = stored (map clearedWord ws) program }
   -- and the text of every instruction that `write` accepts assembles to its word
   pub instructions :
       (i : Instruction) (w : ℕ) (program : List ℕ) → writeOf i ≡ word w → length program ≡ 65536
