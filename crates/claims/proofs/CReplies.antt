@@ -41,7 +41,7 @@ use Rattle.claims.proofs.Feeding.{turned}
 use Rattle.claims.proofs.Instructions.{instructions}
 use Rattle.claims.proofs.Masks.{mask-laws}
 use Rattle.claims.proofs.Refusals.{refusals}
-use Rattle.claims.proofs.Saved.{saved-claims}
+use Rattle.claims.proofs.Saved.{saving}
 
 -- ---- Calls that are accepted or refused
 
@@ -81,7 +81,7 @@ save : (g : SaveGiven) → SaveReplies g
 unfolding sisaSaveLeft
 save g =
     let l = saveLeft g in
-    let b = save-back (l .reply) (λ k e z. ⊎-elim (λ h. omega arith) (λ h. omega arith) (saved-claims .refusals g .no-other k e)) in
+    let b = save-back (l .reply) (λ k e z. ⊎-elim (λ h. omega arith) (λ h. omega arith) (saving .refusals g .no-other k e)) in
     record {
       gives-back = ap (λ (x : SaveReply). record { reply = x; P = l .P; D = l .D; destination = l .destination }) (b .0);
       refusal-0 = b .1;

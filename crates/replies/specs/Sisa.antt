@@ -19,7 +19,7 @@ use Rattle.isa.specs.Masks.{Masks, Decoding}
 use Rattle.machine.specs.declared.State.{State}
 use Rattle.machine.specs.Run.{Stepper}
 use Rattle.machine.specs.Slices.{Slice, before, after}
-use Rattle.panel.specs.Calls.{SetGiven, SetLeft, setLeft}
+use Rattle.panel.specs.Calls.{SetGiven, SetLeft, setLeft, windowOf}
 use Rattle.image.specs.Image.{LoadGiven, LoadLeft, loadLeft, fileLent}
 use Rattle.save.specs.Saved.{SaveReply, saved, refused as save-refused, SaveGiven, SaveLeft, saveLeft}
 use Rattle.assembler.specs.Text.{Reply, words, turned-away, AssembleLeft, assembleLeft}
@@ -232,3 +232,8 @@ sisaWindow M start count =
 -- the bytes that a reply names; the contract says that they are those of `windowOf`
 abbrev pub bytesOf : SisaWindow → List ℕ → List ℕ
 bytesOf w M = take (w .count) (drop (w .start) M)
+
+abbrev pub SisaShows : Slice → Slice → ℕ → ℕ → ℕ → SisaWindow → Type 0
+SisaShows program memory ofData start count r =
+    let M = chosen ofData (before program) (before memory) in
+    (r ≡ sisaWindow M start count) × (bytesOf r M ≡ windowOf (before program) (before memory) (not (eqb ofData 0)) start count)

@@ -1,13 +1,10 @@
 // The C interface, include/sisa.h, which says what each function and field is. A function calls the crate that does the work
 // and hands on its reply in numbers.
 ghost use mathlib.Core.Path.{_≡_};
-ghost use mathlib.Core.Bool.{not};
-ghost use lib.Dec.{eqb};
 ghost use Rattle.machine.specs.Run.{byRules};
-ghost use Rattle.panel.specs.Calls.{windowOf};
 ghost use Rattle.control.specs.Control.{byTable};
 ghost use Rattle.isa.specs.Masks.{decodingOf};
-ghost use Rattle.replies.specs.Sisa.{SisaLoads, SisaSaves, SisaAssembles, SisaSets, SisaRuns, sisaInstruction, sisaWrite, sisaFeed, chosen, sisaWindow, bytesOf};
+ghost use Rattle.replies.specs.Sisa.{SisaLoads, SisaSaves, SisaAssembles, SisaSets, SisaRuns, sisaInstruction, sisaWrite, sisaFeed, SisaShows};
 use machine::Port;
 use machine::State;
 use replies::SisaAssembly;
@@ -124,7 +121,7 @@ pub extern "C" fn sisa_window<'a>(
     start: usize,
     count: usize,
 ) -> SisaWindow
-    ensures { λ r. ⌜ (r ≡ sisaWindow (chosen of_data (now (program .entry)) (now (memory .entry))) start count) × (bytesOf r (chosen of_data (now (program .entry)) (now (memory .entry))) ≡ windowOf (now (program .entry)) (now (memory .entry)) (not (eqb of_data 0)) start count) ⌝ }
+    ensures { λ r. ⌜ SisaShows program memory «of_data» start count r ⌝ }
 {
     let part = panel::window(program, memory, of_data != 0, start, count);
     replies::window(start, part.len())
