@@ -24,8 +24,8 @@ use Rattle.machine.specs.Step.{Next, cannot, to, fetched, step}
 use Rattle.machine.specs.Run.{byRules, Outcome, noPlace, unless, runFrom, traceFrom}
 use Rattle.control.proofs.Laws.{lawful-rules}
 use Rattle.usage.specs.declared.Usage.{Usage}
-use Rattle.usage.specs.Usage.{isKind, doesKind, masksAt, addedFrom, counted, unused, usageOf}
-use Rattle.claims.specs.Usage.{plus, plusUsage, total}
+use Rattle.usage.specs.Usage.{isKind, doesKind, masksAt, addedFrom, counted, unused, usageOf, plusCounts, plus}
+use Rattle.claims.specs.Usage.{total}
 use Rattle.claims.proofs.Rules.{rules}
 
 -- ---- Lists of counts
@@ -41,24 +41,26 @@ at-total [] j = omega arith
 at-total (x ∷ xs) zero = omega arith
 at-total (x ∷ xs) (suc j) = omega (arith, at-total xs j)
 
-plus-long : (xs ys : List ℕ) → length xs ≡ length ys → length (plus xs ys) ≡ length ys
-unfolding plus
-plus-long [] ys e = refl
-plus-long (x ∷ xs) [] e = e
+plus-long : (xs ys : List ℕ) → length xs ≡ length ys → length (plusCounts xs ys) ≡ length ys
+unfolding plusCounts
+plus-long [] ys e = e
+plus-long (x ∷ xs) [] e = refl
 plus-long (x ∷ xs) (y ∷ ys) e = ap suc (plus-long xs ys (omega arith))
 
-plus-at : (xs ys : List ℕ) (j : ℕ) → getD (plus xs ys) j 0 ≡ getD xs j 0 + getD ys j 0
-unfolding plus
-plus-at [] ys j = omega arith
-plus-at (x ∷ xs) [] j = omega arith
-plus-at (x ∷ xs) (y ∷ ys) zero = refl
-plus-at (x ∷ xs) (y ∷ ys) (suc j) = plus-at xs ys j
+plus-at : (xs ys : List ℕ) → length xs ≡ length ys → (j : ℕ) → getD (plusCounts xs ys) j 0 ≡ getD xs j 0 + getD ys j 0
+unfolding plusCounts
+plus-at [] [] e j = refl
+plus-at [] (y ∷ ys) e j = absurd (omega arith)
+plus-at (x ∷ xs) [] e j = absurd (omega arith)
+plus-at (x ∷ xs) (y ∷ ys) e zero = refl
+plus-at (x ∷ xs) (y ∷ ys) e (suc j) = plus-at xs ys (omega arith) j
 
-plus-total : (xs ys : List ℕ) → total (plus xs ys) ≡ total xs + total ys
-unfolding plus total
-plus-total [] ys = omega arith
-plus-total (x ∷ xs) [] = omega arith
-plus-total (x ∷ xs) (y ∷ ys) = omega (arith, plus-total xs ys)
+plus-total : (xs ys : List ℕ) → length xs ≡ length ys → total (plusCounts xs ys) ≡ total xs + total ys
+unfolding plusCounts total
+plus-total [] [] e = refl
+plus-total [] (y ∷ ys) e = absurd (omega arith)
+plus-total (x ∷ xs) [] e = absurd (omega arith)
+plus-total (x ∷ xs) (y ∷ ys) e = omega (arith, plus-total xs ys (omega arith))
 
 added-long : (k : ℕ) (test : ℕ → Bool) (xs : List ℕ) → length (addedFrom k test xs) ≡ length xs
 unfolding addedFrom
@@ -111,18 +113,17 @@ pub counts-none : Counts unused 0
 unfolding total
 counts-none = record { kinds = refl; sum = refl; reads = zeros 8; writes = zeros 8 }
 
-plus-within : (xs ys : List ℕ) (n k l : ℕ) → Within xs n k → Within ys n l → Within (plus xs ys) n (k + l)
+plus-within : (xs ys : List ℕ) (n k l : ℕ) → Within xs n k → Within ys n l → Within (plusCounts xs ys) n (k + l)
 plus-within xs ys n k l a b =
-    record {
-      long = plus-long xs ys (a .long ∙ sym (b .long)) ∙ b .long;
-      at = λ j. omega (arith, plus-at xs ys j, a .at j, b .at j);
-    }
+    let e = a .long ∙ sym (b .long) in
+    record { long = plus-long xs ys e ∙ b .long; at = λ j. omega (arith, plus-at xs ys e j, a .at j, b .at j) }
 
-pub counts-plus : (u v : Usage) (k l : ℕ) → Counts u k → Counts v l → Counts (plusUsage u v) (k + l)
+pub counts-plus : (u v : Usage) (k l : ℕ) → Counts u k → Counts v l → Counts (plus u v) (k + l)
 counts-plus u v k l a b =
+    let e = a .kinds ∙ sym (b .kinds) in
     record {
-      kinds = plus-long (u .kinds) (v .kinds) (a .kinds ∙ sym (b .kinds)) ∙ b .kinds;
-      sum = omega (arith, plus-total (u .kinds) (v .kinds), a .sum, b .sum);
+      kinds = plus-long (u .kinds) (v .kinds) e ∙ b .kinds;
+      sum = omega (arith, plus-total (u .kinds) (v .kinds) e, a .sum, b .sum);
       reads = plus-within (u .reads) (v .reads) 8 k l (a .reads) (b .reads);
       writes = plus-within (u .writes) (v .writes) 8 k l (a .writes) (b .writes);
     }

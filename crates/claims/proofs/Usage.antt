@@ -7,21 +7,21 @@ use Prim.Native.Nat.{ℕ, zero, suc, _+_, _-_, _*_, _%_, _^_, _≤_, _<_}
 use native.Mathlib.Nat.{zero-add}
 use native.Mathlib.Omega.{arith}
 use borrow.Author.Tests.{le-ltb}
-use lib.ListN.{length, getD, replicate}
-use Rattle.kinds.specs.Kinds.{kindCount}
+use lib.ListN.{length, getD}
 use Rattle.refusal.specs.Refusals.{Verdict, accepted, refused}
 use Rattle.word.specs.Word.{flag}
 use Rattle.word.proofs.Tests.{never}
 use Rattle.machine.specs.Run.{byRules, run}
 use Rattle.control.proofs.Agreement.{same-stepper}
 use Rattle.usage.specs.declared.Usage.{Usage}
-use Rattle.usage.specs.Usage.{unused}
+use Rattle.usage.specs.Usage.{unused, plusCounts, plus}
+use Rattle.usage.proofs.Sums.{unused-plus}
 use Rattle.run.specs.Runs.{Given, verdictOn, machineAt, leftBy, runLeft, CountedLeft, countedBy, countedLeft, CountedMeets}
 use Rattle.sheet.specs.declared.Sheet.{Sheet}
 use Rattle.sheet.specs.Sheet.{empty, sums, wasAccepted, feedLeft}
 use Rattle.claims.specs.Session.{Engine, by-rules, by-table, stepperOf}
 use Rattle.claims.specs.CReplies.{runOf, stepLeft}
-use Rattle.claims.specs.Usage.{Run, stepRun, Fed, Returned, none, more, more-step, Reordered, plus, plusUsage, countsBy, oneBy, countsOf, acceptedOf, Feeds, stepsIn, stepsOf, sheetOf, Sheets}
+use Rattle.claims.specs.Usage.{Run, stepRun, Fed, Returned, none, more, more-step, Reordered, countsBy, oneBy, countsOf, acceptedOf, Feeds, stepsIn, stepsOf, sheetOf, Sheets}
 use Rattle.claims.proofs.Counts.{at-total, Counts, counts-none, counts-plus, traced}
 use Rattle.claims.proofs.Feeding.{nextBy, turned, next, into, takenOf, feeds, fed-into, fed-few, any-into, any-taken, any-steps, first-last}
 use Rattle.claims.proofs.CReplies.{host-step}
@@ -69,8 +69,8 @@ ran r l h = subst (Ran (verdictOn (r .of)) (r .of)) (sym (h ∙ engines (r .engi
 -- ---- All of them
 
 -- below 2^64 nothing wraps
-sums-plus : (xs ys : List ℕ) → length xs ≡ length ys → ((j : ℕ) → getD (plus ys xs) j 0 < 2 ^ 64) → sums xs ys ≡ plus ys xs
-unfolding sums plus
+sums-plus : (xs ys : List ℕ) → length xs ≡ length ys → ((j : ℕ) → getD (plusCounts ys xs) j 0 < 2 ^ 64) → sums xs ys ≡ plusCounts ys xs
+unfolding sums plusCounts
 sums-plus [] [] e h = refl
 sums-plus [] (y ∷ ys) e h = absurd (omega arith)
 sums-plus (x ∷ xs) [] e h = absurd (omega arith)
@@ -78,30 +78,20 @@ sums-plus (x ∷ xs) (y ∷ ys) e h =
     let here : (x + y) % 2 ^ 64 ≡ y + x = omega (arith, h 0) in
     λ i. here i ∷ sums-plus xs ys (omega arith) (λ j. h (suc j)) i
 
-zeros-plus : (n : ℕ) (xs : List ℕ) → length xs ≡ n → plus (replicate n 0) xs ≡ xs
-unfolding plus
-zeros-plus zero xs e = refl
-zeros-plus (suc n) [] e = absurd (omega arith)
-zeros-plus (suc n) (x ∷ xs) e = λ i. zero-add x i ∷ zeros-plus n xs (omega arith) i
-
 -- counts of zero leave a sheet's counts as they are
-none-joins : (v : Usage) (l n : ℕ) → Counts v l → sheetOf (plusUsage unused v) (0 + n) ≡ sheetOf v n
+none-joins : (v : Usage) (l n : ℕ) → Counts v l → sheetOf (plus unused v) (0 + n) ≡ sheetOf v n
 none-joins v l n b =
-    λ i. record {
-      kinds = zeros-plus kindCount (v .kinds) (b .kinds) i;
-      reads = zeros-plus 8 (v .reads) (b .reads .long) i;
-      writes = zeros-plus 8 (v .writes) (b .writes .long) i;
-      runs = zero-add n i;
-    }
+    let e = unused-plus (record { kinds = b .kinds; reads = b .reads .long; writes = b .writes .long }) in
+    λ i. sheetOf (e i) (zero-add n i)
 
 -- a run fed to a sheet of other counts, their sum below 2^64
 joins : (t : Bool) (u v : Usage) (k l n : ℕ) → (t ≡ false → u ≡ unused) → Counts u k → Counts v l → k + l < 2 ^ 64
-    → nextBy t (sheetOf v n) u ≡ sheetOf (plusUsage u v) (flag t + n)
+    → nextBy t (sheetOf v n) u ≡ sheetOf (plus u v) (flag t + n)
 joins true u v k l n z a b h =
     let c = counts-plus u v k l a b in
     let runs : n + 1 ≡ 1 + n = omega arith in
     λ i. record {
-      kinds = sums-plus (v .kinds) (u .kinds) (b .kinds ∙ sym (a .kinds)) (λ j. omega (arith, at-total (plus (u .kinds) (v .kinds)) j, c .sum)) i;
+      kinds = sums-plus (v .kinds) (u .kinds) (b .kinds ∙ sym (a .kinds)) (λ j. omega (arith, at-total (plusCounts (u .kinds) (v .kinds)) j, c .sum)) i;
       reads = sums-plus (v .reads) (u .reads) (b .reads .long ∙ sym (a .reads .long)) (λ j. omega (arith, c .reads .at j)) i;
       writes = sums-plus (v .writes) (u .writes) (b .writes .long ∙ sym (a .writes .long)) (λ j. omega (arith, c .writes .at j)) i;
       runs = runs i;

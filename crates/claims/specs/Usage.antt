@@ -9,7 +9,7 @@ use lib.ListN.{length, getD}
 use Rattle.refusal.specs.Refusals.{Verdict, accepted, refused}
 use Rattle.machine.specs.Run.{byRules, trace}
 use Rattle.usage.specs.declared.Usage.{Usage}
-use Rattle.usage.specs.Usage.{unused, usageOf}
+use Rattle.usage.specs.Usage.{unused, usageOf, plus}
 use Rattle.run.specs.Runs.{Given, RunReply, stopped, refused as run-refused, verdictOn, machineAt, CountedLeft, CountedMeets}
 use Rattle.sheet.specs.declared.Sheet.{Sheet}
 use Rattle.sheet.specs.Sheet.{empty, wasAccepted, feedLeft}
@@ -46,15 +46,6 @@ pub data Returned : List Run → List Fed → Type 0 where
 
 -- ---- The same, worked out from the plain machine's steps
 
--- counts added place by place
-unfoldable pub plus : List ℕ → List ℕ → List ℕ
-plus [] ys = ys
-plus (x ∷ xs) [] = x ∷ xs
-plus (x ∷ xs) (y ∷ ys) = (x + y) ∷ plus xs ys
-
-abbrev pub plusUsage : Usage → Usage → Usage
-plusUsage u v = record { kinds = plus (u .kinds) (v .kinds); reads = plus (u .reads) (v .reads); writes = plus (u .writes) (v .writes) }
-
 -- an accepted run counts its steps, a refused one adds nothing
 abbrev pub countsBy : Verdict → Given → Usage
 countsBy accepted g = usageOf (trace byRules (g .budget) (length (g .log)) (machineAt g))
@@ -66,7 +57,7 @@ oneBy (refused k) = 0
 
 unfoldable pub countsOf : List Run → Usage
 countsOf [] = unused
-countsOf (r ∷ rs) = plusUsage (countsBy (verdictOn (r .of)) (r .of)) (countsOf rs)
+countsOf (r ∷ rs) = plus (countsBy (verdictOn (r .of)) (r .of)) (countsOf rs)
 
 -- the number of accepted ones
 unfoldable pub acceptedOf : List Run → ℕ

@@ -17,8 +17,8 @@ use Rattle.machine.specs.Held.{Held, machineOf, isFull, Ready, outcomeOf, StepM
 use Rattle.machine.proofs.Runs.{Lawful, run-none, trace-none, run-stops, trace-stops, run-goes}
 use Rattle.isa.specs.Masks.{masksOf}
 use Rattle.usage.specs.declared.Usage.{Usage}
-use Rattle.usage.specs.Usage.{wordIs, counted, unused, usageOf, Countable}
-use Rattle.usage.proofs.Sums.{plus, counted-plus, Sized, unused-sized, counted-sized, trace-sized, plus-unused, unused-plus, AtMost, counted-most, unused-most, countable}
+use Rattle.usage.specs.Usage.{wordIs, counted, unused, usageOf, plus, Countable}
+use Rattle.usage.proofs.Sums.{counted-plus, Sized, unused-sized, counted-sized, trace-sized, plus-unused, unused-plus, AtMost, counted-most, unused-most, countable}
 use Rattle.control.specs.Control.{controlIn, controlStep, writesPort}
 use Rattle.control.proofs.Laws.{lawful-control, lawful-rules}
 use Rattle.run.specs.Runs.{Given, Left, left, stopped, machineAt, acceptedLeft, CountedLeft, acceptedCounted}

@@ -8,10 +8,10 @@ use native.Mathlib.Nat.{div-div-eq-div-mul}
 use native.Mathlib.Omega.{arith}
 use lib.Dec.{T, eqb}
 use lib.ListN.{getD, length, List·getD-eq-default}
+use Rattle.word.specs.Codes.{below6But}
 use Rattle.word.proofs.Computed.{all, all-at}
 use Rattle.word.proofs.Tests.{same-test}
 use Rattle.control.specs.Control.{takes, divides}
-use Rattle.datapath.specs.Parts.{below6But}
 
 -- a field that begins at the bit of this weight
 pub two-bits : (c weight : ℕ) → c / weight % 4 ≡ c / weight % 2 + 2 * (c / (weight * 2) % 2)

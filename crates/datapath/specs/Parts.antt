@@ -1,9 +1,9 @@
 -- What the private functions of a step promise. Nothing here is promised to a caller.
 use Prim.Native.Nat.{ℕ, _<_, _/_, _%_}
-use mathlib.Core.Bool.{Bool, false, _&&_, not}
+use mathlib.Core.Bool.{Bool, _&&_, not}
 use mathlib.Core.List.{List}
 use mathlib.Core.Path.{_≡_}
-use lib.Dec.{eqb, ltb}
+use lib.Dec.{eqb}
 use lib.ListN.{length}
 use Rattle.word.specs.Fields.{a-of, b-of, N6}
 use Rattle.word.specs.Word.{pick, add, SE}
@@ -45,10 +45,6 @@ resultAnswer c w s D I entries =
     (record { stop = 3; state = s; entries = entries })
     (record { stop = 0; state = stateAfter c w s D I; entries = entries }))
     (record { stop = 1; state = s; entries = entries })
-
--- f is below 6 and not the gap: the f that unit 1 takes (gap 2), and those that unit 5 takes (gap 3)
-abbrev pub below6But : ℕ → ℕ → Bool
-below6But gap f = pick (eqb f gap) false (ltb f 6)
 
 -- ---- The groups
 

@@ -8,7 +8,6 @@ ghost use Rattle.word.specs.Fields.{b-of, f-of, N8};
 ghost use Rattle.word.specs.Word.{pick};
 ghost use Rattle.machine.specs.Machine.{R};
 ghost use Rattle.control.specs.Control.{second, units, unitField, unit, result, next, writesPort, storedData, written, assigned, zeroDivisor};
-ghost use Rattle.datapath.specs.Parts.{below6But};
 use machine::Address;
 use machine::Port;
 use machine::State;
@@ -182,13 +181,6 @@ pub fn write_destination(control: u16, w: u16, v: u16, state: State) -> State
     }
 }
 
-// f is below 6 and not the gap.
-fn is_below_6_but(gap: u16, f: u16) -> bool
-    ensures { λ r. ⌜ r ≡ below6But gap f ⌝ }
-{
-    if f == gap { false } else { f < 6 }
-}
-
 // Bit 14, and f where the unit is 1 or 5.
 pub fn is_assigned(control: u16, w: u16) -> bool
     ensures { λ r. ⌜ r ≡ assigned control w ⌝ }
@@ -197,10 +189,10 @@ pub fn is_assigned(control: u16, w: u16) -> bool
         false
     } else {
         if control / 32 % 8 == 1 {
-            is_below_6_but(2, w % 8)
+            word::is_below_6_but(2, w % 8)
         } else {
             if control / 32 % 8 == 5 {
-                is_below_6_but(3, w % 8)
+                word::is_below_6_but(3, w % 8)
             } else {
                 true
             }

@@ -8,13 +8,13 @@ use native.Mathlib.Omega.{arith}
 use borrow.Author.Tests.{lt-ltb, eq-eqb, ne-eqb}
 use lib.Dec.{T, eqb, ltb}
 use lib.ListN.{getD}
+use Rattle.word.specs.Codes.{below6But}
 use Rattle.word.specs.Fields.{opcode, e-of, f-of}
 use Rattle.word.specs.Word.{pick}
 use Rattle.word.proofs.Computed.{all, all-at}
 use Rattle.word.proofs.Tests.{same-test}
 use Rattle.machine.specs.Step.{Row, by-f, by-f-dividing, one, by-e, none, among, rows, Choice, rule, division, unassigned, inRow, choice, input, output}
 use Rattle.machine.specs.Run.{isOut}
-use Rattle.rules.specs.Parts.{below6But}
 use Rattle.rules.proofs.Values.{f-is}
 
 -- ---- Which words are assigned: the code's test, and that the rows say the same, by one computed test

@@ -1,9 +1,9 @@
 -- What the private functions of a step promise. Nothing here is promised to a caller.
 use mathlib.Core.Path.{_≡_}
-use mathlib.Core.Bool.{Bool, false, _&&_}
+use mathlib.Core.Bool.{Bool, _&&_}
 use mathlib.Core.List.{List, [], _∷_}
 use Prim.Native.Nat.{ℕ, _+_, _*_, _/_, _%_}
-use lib.Dec.{eqb, ltb}
+use lib.Dec.{eqb}
 use lib.ListN.{getD}
 use Rattle.word.specs.Fields.{a-of, b-of, e-of, f-of, N6, N8}
 use Rattle.word.specs.Word.{pick, add, clear0, SE}
@@ -29,10 +29,6 @@ pub record RuleMeets (w : ℕ) (s : State) (D : List ℕ) (k : ℕ) (r : Stepped
   pub entries : r .entries ≡ k
   pub machine :
       (m : Machine) → m .state ≡ s → m .D ≡ D → outcomeOf m (stepBy (choice w) w m) ≡ record { reason = r .stop; after = onState (λ u. r .state) (putD D′ m) }
-
--- f is below 6 and not the gap: the assigned f of opcode 1 (gap 2) and of opcode 11 (gap 3)
-abbrev pub below6But : ℕ → ℕ → Bool
-below6But gap f = pick (eqb f gap) false (ltb f 6)
 
 -- w, of opcode 11, divides; and Rb is zero
 abbrev pub isDivision : ℕ → Bool

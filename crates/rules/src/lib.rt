@@ -19,7 +19,7 @@ fn comparison(w: u16, state: State, next: State, entries: usize) -> Stepped
     requires { ⌜ Begun 1 w state next ⌝ }
     ensures { λ r. ⌜ ((D : List ℕ) → RuleMeets w state D entries r D) ⌝ }
 {
-    if rule::is_assigned(2, w % 8) {
+    if word::is_below_6_but(2, w % 8) {
         Stepped::done(rule::compared(w, state, next), entries)
     } else {
         Stepped::stopped(1, state, entries)
@@ -31,7 +31,7 @@ fn product(w: u16, state: State, next: State, entries: usize) -> Stepped
     requires { ⌜ Begun 11 w state next ⌝ }
     ensures { λ r. ⌜ ((D : List ℕ) → RuleMeets w state D entries r D) ⌝ }
 {
-    if rule::is_assigned(3, w % 8) {
+    if word::is_below_6_but(3, w % 8) {
         if rule::divides_by_zero(w, state) {
             Stepped::stopped(3, state, entries)
         } else {

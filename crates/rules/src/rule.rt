@@ -6,7 +6,7 @@ ghost use Rattle.word.specs.Word.{operation, comparison, clear0};
 ghost use Rattle.muldiv.specs.Muldiv.{muldiv};
 ghost use Rattle.machine.specs.Machine.{putR, putWord, putByte};
 ghost use Rattle.machine.specs.Step.{d5-3, d8-6, d11-9};
-ghost use Rattle.rules.specs.Parts.{below6But, dividesByZero, raOf, rbOf, sumOf, wordOf, byteOf, branchOf, linkOf, moveOf};
+ghost use Rattle.rules.specs.Parts.{dividesByZero, raOf, rbOf, sumOf, wordOf, byteOf, branchOf, linkOf, moveOf};
 use machine::Address;
 use machine::Port;
 use machine::State;
@@ -16,13 +16,6 @@ pub fn operated(w: u16, state: State, next: State) -> State
     ensures { λ r. ⌜ r ≡ putR (d5-3 w) (operation (f-of w) (raOf w state) (rbOf w state)) next ⌝ }
 {
     next.with_register(w / 8, word::operate(w % 8, state.ra(w), state.rb(w)))
-}
-
-// f is below 6 and not the gap: the assigned f of opcode 1 (gap 2) and of opcode 11 (gap 3).
-pub fn is_assigned(gap: u16, f: u16) -> bool
-    ensures { λ r. ⌜ r ≡ below6But gap f ⌝ }
-{
-    if f == gap { false } else { f < 6 }
 }
 
 // Opcode 1.

@@ -12,43 +12,34 @@ use Rattle.kinds.specs.Kinds.{kinds}
 use Rattle.isa.specs.Masks.{Masks, inMask}
 use Rattle.machine.specs.Machine.{Machine}
 use Rattle.usage.specs.declared.Usage.{Usage}
-use Rattle.usage.specs.Usage.{addedFrom, counted, unused, usageOf, held, Countable}
+use Rattle.usage.specs.Usage.{addedFrom, counted, unused, usageOf, plusCounts, plus, held, Countable}
 use Rattle.usage.proofs.Added.{added-length}
 
 -- ---- Sums
 
--- place by place, as far as both lists go
-unfoldable pub sums : List ℕ → List ℕ → List ℕ
-sums [] ys = []
-sums (x ∷ xs) [] = []
-sums (x ∷ xs) (y ∷ ys) = (x + y) ∷ sums xs ys
-
-abbrev pub plus : Usage → Usage → Usage
-plus u v = held (sums (u .kinds) (v .kinds)) (sums (u .reads) (v .reads)) (sums (u .writes) (v .writes))
-
-sums-comm : (xs ys : List ℕ) → sums xs ys ≡ sums ys xs
-unfolding sums
-sums-comm [] [] = refl
-sums-comm [] (y ∷ ys) = refl
-sums-comm (x ∷ xs) [] = refl
-sums-comm (x ∷ xs) (y ∷ ys) = λ i. add-comm x y i ∷ sums-comm xs ys i
+counts-comm : (xs ys : List ℕ) → plusCounts xs ys ≡ plusCounts ys xs
+unfolding plusCounts
+counts-comm [] [] = refl
+counts-comm [] (y ∷ ys) = refl
+counts-comm (x ∷ xs) [] = refl
+counts-comm (x ∷ xs) (y ∷ ys) = λ i. add-comm x y i ∷ counts-comm xs ys i
 
 pub plus-comm : (u v : Usage) → plus u v ≡ plus v u
-plus-comm u v = λ i. held (sums-comm (u .kinds) (v .kinds) i) (sums-comm (u .reads) (v .reads) i) (sums-comm (u .writes) (v .writes) i)
+plus-comm u v = λ i. held (counts-comm (u .kinds) (v .kinds) i) (counts-comm (u .reads) (v .reads) i) (counts-comm (u .writes) (v .writes) i)
 
-sums-added : (n : ℕ) (t : ℕ → Bool) (xs ys : List ℕ) → sums xs (addedFrom n t ys) ≡ addedFrom n t (sums xs ys)
-unfolding sums addedFrom
-sums-added n t [] ys = refl
-sums-added n t (x ∷ xs) [] = refl
-sums-added n t (x ∷ xs) (y ∷ ys) = let e : x + (y + flag (t n)) ≡ (x + y) + flag (t n) = omega arith in λ i. e i ∷ sums-added (suc n) t xs ys i
+counts-added : (n : ℕ) (t : ℕ → Bool) (xs ys : List ℕ) → plusCounts xs (addedFrom n t ys) ≡ addedFrom n t (plusCounts xs ys)
+unfolding plusCounts addedFrom
+counts-added n t [] ys = refl
+counts-added n t (x ∷ xs) [] = refl
+counts-added n t (x ∷ xs) (y ∷ ys) = let e : x + (y + flag (t n)) ≡ (x + y) + flag (t n) = omega arith in λ i. e i ∷ counts-added (suc n) t xs ys i
 
 module _ (kind : ℕ → Bool) (masks : Masks) (u x : Usage) where
   pub plus-counted : plus u (counted kind masks x) ≡ counted kind masks (plus u x)
   plus-counted =
       λ i.
-      held (sums-added 0 kind (u .kinds) (x .kinds) i)
-      (sums-added 0 (inMask (masks .reads)) (u .reads) (x .reads) i)
-      (sums-added 0 (inMask (masks .writes)) (u .writes) (x .writes) i)
+      held (counts-added 0 kind (u .kinds) (x .kinds) i)
+      (counts-added 0 (inMask (masks .reads)) (u .reads) (x .reads) i)
+      (counts-added 0 (inMask (masks .writes)) (u .writes) (x .writes) i)
 
 -- a step counted on either side
 pub counted-plus : (kind : ℕ → Bool) (masks : Masks) (u x : Usage) → plus (counted kind masks u) x ≡ plus u (counted kind masks x)
@@ -74,14 +65,14 @@ unfolding usageOf
 trace-sized [] = unused-sized
 trace-sized (m ∷ ms) = counted-sized _ _ (trace-sized ms)
 
-sums-none : (n : ℕ) (xs : List ℕ) → length xs ≡ n → sums xs (replicate n 0) ≡ xs
-unfolding sums
-sums-none n [] e = refl
-sums-none zero (x ∷ xs) e = absurd (omega arith)
-sums-none (suc n) (x ∷ xs) e = λ i. add-zero x i ∷ sums-none n xs (omega arith) i
+counts-none : (n : ℕ) (xs : List ℕ) → length xs ≡ n → plusCounts xs (replicate n 0) ≡ xs
+unfolding plusCounts
+counts-none n [] e = refl
+counts-none zero (x ∷ xs) e = absurd (omega arith)
+counts-none (suc n) (x ∷ xs) e = λ i. add-zero x i ∷ counts-none n xs (omega arith) i
 
 pub plus-unused : {u : Usage} → Sized u → plus u unused ≡ u
-plus-unused {u} s = λ i. held (sums-none _ (u .kinds) (s .kinds) i) (sums-none _ (u .reads) (s .reads) i) (sums-none _ (u .writes) (s .writes) i)
+plus-unused {u} s = λ i. held (counts-none _ (u .kinds) (s .kinds) i) (counts-none _ (u .reads) (s .reads) i) (counts-none _ (u .writes) (s .writes) i)
 
 pub unused-plus : {u : Usage} → Sized u → plus unused u ≡ u
 unused-plus {u} s = plus-comm unused u ∙ plus-unused s

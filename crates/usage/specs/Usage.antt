@@ -60,6 +60,22 @@ unfoldable pub usageOf : List Machine → Usage
 usageOf [] = unused
 usageOf (m ∷ ms) = counted (doesKind m) (masksAt m) (usageOf ms)
 
+-- ---- Sums of counts
+
+-- place by place
+unfoldable pub plusCounts : List ℕ → List ℕ → List ℕ
+plusCounts [] ys = []
+plusCounts (x ∷ xs) [] = []
+plusCounts (x ∷ xs) (y ∷ ys) = (x + y) ∷ plusCounts xs ys
+
+abbrev pub plus : Usage → Usage → Usage
+plus u v =
+    record {
+      kinds = plusCounts (u .kinds) (v .kinds);
+      reads = plusCounts (u .reads) (v .reads);
+      writes = plusCounts (u .writes) (v .writes);
+    }
+
 -- ---- Counting in place
 
 -- what the three lists of counters hold

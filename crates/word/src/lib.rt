@@ -3,6 +3,7 @@ ghost use mathlib.Core.Path.{_≡_};
 ghost use Prim.Native.Nat.{_*_, _<_};
 ghost use lib.Signed.{ltZ, leZ};
 ghost use Rattle.word.specs.Fields.{N6, N8};
+ghost use Rattle.word.specs.Codes.{below6But};
 ghost use Rattle.word.specs.Word.{flag, add, subtract, clear0, signed, SE, shifted, amount, sha, shl, operation, comparison};
 
 pub fn sum(x: u16, y: u16) -> u16
@@ -128,4 +129,11 @@ pub fn compare(f: u16, x: u16, y: u16) -> u16
         5 => (x <= y) as u16,
         _ => 0,
     }
+}
+
+// f is below 6 and not the gap: an f of opcode 1 (gap 2) or of opcode 11 (gap 3).
+pub fn is_below_6_but(gap: u16, f: u16) -> bool
+    ensures { λ r. ⌜ r ≡ below6But gap f ⌝ }
+{
+    if f == gap { false } else { f < 6 }
 }
