@@ -7,6 +7,7 @@ use mathlib.Core.List.{List, [], _∷_, _++_}
 use lib.Dec.{eqb}
 use lib.ListN.{length, take, drop, getD}
 use Rattle.word.specs.Word.{pick}
+use Rattle.token.specs.Ascii.{byte}
 use Rattle.token.specs.Scan.{firstLine, tokensAt}
 use Rattle.expression.specs.declared.Value.{Value}
 use Rattle.expression.specs.Operands.{operandValue}
@@ -30,8 +31,8 @@ use Rattle.encoding.specs.Numbers.{shownJudged}
 pub record LineEnd (text : List ℕ) (at r : ℕ) : Type 0 where
   pub after : at ≤ r
   pub inside : r ≤ length text
-  pub none : (i : ℕ) → at ≤ i → i < r → getD text i 0 ≡ 10 → ⊥
-  pub newline : r < length text → getD text r 0 ≡ 10
+  pub none : (i : ℕ) → at ≤ i → i < r → getD text i 0 ≡ byte "\n" → ⊥
+  pub newline : r < length text → getD text r 0 ≡ byte "\n"
 
 -- the place with the first so many labels of a table
 unfoldable pub placeAt : List ℕ → List ℕ → ℕ → ℕ → Place

@@ -6,6 +6,7 @@ use mathlib.Core.List.{List, [], _∷_, _++_}
 use lib.Dec.{eqb, ltb, leb}
 use lib.ListN.{length, take, drop}
 use Rattle.word.specs.Word.{pick}
+use Rattle.token.specs.Ascii.{byte}
 use Rattle.token.specs.Tokens.{Token}
 use Rattle.token.specs.Scan.{tokens}
 use Rattle.expression.specs.declared.Value.{Value}
@@ -23,7 +24,7 @@ longer b (l ∷ ls) = (b ∷ l) ∷ ls
 -- A newline ends a line; the last may lack it. (After a newline at the very end the last line is empty.)
 unfoldable pub lines : List ℕ → List (List ℕ)
 lines [] = [] ∷ []
-lines (b ∷ s) = pick (eqb b 10) ([] ∷ lines s) (longer b (lines s))
+lines (b ∷ s) = pick (eqb b (byte "\n")) ([] ∷ lines s) (longer b (lines s))
 
 -- the readings of the lines; of a text that is too long, the last line that is read is outside the grammar
 unfoldable pub readings : Bool → List (List ℕ) → List (ReadLine Tree)

@@ -20,10 +20,9 @@ use Rattle.isa.specs.declared.Instruction.{Instruction}
 use Rattle.isa.specs.declared.rows.Entry.{Entry}
 use Rattle.isa.specs.declared.rows.Entry.the-variants.{Unassigned, Assigned}
 use Rattle.isa.specs.Sheet.{sheet, kindAt}
-use Rattle.isa.specs.Instructions.{instruction, partsOf, readAs, readOf}
+use Rattle.isa.specs.Instructions.{Register, a-register, b-register, d-register, instruction, partsOf, readAs, readOf}
 use Rattle.isa.specs.Masks.{inMask, registerMask, readsDestination, readsOf, writesOf, masksAs, masksOf}
 use Rattle.isa.proofs.Every.{every}
-use Rattle.statement.specs.Syntax.{Register, a-register, b-register, d-register}
 use Rattle.claims.specs.Masks.{has, isUsed, Exact}
 use Rattle.claims.proofs.Touched.{maskOf, in-one, in-or}
 

@@ -18,12 +18,12 @@ use Rattle.kinds.specs.declared.Kind.the-variants.{And}
 use Rattle.kinds.specs.Kinds.{kinds}
 use Rattle.isa.specs.declared.Instruction.{Instruction}
 use Rattle.isa.specs.Sheet.{Line as SheetLine, sheet}
-use Rattle.isa.specs.Instructions.{inRange, fits, wordOf, writeOf}
+use Rattle.isa.specs.Instructions.{Register, a-register, b-register, d-register, inRange, fits, wordOf, writeOf}
 use Rattle.token.specs.Tokens.{Token}
 use Rattle.expression.specs.declared.Value.{Value}
 use Rattle.expression.specs.Operands.{registerOf}
 use Rattle.expression.specs.Grammar.{Tree}
-use Rattle.statement.specs.Syntax.{Register, a-register, b-register, d-register, Item, register, mark, N, table, rowAt, Parts, put, Written, end, a-register-there, a-mark-there, a-value-there, Statement, none, of-row, IsStatement, empty, written as written-row, Line, IsLine, plain, labelled}
+use Rattle.statement.specs.Syntax.{Item, register, mark, N, table, rowAt, Parts, put, Written, end, a-register-there, a-mark-there, a-value-there, Statement, none, of-row, IsStatement, empty, written as written-row, Line, IsLine, plain, labelled}
 use Rattle.encoding.specs.Words.{odd, numberOf, bad, gives, written, encoded}
 use Rattle.claims.specs.Assembly.{Fits}
 

@@ -19,7 +19,7 @@ use Rattle.token.specs.Tokens.{Token, between, digit, letter, letterOrDigit}
 use Rattle.printing.specs.Text.{digit as digitByte, digits, decimal, hex4}
 use Rattle.expression.specs.declared.Value.{Value}
 use Rattle.expression.specs.Operands.{digitOf, allDigits, numeral, hexed, isLiteral, literalWord, isOperand, operandValue, negated}
-use Rattle.expression.specs.Grammar.{Tree, operand, negation, valueOf, Expression, single, minus, tighter}
+use Rattle.expression.specs.Grammar.{Tree, operand, negation, valueOf, Expression, single, unary-minus, tighter}
 use Rattle.statement.specs.Syntax.{Field, number, eight-bits, target}
 use Rattle.encoding.specs.Words.{distance, odd, numberOf}
 use Rattle.listing.specs.Listing.{numberText, wordText, targetOf, operandText}
@@ -115,7 +115,7 @@ negative-means t v l =
       tokens = ascii "-" ∷ t ∷ [];
       tree = negation (operand t);
       before = λ p x. wider (omega arith) (mark-before 45 tt (word-before t (l .token) p x));
-      read = any-rank (minus (single (l .is)));
+      read = any-rank (unary-minus (single (l .is)));
       value = rw (l .first) (ap (λ (v : ℕ). known (subtract 0 v)) (l .value));
     }
 

@@ -18,13 +18,12 @@ use Rattle.kinds.specs.declared.Kind.{Kind}
 use Rattle.kinds.specs.Kinds.{kindNumber}
 use Rattle.isa.specs.declared.Instruction.{Instruction}
 use Rattle.isa.specs.Sheet.{Number, signed-n, unsigned-n, Line as SheetLine, sheet}
-use Rattle.isa.specs.Instructions.{inRange, fits}
+use Rattle.isa.specs.Instructions.{registerPart, Register, a-register, b-register, d-register, inRange, fits}
 use Rattle.isa.proofs.Every.{every}
 use Rattle.token.specs.Ascii.{ascii}
 use Rattle.token.specs.Tokens.{between, digit, letter, letterOrDigit}
 use Rattle.expression.specs.Grammar.{operand}
-use Rattle.statement.specs.Syntax.{Register, a-register, b-register, d-register, Item, register, mark, N, Field, number, eight-bits, target, rowAt}
-use Rattle.listing.specs.Listing.{partOf}
+use Rattle.statement.specs.Syntax.{Item, register, mark, N, Field, number, eight-bits, target, rowAt}
 use Rattle.claims.proofs.Joined.{row-test, word-test, plain, dividing}
 use Rattle.claims.proofs.Operands.{Near, limit, Stands, blank-stands}
 
@@ -42,7 +41,7 @@ sizeOf l a-register = 2 ^ l .format .a .count
 sizeOf l b-register = 2 ^ l .format .b .count
 sizeOf l d-register = 2 ^ l .format .d .count
 
-register-fits : (l : SheetLine) (i : Instruction) → fits l i ≡ true → (r : Register) → partOf i r < sizeOf l r
+register-fits : (l : SheetLine) (i : Instruction) → fits l i ≡ true → (r : Register) → registerPart i r < sizeOf l r
 register-fits l i e a-register = ltb-true _ _ (four (ltb (i .a) (2 ^ l .format .a .count)) _ _ _ e .0)
 register-fits l i e b-register = ltb-true _ _ (four (ltb (i .a) (2 ^ l .format .a .count)) _ _ _ e .1)
 register-fits l i e d-register = ltb-true _ _ (four (ltb (i .a) (2 ^ l .format .a .count)) _ _ _ e .2)
@@ -192,13 +191,13 @@ module _ (i : Instruction) (e : fits (sheet (i .kind)) i ≡ true) where
   abbrev k : Kind
   k = i .kind
 
-  pub small : (r : Register) → partOf i r < 8
+  pub small : (r : Register) → registerPart i r < 8
   unfolding register-test
   small r =
       let (x, y) = both-split (leb (sizeOf (sheet k) r) 8) _ (registers-tested r k) in
       omega (arith, leb→le (sizeOf (sheet k) r) 8 x, register-fits (sheet k) i e r)
 
-  pub absent : (r : Register) → names r (itemsOf k) ≡ false → 0 ≡ partOf i r
+  pub absent : (r : Register) → names r (itemsOf k) ≡ false → 0 ≡ registerPart i r
   unfolding register-test
   absent r n =
       let (x, y) = both-split (leb (sizeOf (sheet k) r) 8) _ (registers-tested r k) in

@@ -13,13 +13,13 @@ use Rattle.word.proofs.Computed.{both-split, all, all-at}
 use Rattle.kinds.specs.declared.Kind.{Kind}
 use Rattle.isa.specs.declared.Instruction.{Instruction}
 use Rattle.isa.specs.Sheet.{sheet}
-use Rattle.isa.specs.Instructions.{fits}
+use Rattle.isa.specs.Instructions.{registerPart, Register, a-register, b-register, d-register, fits}
 use Rattle.token.specs.Ascii.{ascii}
 use Rattle.token.specs.Tokens.{Token, between, digit, letter, letterOrDigit}
 use Rattle.expression.specs.Operands.{registerOf}
 use Rattle.expression.specs.Grammar.{Tree}
-use Rattle.statement.specs.Syntax.{Register, a-register, b-register, d-register, Item, register, mark, N, Parts, blank, put, putN, Written, end, a-register-there, a-mark-there, a-value-there}
-use Rattle.listing.specs.Listing.{registerText, operandText, partOf, rowOf, itemsText, instructionText}
+use Rattle.statement.specs.Syntax.{Item, register, mark, N, Parts, blank, put, putN, Written, end, a-register-there, a-mark-there, a-value-there}
+use Rattle.listing.specs.Listing.{registerText, operandText, rowOf, itemsText, instructionText}
 use Rattle.claims.proofs.Joined.{row-test, word-test, plain, dividing, Parted, mark-parted, Text, wider, nothing-there, word-before, mark-before, space-before, spaced-before}
 use Rattle.claims.proofs.Operands.{Means, valueIn, operand-means, Stands, operand-stands}
 use Rattle.claims.proofs.Rows.{is-same, names, numbered, marked, laid, itemsOf, fieldOf, mnemonic-plain, items-laid, few-items, small, absent, near, blank-number}
@@ -77,7 +77,7 @@ module _ (address : ℕ) (i : Instruction) (e : fits (sheet (i .kind)) i ≡ tru
   -- the parts p with those of the items
   abbrev filled : List Item → Parts Tree → Parts Tree
   filled [] p = p
-  filled (register r ∷ is) p = filled is (put r (partOf i r) p)
+  filled (register r ∷ is) p = filled is (put r (registerPart i r) p)
   filled (mark m ∷ is) p = filled is p
   filled (N ∷ is) p = filled is (putN (means .tree) p)
 
@@ -87,7 +87,7 @@ module _ (address : ℕ) (i : Instruction) (e : fits (sheet (i .kind)) i ≡ tru
   part b-register p = p .b
   part d-register p = p .d
 
-  part-put : (r s : Register) (p : Parts Tree) → (pick (is-same r s) true false ≡ false → part r p ≡ partOf i r) → part r (put s (partOf i s) p) ≡ partOf i r
+  part-put : (r s : Register) (p : Parts Tree) → (pick (is-same r s) true false ≡ false → part r p ≡ registerPart i r) → part r (put s (registerPart i s) p) ≡ registerPart i r
   part-put a-register a-register p h = refl
   part-put a-register b-register p h = h refl
   part-put a-register d-register p h = h refl
@@ -98,9 +98,9 @@ module _ (address : ℕ) (i : Instruction) (e : fits (sheet (i .kind)) i ≡ tru
   part-put d-register b-register p h = h refl
   part-put d-register d-register p h = refl
 
-  filled-register : (r : Register) (is : List Item) (p : Parts Tree) → (names r is ≡ false → part r p ≡ partOf i r) → part r (filled is p) ≡ partOf i r
+  filled-register : (r : Register) (is : List Item) (p : Parts Tree) → (names r is ≡ false → part r p ≡ registerPart i r) → part r (filled is p) ≡ registerPart i r
   filled-register r [] p h = h refl
-  filled-register r (register s ∷ is) p h = filled-register r is (put s (partOf i s) p) (λ n. part-put r s p (λ q. h (apart (is-same r s) (names r is) q n)))
+  filled-register r (register s ∷ is) p h = filled-register r is (put s (registerPart i s) p) (λ n. part-put r s p (λ q. h (apart (is-same r s) (names r is) q n)))
   filled-register r (mark m ∷ is) p h = filled-register r is p h
   filled-register a-register (N ∷ is) p h = filled-register a-register is (putN (means .tree) p) h
   filled-register b-register (N ∷ is) p h = filled-register b-register is (putN (means .tree) p) h
@@ -109,14 +109,14 @@ module _ (address : ℕ) (i : Instruction) (e : fits (sheet (i .kind)) i ≡ tru
   abbrev StandsFor : Tree → Type 0
   StandsFor t = Stands address (fieldOf k) (i .n) t
 
-  put-n : (s : Register) (p : Parts Tree) → StandsFor (p .n) → StandsFor (put s (partOf i s) p .n)
+  put-n : (s : Register) (p : Parts Tree) → StandsFor (p .n) → StandsFor (put s (registerPart i s) p .n)
   put-n a-register p h = h
   put-n b-register p h = h
   put-n d-register p h = h
 
   filled-number : (is : List Item) (p : Parts Tree) → (numbered is ≡ false → StandsFor (p .n)) → StandsFor (filled is p .n)
   filled-number [] p h = h refl
-  filled-number (register s ∷ is) p h = filled-number is (put s (partOf i s) p) (λ n. put-n s p (h n))
+  filled-number (register s ∷ is) p h = filled-number is (put s (registerPart i s) p) (λ n. put-n s p (h n))
   filled-number (mark m ∷ is) p h = filled-number is p h
   filled-number (N ∷ is) p h = filled-number is (putN (means .tree) p) (λ n. operand-stands address (fieldOf k) (i .n) (near i e))
 
@@ -137,7 +137,7 @@ module _ (address : ℕ) (i : Instruction) (e : fits (sheet (i .kind)) i ≡ tru
   -- ---- Its tokens
 
   abbrev itemTokens : Item → List Token
-  itemTokens (register r) = registerText (partOf i r) ∷ []
+  itemTokens (register r) = registerText (registerPart i r) ∷ []
   itemTokens (mark m) = (m ∷ []) ∷ []
   itemTokens N = means .tokens
 
@@ -148,7 +148,7 @@ module _ (address : ℕ) (i : Instruction) (e : fits (sheet (i .kind)) i ≡ tru
   items-written : (is : List Item) (p : Parts Tree) → Written is (itemsTokens is) p (filled is p)
   unfolding itemsTokens
   items-written [] p = end
-  items-written (register r ∷ is) p = register-there (partOf i r) (small i e r) (items-written is (put r (partOf i r) p))
+  items-written (register r ∷ is) p = register-there (registerPart i r) (small i e r) (items-written is (put r (registerPart i r) p))
   items-written (mark m ∷ is) p = a-mark-there (items-written is p)
   items-written (N ∷ is) p = a-value-there (means .read) (items-written is (putN (means .tree) p))
 
@@ -167,7 +167,7 @@ module _ (address : ℕ) (i : Instruction) (e : fits (sheet (i .kind)) i ≡ tru
   items-text [] l = nothing-there
   items-text (register r ∷ is) l =
       let (h, m) = both-split (marked is) _ l in
-      wider (omega arith) (word-before (registerText (partOf i r)) (register-plain (partOf i r) (small i e r)) (items-parted is h m) (items-text is m))
+      wider (omega arith) (word-before (registerText (registerPart i r)) (register-plain (registerPart i r) (small i e r)) (items-parted is h m) (items-text is m))
   items-text (mark m ∷ is) l =
       let (h, r) = both-split (dividing m) _ l in
       wider (omega arith) (mark-text m h (textOf is) (items-text is r))

@@ -20,11 +20,11 @@ use Rattle.isa.specs.declared.rows.Entry.{Entry}
 use Rattle.isa.specs.declared.rows.Entry.the-variants.{Unassigned, Assigned}
 use Rattle.isa.specs.Sheet.{kindAt}
 use Rattle.isa.specs.Masks.{Masks, inMask, masksAs, masksOf}
+use Rattle.isa.specs.Instructions.{Register, a-register, b-register, d-register}
 use Rattle.machine.specs.declared.State.{State}
 use Rattle.machine.specs.Machine.{Machine, putPC, count, onState}
 use Rattle.machine.specs.Step.{PC, d5-3, d8-6, d11-9}
 use Rattle.control.specs.Control.{second, units, unitField, result, next, storedData, stored, written, takes, assigned, divides, zeroDivisor, table as controls}
-use Rattle.statement.specs.Syntax.{Register, a-register, b-register, d-register}
 use Rattle.claims.specs.Masks.{saidToUse}
 use Rattle.usage.proofs.Functions.{table}
 use Rattle.claims.proofs.Rules.{table-of, at-word}

@@ -16,13 +16,11 @@ use Rattle.kinds.specs.declared.Kind.the-variants.{And}
 use Rattle.kinds.specs.Kinds.{kinds}
 use Rattle.isa.specs.declared.Instruction.{Instruction}
 use Rattle.isa.specs.Sheet.{sheet, kindAt}
-use Rattle.isa.specs.Instructions.{wordOf, word, writeOf}
+use Rattle.isa.specs.Instructions.{registerPart, Register, a-register, b-register, d-register, wordOf, word, writeOf}
 use Rattle.isa.specs.Masks.{inMask, masksOf}
 use Rattle.isa.proofs.Every.{every}
 use Rattle.machine.specs.Machine.{Machine, R, wordAt}
 use Rattle.machine.specs.Step.{PC, write, Next, cannot, to, fetched}
-use Rattle.statement.specs.Syntax.{Register, a-register, b-register, d-register}
-use Rattle.listing.specs.Listing.{partOf}
 use Rattle.claims.specs.Rules.{stepAs}
 use Rattle.usage.specs.Usage.{masksAt}
 use Rattle.claims.specs.Masks.{Does, Uses, Writes, has, saidToUse}
@@ -105,7 +103,7 @@ trial o v x = record { others = o; first = v; then = x }
 
 module _ (k : Kind) (p : Register) where
   abbrev its-register : ℕ
-  its-register = partOf (example k) p
+  its-register = registerPart (example k) p
 
   abbrev at-first : Trial → List ℕ
   at-first t = registers (t .others) its-register (t .first)
@@ -168,7 +166,7 @@ does k rs l t =
       steps = rules .written (example k) _ e (machine k rs) refl ∙ reached-is (machine k rs) _ t;
     }
 
-pub reads-needed : (k : Kind) (p : Register) → saidToUse k p ≡ true → (i : Instruction) × (i .kind ≡ k) × Uses i (partOf i p)
+pub reads-needed : (k : Kind) (p : Register) → saidToUse k p ≡ true → (i : Instruction) × (i .kind ≡ k) × Uses i (registerPart i p)
 unfolding machine after example differs shows needed
 reads-needed k p e =
     let j = its-register k p in

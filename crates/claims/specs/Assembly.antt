@@ -42,7 +42,7 @@ use Rattle.isa.specs.Sheet.{sheet}
 use Rattle.isa.specs.Instructions.{inRange, word, writeOf}
 use Rattle.machine.specs.Machine.{wordAt}
 use Rattle.token.specs.Tokens.{Token, digit, Divided}
-use Rattle.expression.specs.Operands.{Label, operandValue}
+use Rattle.expression.specs.Operands.{Label, operandValue, Operator}
 use Rattle.expression.specs.Grammar.{Tree, operand, negation, operation, valueOf}
 use Rattle.statement.specs.Syntax.{Field, number, eight-bits, target, rowAt, Parts, of-row, Line, IsLine}
 use Rattle.statement.specs.Reading.{ReadLine, outside, reads}
@@ -76,8 +76,8 @@ pub data Named : List Label → Token → Type 0 where
 pub data Uses : Tree → Token → Type 0 where
   the-name : {w : Token} → digit (getD w 0 0) ≡ false → Uses (operand w) w
   negated : {t : Tree} {w : Token} → Uses t w → Uses (negation t) w
-  left : {o : ℕ} {t u : Tree} {w : Token} → Uses t w → Uses (operation o t u) w
-  right : {o : ℕ} {t u : Tree} {w : Token} → Uses u w → Uses (operation o t u) w
+  left : {o : Operator} {t u : Tree} {w : Token} → Uses t w → Uses (operation o t u) w
+  right : {o : Operator} {t u : Tree} {w : Token} → Uses u w → Uses (operation o t u) w
 
 -- ---- Values: `.word` takes any; an instruction's number has to be one that its bits can stand for, and a distance even
 

@@ -12,13 +12,11 @@ use Rattle.word.specs.Word.{pick}
 use Rattle.kinds.specs.declared.Kind.{Kind}
 use Rattle.isa.specs.declared.Instruction.{Instruction}
 use Rattle.isa.specs.Sheet.{sheet}
-use Rattle.isa.specs.Instructions.{instruction, unassigned, readOf, word, writeOf}
+use Rattle.isa.specs.Instructions.{registerPart, Register, a-register, b-register, d-register, instruction, unassigned, readOf, word, writeOf}
 use Rattle.isa.specs.Masks.{Masks, inMask, readsDestination, masksOf}
 use Rattle.machine.specs.declared.State.{State}
 use Rattle.machine.specs.Machine.{Machine, R, putR, onState}
 use Rattle.machine.specs.Step.{write, Next, cannot, to, fetched, step}
-use Rattle.statement.specs.Syntax.{Register, a-register, b-register, d-register}
-use Rattle.listing.specs.Listing.{partOf}
 use Rattle.usage.specs.Usage.{masksAt}
 
 -- ---- Machines alike but for registers outside a mask
@@ -82,7 +80,7 @@ saidToUse k d-register = readsDestination k
 
 -- Rj is the part p of i, and i's rule is said to use it
 abbrev pub isUsed : Instruction → ℕ → Register → Bool
-isUsed i j p = saidToUse (i .kind) p && eqb (partOf i p) j
+isUsed i j p = saidToUse (i .kind) p && eqb (registerPart i p) j
 
 -- the masks have just the registers that they are said to have
 pub record Exact (masks : Masks) (i : Instruction) (j : ℕ) : Type 0 where
@@ -105,5 +103,5 @@ pub record MaskLaws : Type 0 where
   -- Unassigned words give 0 and 0.
   pub unassigned-none : (w : ℕ) → readOf w ≡ unassigned → masksOf w ≡ record { reads = 0; writes = 0 }
   -- The masks are no larger than they need be: some instruction of each kind uses each of these registers, and writes Rd.
-  pub reads-needed : (k : Kind) (p : Register) → saidToUse k p ≡ true → (i : Instruction) × (i .kind ≡ k) × Uses i (partOf i p)
+  pub reads-needed : (k : Kind) (p : Register) → saidToUse k p ≡ true → (i : Instruction) × (i .kind ≡ k) × Uses i (registerPart i p)
   pub writes-needed : (k : Kind) → has (sheet k .format .d) ≡ true → (i : Instruction) × (i .kind ≡ k) × Writes i (i .d)

@@ -6,6 +6,7 @@ use Prim.Native.Nat.{ℕ, _+_, _<_, _≤_}
 use lib.ListN.{length}
 use Rattle.isa.specs.declared.Instruction.{Instruction}
 use Rattle.isa.specs.Instructions.{Read, instruction, unassigned, readOf, word, writeOf}
+use Rattle.token.specs.Ascii.{byte}
 use Rattle.expression.specs.Operands.{operandValue}
 use Rattle.expression.specs.Grammar.{Tree, valueOf}
 use Rattle.statement.specs.Syntax.{Line}
@@ -34,7 +35,7 @@ pub record GivesBack (address w : ℕ) : Type 0 where
 -- the third column of a listing: the texts of words that run on from an address, a line each
 unfoldable pub thirdColumn : ℕ → List ℕ → List ℕ
 thirdColumn address [] = []
-thirdColumn address (w ∷ ws) = textOf address w ++ (10 ∷ thirdColumn (address + 2) ws)
+thirdColumn address (w ∷ ws) = textOf address w ++ (byte "\n" ∷ thirdColumn (address + 2) ws)
 
 -- 16-bit words
 pub data Words : List ℕ → Type 0 where

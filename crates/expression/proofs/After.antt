@@ -12,8 +12,8 @@ use Rattle.expression.specs.declared.Value.{Value}
 use Rattle.expression.specs.declared.Answer.{Answer}
 use Rattle.expression.specs.declared.Answer.the-variants.{Refused, Read}
 use Rattle.expression.specs.declared.Join.the-variants.{NoJoin}
-use Rattle.expression.specs.Operands.{rankOf, rank, operated}
-use Rattle.expression.specs.Reading.{refused, read, bind, mapped, closed, told, headRank, JoinedBy, Joined}
+use Rattle.expression.specs.Operands.{operated}
+use Rattle.expression.specs.Reading.{operatorBy, rankBy, rank, refused, read, bind, mapped, closed, told, headRank, JoinedBy, Joined}
 
 module _ (s : List ℕ) (at : ℕ) (t : Found) (f : TokenAt s at t) where
   nothing : t ≡ End → tokensAt s at ≡ []
@@ -27,7 +27,7 @@ module _ (s : List ℕ) (at : ℕ) (t : Found) (f : TokenAt s at t) where
     there : At s at symbol start end
     there = subst (TokenAt s at) e f
 
-    module _ {k q : ℕ} (p : q ≡ rankOf symbol) where
+    module _ {k q : ℕ} (p : q ≡ rankBy symbol) where
       pub operator : q ≡ k → JoinedBy s at k symbol end
       unfolding rank
       operator z =
@@ -58,12 +58,12 @@ close-refused s e = rw e
 
 -- the value x, an operator and its right operand
 module _ (symbol : ℕ) (x : Value) {a : Answer} where
-  pub joined-refused : a ≡ Refused → (text : List ℕ) → told text Refused ≡ mapped (operated symbol x) (told text a)
+  pub joined-refused : a ≡ Refused → (text : List ℕ) → told text Refused ≡ mapped (operated (operatorBy symbol) x) (told text a)
   unfolding told mapped
   joined-refused e text = rw e
 
   pub joined-read :
-      {v w : Value} {next : ℕ} → a ≡ Read v next → w ≡ operated symbol x v
-      → (text : List ℕ) → told text (Read w next) ≡ mapped (operated symbol x) (told text a)
+      {v w : Value} {next : ℕ} → a ≡ Read v next → w ≡ operated (operatorBy symbol) x v
+      → (text : List ℕ) → told text (Read w next) ≡ mapped (operated (operatorBy symbol) x) (told text a)
   unfolding told mapped
   joined-read e f text = rw (e, f)

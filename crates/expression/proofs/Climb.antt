@@ -15,9 +15,9 @@ use Rattle.expression.specs.declared.Answer.{Answer}
 use Rattle.expression.specs.declared.Answer.the-variants.{Refused, Read}
 use Rattle.expression.specs.declared.Join.{Join}
 use Rattle.expression.specs.declared.Join.the-variants.{NoJoin, By}
-use Rattle.expression.specs.Operands.{rankOf, operated}
+use Rattle.expression.specs.Operands.{operated}
 use Rattle.expression.specs.Grammar.{Tree, operation, valueOf}
-use Rattle.expression.specs.Reading.{Out, refused, read, bind, mapped, follow, parse, told, headRank, JoinedBy, Joined}
+use Rattle.expression.specs.Reading.{operatorBy, rankBy, Out, refused, read, bind, mapped, follow, parse, told, headRank, JoinedBy, Joined}
 use Rattle.expression.proofs.Laws.{follow-stop}
 use Rattle.expression.proofs.Steps.{from-read, from-refused, chain-at, more, map-operation}
 
@@ -66,13 +66,13 @@ climb-skip d low (suc n) t r to m e h f =
 abbrev pub Between : List ℕ → ℕ → ℕ → ℕ → Join → Type 0
 Between s at low high r =
     ((k : ℕ) → low ≤ k → k ≤ high → r ≡ NoJoin → Joined s at k NoJoin)
-    × ((symbol end : ℕ) → r ≡ By symbol end → Joined s at (rankOf symbol) (By symbol end) × (low ≤ rankOf symbol) × (rankOf symbol ≤ high))
+    × ((symbol end : ℕ) → r ≡ By symbol end → Joined s at (rankBy symbol) (By symbol end) × (low ≤ rankBy symbol) × (rankBy symbol ≤ high))
 
 pub one-rank : (s : List ℕ) (at k : ℕ) (j : Join) → Between s at k k j → Joined s at k j
 one-rank s at k NoJoin b = b .0 k (omega arith) (omega arith) refl
 one-rank s at k (By symbol end) b =
     let f = b .1 symbol end refl in
-    let e : rankOf symbol ≡ k = omega (arith, f .1, f .2) in
+    let e : rankBy symbol ≡ k = omega (arith, f .1, f .2) in
     subst (λ (n : ℕ). JoinedBy s at n symbol end) e (f .0)
 
 pub no-join : {A : Type 0} {symbol end : ℕ} → NoJoin ≡ By symbol end → A
@@ -123,7 +123,7 @@ module _ {mean : Token → Value} {s : List ℕ} {d k low : ℕ} {ts : List Toke
         let none = climb-skip d low (i .above) t (tokensAt s here) (low + i .above) 0 (omega arith) (omega arith) (λ n l m. h .0 n l (omega (arith, i .ranks)) e) in
         rw (i .same, p, none, q)
 
-    module _ {symbol end : ℕ} (e : j ≡ By symbol end) {q : ℕ} (z : q ≡ rankOf symbol) where
+    module _ {symbol end : ℕ} (e : j ≡ By symbol end) {q : ℕ} (z : q ≡ rankBy symbol) where
       pub climb-by : JoinedBy s here q symbol end
       climb-by = subst (λ (n : ℕ). JoinedBy s here n symbol end) (sym z) (h .1 symbol end e .0)
 
@@ -133,7 +133,7 @@ module _ {mean : Token → Value} {s : List ℕ} {d k low : ℕ} {ts : List Toke
 
       pub climbs :
           (b : Answer) → told s b ≡ mapped (valueOf mean) (parse d (q - 1) (tokensAt s end))
-          → (r : Answer) → ((text : List ℕ) → told text r ≡ mapped (operated symbol v) (told text b)) → Climbing mean s d k q ts r
+          → (r : Answer) → ((text : List ℕ) → told text r ≡ mapped (operated (operatorBy symbol) v) (told text b)) → Climbing mean s d k q ts r
       unfolding climb
       climbs b g r m =
           let (t, p, w) = so-far in
@@ -141,7 +141,7 @@ module _ {mean : Token → Value} {s : List ℕ} {d k low : ℕ} {ts : List Toke
           let x : low ≤ q = omega (arith, f .1) in
           let y : q ≤ k = omega (arith, f .2) in
           record {
-            tree = mapped (operation symbol t) (parse d (q - 1) (tokensAt s end));
+            tree = mapped (operation (operatorBy symbol) t) (parse d (q - 1) (tokensAt s end));
             above = suc (k - q);
             ranks = omega arith;
             same =
@@ -149,5 +149,5 @@ module _ {mean : Token → Value} {s : List ℕ} {d k low : ℕ} {ts : List Toke
                 ∙ ap (climb d low (i .above)) p
                 ∙ climb-skip d low (i .above) t (tokensAt s here) q (suc (k - q)) (omega (arith, i .ranks)) x (λ n l u o. omega (arith, head))
                 ∙ ap (climb d (suc q) (k - q)) (more climb-by d t);
-            value = m s ∙ rw g (map-operation mean symbol t w (parse d (q - 1) (tokensAt s end)));
+            value = m s ∙ rw g (map-operation mean (operatorBy symbol) t w (parse d (q - 1) (tokensAt s end)));
           }

@@ -13,9 +13,9 @@ use Rattle.token.specs.Tokens.{Token}
 use Rattle.token.specs.Scan.{symbolOf}
 use Rattle.expression.specs.declared.prefix.Start.{Start}
 use Rattle.expression.specs.declared.prefix.Start.the-variants.{Nothing, Bracket, Operand}
-use Rattle.expression.specs.Operands.{isOperand, rank}
+use Rattle.expression.specs.Operands.{isOperand}
 use Rattle.expression.specs.Grammar.{Tree, negation, operation}
-use Rattle.expression.specs.Reading.{Out, refused, read, bind, mapped, closed, opening, startOf, leaf, prefixed, rest, follow, chain, ranked, inside, parse, headRank}
+use Rattle.expression.specs.Reading.{operatorOf, rank, Out, refused, read, bind, mapped, closed, opening, startOf, leaf, prefixed, rest, follow, chain, ranked, inside, parse, headRank}
 
 -- ---- What is left
 
@@ -81,10 +81,10 @@ module _ (next : List Token → Out Tree) (k : ℕ) (h : Shrinks next) where
   within-rest zero x ts = le-refl (length ts)
   within-rest (suc n) x [] = le-refl zero
   within-rest (suc n) x (o ∷ ts) =
-      let f : Tree → List Token → Out Tree = λ y r. rest next k n (operation (symbolOf o) x y) r in
+      let f : Tree → List Token → Out Tree = λ y r. rest next k n (operation (operatorOf o) x y) r in
       either (Within (length (o ∷ ts))) (eqb (rank o) k)
       (within-more (bind (next ts) f) {n = length ts} (omega arith)
-      (within-bind (next ts) (length ts) (h ts) f (λ y r. within-rest n (operation (symbolOf o) x y) r)))
+      (within-bind (next ts) (length ts) (h ts) f (λ y r. within-rest n (operation (operatorOf o) x y) r)))
       (le-refl (length (o ∷ ts)))
 
   within-chain : Shrinks (chain next k)
@@ -125,13 +125,13 @@ module _ (next : List Token → Out Tree) (k : ℕ) where
     enough (suc n) zero x (o ∷ ts) p q = absurd (omega arith)
     enough (suc n) (suc m) x [] p q = refl
     enough (suc n) (suc m) x (o ∷ ts) p q =
-        rw (bind-ext (next ts) (length ts) (h ts) _ _ (λ y r w. enough n m (operation (symbolOf o) x y) r (omega arith) (omega arith)))
+        rw (bind-ext (next ts) (length ts) (h ts) _ _ (λ y r w. enough n m (operation (operatorOf o) x y) r (omega arith) (omega arith)))
 
     -- one comes first
     pub follow-more :
         (x : Tree) (o : Token) (ts : List Token) → rank o ≡ k
-        → follow next k x (o ∷ ts) ≡ bind (next ts) (λ y r. follow next k (operation (symbolOf o) x y) r)
+        → follow next k x (o ∷ ts) ≡ bind (next ts) (λ y r. follow next k (operation (operatorOf o) x y) r)
     unfolding follow rest
     follow-more x o ts e =
         rw (eq-eqb (rank o) k e)
-        (bind-ext (next ts) (length ts) (h ts) _ _ (λ y r w. enough (length ts) (length r) (operation (symbolOf o) x y) r w (le-refl (length r))))
+        (bind-ext (next ts) (length ts) (h ts) _ _ (λ y r w. enough (length ts) (length r) (operation (operatorOf o) x y) r w (le-refl (length r))))

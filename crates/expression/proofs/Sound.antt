@@ -14,9 +14,10 @@ use Rattle.token.specs.Tokens.{Token}
 use Rattle.token.specs.Scan.{symbolOf}
 use Rattle.token.proofs.Symbols.{one-byte}
 use Rattle.expression.specs.declared.prefix.Start.the-variants.{Bracket, Operand}
-use Rattle.expression.specs.Operands.{isOperand, rank}
-use Rattle.expression.specs.Grammar.{Tree, operand, negation, operation, Expression, single, minus, bracketed, tighter, joined}
-use Rattle.expression.specs.Reading.{Out, refused, read, bind, mapped, closed, opening, startOf, leaf, prefixed, rest, follow, chain, ranked, inside, parse}
+use Rattle.expression.specs.Operands.{isOperand, operatorText}
+use Rattle.expression.specs.Grammar.{Tree, operand, negation, operation, Expression, single, unary-minus, bracketed, tighter, joined}
+use Rattle.expression.specs.Reading.{operatorOf, rank, Out, refused, read, bind, mapped, closed, opening, startOf, leaf, prefixed, rest, follow, chain, ranked, inside, parse}
+use Rattle.expression.proofs.Operators.{of-rank}
 use Rattle.expression.proofs.Unique.{Stops, whole}
 
 -- the tokens begin with an expression, and the rest is left
@@ -35,7 +36,7 @@ module _ (d : ℕ) (r : List Token) where
   sound-minus : (o : Out Tree) → Sound d 0 r o → Sound d 0 ((45 ∷ []) ∷ r) (mapped negation o)
   unfolding mapped
   sound-minus refused h = tt
-  sound-minus (read v q) (us, e, x) = ((45 ∷ []) ∷ us, ap (λ ts. (45 ∷ []) ∷ ts) e, minus x)
+  sound-minus (read v q) (us, e, x) = ((45 ∷ []) ∷ us, ap (λ ts. (45 ∷ []) ∷ ts) e, unary-minus x)
 
   sound-closed : (v : Tree) (q : List Token) → Enclosed d r (read v q) → Sound d 0 ((40 ∷ []) ∷ r) (closed v q)
   unfolding closed
@@ -80,12 +81,15 @@ module _ (d k : ℕ) (next : List Token → Out Tree) (h : (ts : List Token) →
       Again : Type 0
       Again = (vs r : List Token) (y : Tree) → all ≡ vs ++ r → Expression d (suc k) vs y → Sound d (suc k) all (rest next (suc k) n y r)
 
-      second : Again → (q : Out Tree) → Sound d k ts q → rank o ≡ suc k → Sound d (suc k) all (bind q (λ y r. rest next (suc k) n (operation (symbolOf o) x y) r))
+      second : Again → (q : Out Tree) → Sound d k ts q → rank o ≡ suc k → Sound d (suc k) all (bind q (λ y r. rest next (suc k) n (operation (operatorOf o) x y) r))
       second again refused s z = tt
-      second again (read y r) (vs, p, m) z = again (us ++ (o ∷ vs)) r (operation (symbolOf o) x y) (rw (e, p, append-assoc)) (joined o z l m)
+      second again (read y r) (vs, p, m) z =
+          let (t, q) = of-rank o z in
+          again (us ++ (o ∷ vs)) r (operation (operatorOf o) x y) (rw (e, p, append-assoc))
+          (subst (λ u. Expression d (suc k) (us ++ (u ∷ vs)) (operation (operatorOf o) x y)) t (joined (operatorOf o) q l m))
 
       go : (b : Bool) → eqb (rank o) (suc k) ≡ b → Again
-          → Sound d (suc k) all (pick b (bind (next ts) (λ y r. rest next (suc k) n (operation (symbolOf o) x y) r)) (read x (o ∷ ts)))
+          → Sound d (suc k) all (pick b (bind (next ts) (λ y r. rest next (suc k) n (operation (operatorOf o) x y) r)) (read x (o ∷ ts)))
       go true f again = second again (next ts) (h ts) (eqb-true _ _ f)
       go false f again = (us, e, l)
 

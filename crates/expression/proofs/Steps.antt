@@ -21,9 +21,9 @@ use Rattle.expression.specs.declared.Join.the-variants.{NoJoin, By}
 use Rattle.expression.specs.declared.prefix.Lead.{Lead}
 use Rattle.expression.specs.declared.prefix.Start.{Start}
 use Rattle.expression.specs.declared.prefix.Start.the-variants.{Nothing, Bracket, Operand}
-use Rattle.expression.specs.Operands.{Label, isOperand, operandValue, operated}
+use Rattle.expression.specs.Operands.{Label, isOperand, operandValue, Operator, operated}
 use Rattle.expression.specs.Grammar.{Tree, operand, operation, valueOf}
-use Rattle.expression.specs.Reading.{Out, refused, read, bind, mapped, closed, opening, leaf, leafOf, follow, chain, ranked, inside, parse, told, negatedBy, JoinedBy, Joined, Led, NegatedBy}
+use Rattle.expression.specs.Reading.{operatorBy, operatorOf, Out, refused, read, bind, mapped, closed, opening, leaf, leafOf, follow, chain, ranked, inside, parse, told, negatedBy, JoinedBy, Joined, Led, NegatedBy}
 use Rattle.expression.proofs.Laws.{Within, follow-stop, follow-more, within-parse}
 use Rattle.expression.proofs.Leads.{negated-refused}
 
@@ -66,18 +66,18 @@ bind-mapped f (read t r) g = refl
 pub more :
     {s : List ℕ} {here k symbol end : ℕ} → JoinedBy s here k symbol end → (d : ℕ) (t : Tree)
     → bind (read t (tokensAt s here)) (follow (parse d (k - 1)) k)
-    ≡ bind (mapped (operation symbol t) (parse d (k - 1) (tokensAt s end))) (follow (parse d (k - 1)) k)
-unfolding bind
+    ≡ bind (mapped (operation (operatorBy symbol) t) (parse d (k - 1) (tokensAt s end))) (follow (parse d (k - 1)) k)
+unfolding bind operatorOf
 more {k = k} {end = end} j d t =
     rw (j .number, j .split, bind-mapped)
     (follow-more (parse d (k - 1)) k (within-parse d (k - 1)) t (j .mark) (tokensAt _ end) (j .ranks))
 
 pub map-operation :
-    (mean : Token → Value) (symbol : ℕ) (t : Tree) {v : Value} → valueOf mean t ≡ v → (o : Out Tree)
-    → mapped (operated symbol v) (mapped (valueOf mean) o) ≡ mapped (valueOf mean) (mapped (operation symbol t) o)
+    (mean : Token → Value) (op : Operator) (t : Tree) {v : Value} → valueOf mean t ≡ v → (o : Out Tree)
+    → mapped (operated op v) (mapped (valueOf mean) o) ≡ mapped (valueOf mean) (mapped (operation op t) o)
 unfolding mapped valueOf
-map-operation mean symbol t e refused = refl
-map-operation mean symbol t e (read y r) = rw e
+map-operation mean op t e refused = refl
+map-operation mean op t e (read y r) = rw e
 
 -- how many tokens are left
 abbrev pub left : {A : Type 0} → Out A → ℕ
@@ -110,7 +110,7 @@ module _ {mean : Token → Value} {s : List ℕ} {d k : ℕ} {ts : List Token} {
         rw (i .same, p, follow-stop (parse d (k - 1)) k t (tokensAt s here) (subst (Joined s here k) e h), q)
 
     module _ {symbol end : ℕ} (e : j ≡ By symbol end) (b : Answer) (g : told s b ≡ mapped (valueOf mean) (parse d (k - 1) (tokensAt s end)))
-        (r : Answer) (m : (text : List ℕ) → told text r ≡ mapped (operated symbol v) (told text b)) where
+        (r : Answer) (m : (text : List ℕ) → told text r ≡ mapped (operated (operatorBy symbol) v) (told text b)) where
       by : JoinedBy s here k symbol end
       by = subst (Joined s here k) e h
 
@@ -118,16 +118,16 @@ module _ {mean : Token → Value} {s : List ℕ} {d k : ℕ} {ts : List Token} {
       goes-on =
           let (t, p, q) = so-far in
           record {
-            tree = mapped (operation symbol t) (parse d (k - 1) (tokensAt s end));
+            tree = mapped (operation (operatorBy symbol) t) (parse d (k - 1) (tokensAt s end));
             same = i .same ∙ ap (λ x. bind x (follow (parse d (k - 1)) k)) p ∙ more by d t;
-            value = m s ∙ rw g (map-operation mean symbol t q (parse d (k - 1) (tokensAt s end)));
+            value = m s ∙ rw g (map-operation mean (operatorBy symbol) t q (parse d (k - 1) (tokensAt s end)));
           }
 
 -- an operator and its right operand take tokens
 pub less :
     (mean : Token → Value) (d : ℕ) {s : List ℕ} {k : ℕ} {a : Answer} {v : Value} {here symbol end : ℕ} → a ≡ Read v here → JoinedBy s here k symbol end
     → (b : Answer) → told s b ≡ mapped (valueOf mean) (parse d (k - 1) (tokensAt s end))
-    → (r : Answer) → ((text : List ℕ) → told text r ≡ mapped (operated symbol v) (told text b)) → left (told s r) < left (told s a)
+    → (r : Answer) → ((text : List ℕ) → told text r ≡ mapped (operated (operatorBy symbol) v) (told text b)) → left (told s r) < left (told s a)
 unfolding told
 less mean d {s = s} {k = k} {end = end} f j b g r m =
     let w = left-within (length (tokensAt s end)) (parse d (k - 1) (tokensAt s end)) (within-parse d (k - 1) (tokensAt s end)) in

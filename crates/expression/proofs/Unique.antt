@@ -11,9 +11,10 @@ use borrow.Author.Tests.{ne-eqb}
 use Rattle.token.specs.Tokens.{Token, between, digit, letter}
 use Rattle.token.specs.Scan.{symbolOf}
 use Rattle.token.proofs.Symbols.{one-byte}
-use Rattle.expression.specs.Operands.{isName, isOperand, rankOf, rank}
-use Rattle.expression.specs.Grammar.{Tree, negation, operation, Expression, single, minus, bracketed, tighter, joined}
-use Rattle.expression.specs.Reading.{Out, read, bind, mapped, closed, opening, startOf, leaf, prefixed, follow, chain, ranked, inside, parse, headRank}
+use Rattle.expression.specs.Operands.{isName, isOperand, Operator, operatorText, rankOf}
+use Rattle.expression.specs.Grammar.{Tree, negation, operation, Expression, single, unary-minus, bracketed, tighter, joined}
+use Rattle.expression.specs.Reading.{rankBy, rank, Out, read, bind, mapped, closed, opening, startOf, leaf, prefixed, follow, chain, ranked, inside, parse, headRank}
+use Rattle.expression.proofs.Operators.{text-operator, text-rank}
 use Rattle.expression.proofs.Laws.{follow-stop, follow-more, within-parse}
 
 -- no operator tighter than rank k comes first
@@ -49,10 +50,15 @@ chained : (d k : ℕ) (t : Tree) (ts r : List Token) → parse d k ts ≡ read t
 unfolding parse ranked chain bind
 chained d k t ts r e = rw e
 
+-- an operator of that rank comes first
+next-stops : {k : ℕ} (o : Operator) (r : List Token) → rankOf o ≡ k → Stops k (operatorText o ∷ r)
+unfolding headRank
+next-stops o r e = inr (omega (arith, text-rank o, e))
+
 complete : {d k : ℕ} {ts : List Token} {t : Tree} → Expression d k ts t → (r : List Token) → Stops k r → parse d k (ts ++ r) ≡ goesOn d k t r
-unfolding parse ranked prefixed opening startOf leaf bind closed mapped inside headRank rank rankOf symbolOf
+unfolding parse ranked prefixed opening startOf leaf bind closed mapped inside headRank rank rankBy symbolOf
 complete (single {w = w} e) r s = let (m, b) = operand-starts w e in rw (m, b, e)
-complete (minus h) r s = ap (mapped negation) (complete h r (inr (omega arith)))
+complete (unary-minus h) r s = ap (mapped negation) (complete h r (inr (omega arith)))
 complete (bracketed {d = d} {ts = ts} {t = t} h) r s =
     let c : List Token = (41 ∷ []) ∷ r in
     let e : parse d 5 (ts ++ c) ≡ read t c = complete h c (inl refl) ∙ ends d 5 t c (inl refl) in
@@ -61,9 +67,10 @@ complete (tighter {d = d} {k = k} {ts = ts} {t = t} h) r s =
     chained d k t (ts ++ r) r (complete h r (looser k r s) ∙ ends d k t r s)
 complete (joined {d = d} {k = k} {us = us} {x = x} {y = y} o e h g) r s =
     rw append-assoc
-    (complete h (o ∷ (us ++ r)) (inr (omega arith))
-    ∙ follow-more (parse d k) (suc k) (within-parse d k) x o (us ++ r) e
-    ∙ ap (λ z. bind z (λ u q. follow (parse d k) (suc k) (operation (symbolOf o) x u) q))
+    (complete h (operatorText o ∷ (us ++ r)) (next-stops o (us ++ r) e)
+    ∙ follow-more (parse d k) (suc k) (within-parse d k) x (operatorText o) (us ++ r) (text-rank o ∙ e)
+    ∙ ap (λ z. bind (parse d k (us ++ r)) (λ u q. follow (parse d k) (suc k) (operation z x u) q)) (text-operator o)
+    ∙ ap (λ z. bind z (λ u q. follow (parse d k) (suc k) (operation o x u) q))
     (complete g r (looser k r s) ∙ ends d k y r s))
 
 -- an expression is what `parse` finds where it stops before r

@@ -6,15 +6,20 @@ use lib.ListN.{length, drop, getD}
 use lib.Dec.{eqb, ltb, leb}
 use lib.Bits.{bitAnd, bitOr}
 use Rattle.word.specs.Word.{pick, add, subtract}
+use Rattle.token.specs.Ascii.{byte, ascii}
 use Rattle.token.specs.Tokens.{Token, between, digit, letter}
-use Rattle.token.specs.Scan.{symbolOf, alike}
+use Rattle.token.specs.Scan.{alike}
 use Rattle.expression.specs.declared.Value.{Value}
 
 -- ---- Literals: decimal, or 0x and digits of either case
 
 -- 0 to 15 for a digit, 16 for no digit
 unfoldable pub digitOf : ℕ → ℕ
-digitOf b = pick (between 48 57 b) (b - 48) (pick (between 65 70 b) (b - 55) (pick (between 97 102 b) (b - 87) 16))
+digitOf b =
+    pick (between (byte "0") (byte "9") b) (b - byte "0")
+    (pick (between (byte "A") (byte "F") b) (b - byte "A" + 10)
+    (pick (between (byte "a") (byte "f") b) (b - byte "a" + 10)
+    16))
 
 unfoldable pub allDigits : ℕ → List ℕ → Bool
 allDigits base [] = true
@@ -27,7 +32,7 @@ numeral base n (b ∷ w) = numeral base (n * base + digitOf b) w
 
 -- 0x and at least one byte more
 unfoldable pub hexed : Token → Bool
-hexed w = pick (ltb 2 (length w)) (pick (eqb (getD w 0 0) 48) (eqb (getD w 1 0) 120) false) false
+hexed w = pick (ltb 2 (length w)) (pick (eqb (getD w 0 0) (byte "0")) (eqb (getD w 1 0) (byte "x")) false) false
 
 unfoldable pub isLiteral : Token → Bool
 isLiteral w = pick (hexed w) (allDigits 16 (drop 2 w)) (allDigits 10 w)
@@ -42,7 +47,7 @@ literalWord w = pick (hexed w) (numeral 16 0 (drop 2 w) % 65536) (numeral 10 0 w
 unfoldable pub registerOf : Token → ℕ
 registerOf [] = 8
 registerOf (r ∷ []) = 8
-registerOf (r ∷ k ∷ []) = pick (eqb r 82) (pick (between 48 55 k) (k - 48) 8) 8
+registerOf (r ∷ k ∷ []) = pick (eqb r (byte "R")) (pick (between (byte "0") (byte "7") k) (k - byte "0") 8) 8
 registerOf (r ∷ k ∷ b ∷ w) = 8
 
 -- Names have 1 to 16 letters or digits, begin with a letter, aren't R0 to R7. (A token that begins with a letter has only
@@ -68,38 +73,45 @@ isOperand w = pick (digit (getD w 0 0)) (isLiteral w) (isName w)
 unfoldable pub operandValue : List Label → Token → Value
 operandValue names w = pick (digit (getD w 0 0)) (record { word = literalWord w; known = true }) (nameValue names w)
 
--- ---- Operators, by their symbols
+-- ---- Operators
 
--- The ranks, tightest first, after unary minus: `*`, then `+` and `-`, `<<`, `&`, `|`. 0: no operator.
-unfoldable pub rankOf : ℕ → ℕ
-rankOf s =
-    pick (eqb s 42) 1
-    (pick (eqb s 43) 2
-    (pick (eqb s 45) 2
-    (pick (eqb s 256) 3
-    (pick (eqb s 38) 4
-    (pick (eqb s 124) 5 0)))))
+pub data Operator : Type 0 where
+  times plus minus shift and or : Operator
 
-unfoldable pub rank : Token → ℕ
-rank t = rankOf (symbolOf t)
+-- how each is written
+abbrev pub operatorText : Operator → Token
+operatorText times = ascii "*"
+operatorText plus = ascii "+"
+operatorText minus = ascii "-"
+operatorText shift = ascii "<<"
+operatorText and = ascii "&"
+operatorText or = ascii "|"
+
+-- The ranks, tightest first, after unary minus: `*`, then `+` and `-`, `<<`, `&`, `|`.
+unfoldable pub rankOf : Operator → ℕ
+rankOf times = 1
+rankOf plus = 2
+rankOf minus = 2
+rankOf shift = 3
+rankOf and = 4
+rankOf or = 5
 
 -- A shift of 16 or more gives 0.
 unfoldable pub shiftLeft : ℕ → ℕ → ℕ
 shiftLeft x y = pick (ltb y 16) (x * 2 ^ y % 65536) 0
 
 -- Every operator works modulo 65,536.
-unfoldable pub operatedOf : ℕ → ℕ → ℕ → ℕ
-operatedOf s x y =
-    pick (eqb s 42) (x * y % 65536)
-    (pick (eqb s 43) (add x y)
-    (pick (eqb s 45) (subtract x y)
-    (pick (eqb s 256) (shiftLeft x y)
-    (pick (eqb s 38) (bitAnd x y)
-    (pick (eqb s 124) (bitOr x y) 0)))))
+unfoldable pub operatedOf : Operator → ℕ → ℕ → ℕ
+operatedOf times x y = x * y % 65536
+operatedOf plus x y = add x y
+operatedOf minus x y = subtract x y
+operatedOf shift x y = shiftLeft x y
+operatedOf and x y = bitAnd x y
+operatedOf or x y = bitOr x y
 
 -- a value is known where both operands are
-unfoldable pub operated : ℕ → Value → Value → Value
-operated s x y = record { word = operatedOf s (x .word) (y .word); known = x .known && y .known }
+unfoldable pub operated : Operator → Value → Value → Value
+operated o x y = record { word = operatedOf o (x .word) (y .word); known = x .known && y .known }
 
 unfoldable pub negated : Value → Value
 negated x = record { word = subtract 0 (x .word); known = x .known }

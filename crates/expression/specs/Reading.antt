@@ -7,6 +7,7 @@ use mathlib.Core.List.{List, [], _∷_}
 use lib.ListN.{length}
 use lib.Dec.{eqb}
 use Rattle.word.specs.Word.{pick}
+use Rattle.token.specs.Ascii.{byte}
 use Rattle.token.specs.Tokens.{Token}
 use Rattle.token.specs.Scan.{part, tokensAt, symbolOf}
 use Rattle.expression.specs.declared.Value.{Value}
@@ -19,7 +20,7 @@ use Rattle.expression.specs.declared.prefix.Start.the-variants.{Nothing,
 use Rattle.expression.specs.declared.prefix.Lead.{Lead}
 use Rattle.expression.specs.declared.Join.{Join}
 use Rattle.expression.specs.declared.Join.the-variants.{NoJoin, By}
-use Rattle.expression.specs.Operands.{Label, allDigits, digitOf, isOperand, operandValue, rank, negated}
+use Rattle.expression.specs.Operands.{Label, allDigits, digitOf, isOperand, operandValue, Operator, times, plus, minus, shift, and, or, negated}
 use Rattle.expression.specs.Grammar.{Tree, operand, negation, operation, valueOf}
 
 -- ---- Operands
@@ -43,6 +44,33 @@ labels text (s ∷ []) = []
 labels text (s ∷ e ∷ []) = []
 labels text (s ∷ e ∷ a ∷ r) = record { name = part s e text; address = a } ∷ labels text r
 
+-- ---- Operators, by the symbols of their tokens
+
+-- the operator of a symbol; the last one too where the symbol is no operator's
+unfoldable pub operatorBy : ℕ → Operator
+operatorBy s =
+    pick (eqb s (byte "*")) times
+    (pick (eqb s (byte "+")) plus
+    (pick (eqb s (byte "-")) minus
+    (pick (eqb s 256) shift
+    (pick (eqb s (byte "&")) and or))))
+
+-- its rank; 0 where the symbol is no operator's
+unfoldable pub rankBy : ℕ → ℕ
+rankBy s =
+    pick (eqb s (byte "*")) 1
+    (pick (eqb s (byte "+")) 2
+    (pick (eqb s (byte "-")) 2
+    (pick (eqb s 256) 3
+    (pick (eqb s (byte "&")) 4
+    (pick (eqb s (byte "|")) 5 0)))))
+
+unfoldable pub operatorOf : Token → Operator
+operatorOf t = operatorBy (symbolOf t)
+
+unfoldable pub rank : Token → ℕ
+rank t = rankBy (symbolOf t)
+
 -- ---- Expressions
 
 -- what was read and the tokens after it, or nothing
@@ -62,7 +90,7 @@ module _ {A : Type 0} where
   -- the closing parenthesis after what stands in parentheses
   unfoldable pub closed : A → List Token → Out A
   closed v [] = refused
-  closed v (t ∷ r) = pick (eqb (symbolOf t) 41) (read v r) refused
+  closed v (t ∷ r) = pick (eqb (symbolOf t) (byte ")")) (read v r) refused
 
   unfoldable pub opening : Start → Out A → Out A → Out A
   opening Nothing x y = refused
@@ -71,7 +99,7 @@ module _ {A : Type 0} where
 
 -- what a token begins where an operand is wanted, and that is no minus sign
 unfoldable pub startOf : ℕ → Start
-startOf s = pick (eqb s 40) Bracket Operand
+startOf s = pick (eqb s (byte "(")) Bracket Operand
 
 unfoldable pub leaf : Token → List Token → Out Tree
 leaf t r = pick (isOperand t) (read (operand t) r) refused
@@ -80,14 +108,14 @@ leaf t r = pick (isOperand t) (read (operand t) r) refused
 unfoldable pub prefixed : (List Token → Out Tree) → List Token → Out Tree
 prefixed inner [] = refused
 prefixed inner (t ∷ r) =
-    pick (eqb (symbolOf t) 45) (mapped negation (prefixed inner r)) (opening (startOf (symbolOf t)) (bind (inner r) closed) (leaf t r))
+    pick (eqb (symbolOf t) (byte "-")) (mapped negation (prefixed inner r)) (opening (startOf (symbolOf t)) (bind (inner r) closed) (leaf t r))
 
 -- the operators of rank k that follow x, left to right; `next` reads an operand of them
 unfoldable pub rest : (List Token → Out Tree) → ℕ → ℕ → Tree → List Token → Out Tree
 rest next k zero x ts = read x ts
 rest next k (suc n) x [] = read x []
 rest next k (suc n) x (o ∷ ts) =
-    pick (eqb (rank o) k) (bind (next ts) (λ y r. rest next k n (operation (symbolOf o) x y) r)) (read x (o ∷ ts))
+    pick (eqb (rank o) k) (bind (next ts) (λ y r. rest next k n (operation (operatorOf o) x y) r)) (read x (o ∷ ts))
 
 unfoldable pub follow : (List Token → Out Tree) → ℕ → Tree → List Token → Out Tree
 follow next k x ts = rest next k (length ts) x ts

@@ -1,7 +1,8 @@
-// The operators, by their symbols, modulo 65,536.
+// The operators, by the symbols of their tokens, modulo 65,536.
 ghost use mathlib.Core.Path.{_≡_};
 ghost use Prim.Native.Nat.{_*_, _%_};
-ghost use Rattle.expression.specs.Operands.{rankOf, shiftLeft, operatedOf, operated, negated};
+ghost use Rattle.expression.specs.Operands.{shiftLeft, operatedOf, operated, negated};
+ghost use Rattle.expression.specs.Reading.{operatorBy, rankBy};
 use crate::Value;
 
 fn product16(x: u16, y: u16) -> u16
@@ -19,9 +20,9 @@ fn shift_left(x: u16, y: u16) -> u16
     (((x as u32) << (y as u32)) % 65536) as u16
 }
 
-// 256 is `<<`. 0: no operator.
+// The symbols of `*`, `+`, `-`, `<<`, `&` and `|`. 0: no operator.
 pub fn rank_of(symbol: u16) -> usize
-    ensures { λ r. ⌜ r ≡ rankOf symbol ⌝ }
+    ensures { λ r. ⌜ r ≡ rankBy symbol ⌝ }
 {
     match symbol {
         42 => 1,
@@ -34,8 +35,9 @@ pub fn rank_of(symbol: u16) -> usize
     }
 }
 
+// The symbol is an operator's.
 fn operated_words(symbol: u16, x: u16, y: u16) -> u16
-    ensures { λ r. ⌜ r ≡ operatedOf symbol x y ⌝ }
+    ensures { λ r. ⌜ r ≡ operatedOf (operatorBy symbol) x y ⌝ }
 {
     match symbol {
         42 => product16(x, y),
@@ -43,13 +45,12 @@ fn operated_words(symbol: u16, x: u16, y: u16) -> u16
         45 => std::num::wrapping_sub_u16(x, y),
         256 => shift_left(x, y),
         38 => x & y,
-        124 => x | y,
-        _ => 0,
+        _ => x | y,
     }
 }
 
 pub fn operated(symbol: u16, x: Value, y: Value) -> Value
-    ensures { λ r. ⌜ r ≡ operated symbol x y ⌝ }
+    ensures { λ r. ⌜ r ≡ operated (operatorBy symbol) x y ⌝ }
 {
     Value {
         word: operated_words(symbol, x.word, y.word),

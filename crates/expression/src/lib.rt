@@ -7,8 +7,8 @@ ghost use lib.ListN.{length};
 ghost use Rattle.token.specs.Scan.{part, tokensAt};
 ghost use Rattle.expression.specs.Grammar.{valueOf};
 ghost use Rattle.expression.specs.declared.Join.the-variants.{NoJoin, By};
-ghost use Rattle.expression.specs.Operands.{operandValue, operated, rankOf};
-ghost use Rattle.expression.specs.Reading.{labels, leaf, mapped, bind, closed, told, Answers, Joined};
+ghost use Rattle.expression.specs.Operands.{operandValue, operated};
+ghost use Rattle.expression.specs.Reading.{operatorBy, rankBy, labels, leaf, mapped, bind, closed, told, Answers, Joined};
 use token::Token;
 
 mod arithmetic;
@@ -70,7 +70,7 @@ fn leaf_answer(text: &[u8], names: &[usize], start: usize, end: usize) -> Answer
 // The operator at a position, if its rank is one from low to high.
 fn operator_at(text: &[u8], at: usize, low: usize, high: usize) -> Join
     requires { ⌜ 1 ≤ low ⌝ }
-    ensures { λ r. ⌜ ((k : ℕ) → low ≤ k → k ≤ high → r ≡ NoJoin → Joined (now (text .entry)) at k NoJoin) × ((symbol end : ℕ) → r ≡ By symbol end → Joined (now (text .entry)) at (rankOf symbol) (By symbol end) × (low ≤ rankOf symbol) × (rankOf symbol ≤ high)) ⌝ }
+    ensures { λ r. ⌜ ((k : ℕ) → low ≤ k → k ≤ high → r ≡ NoJoin → Joined (now (text .entry)) at k NoJoin) × ((symbol end : ℕ) → r ≡ By symbol end → Joined (now (text .entry)) at (rankBy symbol) (By symbol end) × (low ≤ rankBy symbol) × (rankBy symbol ≤ high)) ⌝ }
 {
     let t = token::token_at(text, at);
     let Token::Here {
@@ -93,7 +93,7 @@ fn operator_at(text: &[u8], at: usize, low: usize, high: usize) -> Join
 
 // A value, an operator and its right operand.
 fn joined(symbol: u16, x: Value, a: Answer) -> Answer
-    ensures { λ r. ⌜ ((text : List ℕ) → told text r ≡ mapped (operated symbol x) (told text a)) ⌝ }
+    ensures { λ r. ⌜ ((text : List ℕ) → told text r ≡ mapped (operated (operatorBy symbol) x) (told text a)) ⌝ }
 {
     let Answer::Read { value, next } = a else {
         return Answer::Refused;

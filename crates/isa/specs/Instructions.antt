@@ -17,6 +17,16 @@ use Rattle.isa.specs.declared.Writing.{Writing}
 use Rattle.isa.specs.declared.Writing.the-variants.{Word, Refused}
 use Rattle.isa.specs.Sheet.{Code, F, E, only, Number, signed-n, unsigned-n, Line, sheet, kindAt}
 
+-- ---- The registers of an instruction, each in a part of it
+
+pub data Register : Type 0 where
+  a-register b-register d-register : Register
+
+abbrev pub registerPart : Instruction → Register → ℕ
+registerPart i a-register = i .a
+registerPart i b-register = i .b
+registerPart i d-register = i .d
+
 -- ---- Reading
 
 -- What reading answers: an instruction, with its kind, a, b, d and n; or that the word is unassigned, which isn't a kind.

@@ -7,17 +7,17 @@ use lib.IntN.{ℤ, pos, negsuc}
 use Rattle.word.specs.Word.{pick, add, lowBits}
 use Rattle.kinds.specs.Kinds.{kindNumber}
 use Rattle.isa.specs.declared.Instruction.{Instruction}
-use Rattle.isa.specs.Instructions.{Read, instruction, unassigned, readOf}
+use Rattle.isa.specs.Instructions.{registerPart, Read, instruction, unassigned, readOf}
 use Rattle.isa.specs.Masks.{inMask, masksOf}
-use Rattle.token.specs.Ascii.{ascii}
-use Rattle.statement.specs.Syntax.{Register, a-register, b-register, d-register, Item, register, mark, N, Field, number, eight-bits, target, Row, rowAt}
+use Rattle.token.specs.Ascii.{byte, ascii}
+use Rattle.statement.specs.Syntax.{Item, register, mark, N, Field, number, eight-bits, target, Row, rowAt}
 use Rattle.printing.specs.Text.{decimal, hex4, each}
 
 -- ---- The text of a word
 
 -- R0 to R7
 abbrev pub registerText : ℕ → List ℕ
-registerText k = 82 ∷ (48 + k) ∷ []
+registerText k = byte "R" ∷ (byte "0" + k) ∷ []
 
 -- a number in decimal, after a minus sign where it is negative (negsuc x is -(x + 1))
 abbrev pub numberText : ℤ → List ℕ
@@ -38,19 +38,14 @@ operandText address number n = numberText n
 operandText address eight-bits n = numberText n
 operandText address target n = wordText (targetOf address n)
 
-abbrev pub partOf : Instruction → Register → ℕ
-partOf i a-register = i .a
-partOf i b-register = i .b
-partOf i d-register = i .d
-
 abbrev pub rowOf : Instruction → Row
 rowOf i = rowAt (kindNumber (i .kind))
 
 module _ (address : ℕ) (i : Instruction) where
   -- a space after a comma
   abbrev pub itemText : Field → Item → List ℕ
-  itemText f (register r) = registerText (partOf i r)
-  itemText f (mark m) = pick (eqb m 44) (ascii ", ") (m ∷ [])
+  itemText f (register r) = registerText (registerPart i r)
+  itemText f (mark m) = pick (eqb m (byte ",")) (ascii ", ") (m ∷ [])
   itemText f N = operandText address f (i .n)
 
   unfoldable pub itemsText : Field → List Item → List ℕ

@@ -5,13 +5,14 @@ use mathlib.Core.List.{List, [], _∷_, _++_}
 use lib.Dec.{ltb}
 use lib.ListN.{length, replicate}
 use Rattle.word.specs.Word.{pick}
+use Rattle.token.specs.Ascii.{byte}
 use Rattle.printing.specs.declared.Printed.{Printed}
 
 -- ---- Numbers
 
 -- a digit, capitals: 0 to 9, then A to F
 unfoldable pub digit : ℕ → ℕ
-digit d = pick (ltb d 10) (48 + d) (55 + d)
+digit d = pick (ltb d 10) (byte "0" + d) (byte "A" + (d - 10))
 
 -- n in decimal, in at most so many digits: one, or those of n / 10 and then the last. n + 1 digits are always enough (`same`
 -- of proofs/Decimal.antt).

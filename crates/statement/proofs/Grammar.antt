@@ -14,11 +14,11 @@ use Rattle.word.proofs.Tests.{clash}
 use Rattle.word.proofs.Computed.{both, both-split, all, all-at}
 use Rattle.token.specs.Tokens.{Token, between, digit, letter}
 use Rattle.token.specs.Scan.{symbolOf, alike}
-use Rattle.token.proofs.Symbols.{one-byte}
+use Rattle.token.proofs.Symbols.{one-byte, byte-symbol}
 use Rattle.token.proofs.Alike.{alike-same}
-use Rattle.expression.specs.Operands.{registerOf, isName, isOperand, rankOf, rank}
+use Rattle.expression.specs.Operands.{registerOf, isName, isOperand}
 use Rattle.expression.specs.Grammar.{Tree}
-use Rattle.expression.specs.Reading.{Out, refused, read, bind, mapped, opening, startOf, leaf, prefixed, chain, ranked, parse, headRank}
+use Rattle.expression.specs.Reading.{rankBy, rank, Out, refused, read, bind, mapped, opening, startOf, leaf, prefixed, chain, ranked, parse, headRank}
 use Rattle.expression.proofs.Unique.{Stops, whole}
 use Rattle.expression.proofs.Sound.{sound as expression-sound}
 use Rattle.statement.specs.Syntax.{Item, register, mark, N, Row, table, rowAt, Parts, put, putN, blank, Written, end, a-register-there, a-mark-there, a-value-there, Statement, none, of-row, IsStatement, empty, written, Line, line, IsLine, plain, labelled}
@@ -43,7 +43,7 @@ chosen Q false p q = q refl
 abbrev ending : List Item → Bool
 ending [] = true
 ending (register r ∷ is) = false
-ending (mark m ∷ is) = eqb (rankOf m) 0
+ending (mark m ∷ is) = eqb (rank (m ∷ [])) 0
 ending (N ∷ is) = false
 
 -- each expression ends before the items after it, and each mark is a byte below `:`
@@ -61,7 +61,7 @@ after-mark m is o =
 
 -- so it is in each row
 rows-ordered : (k : ℕ) → k < length table → T (ordered (rowAt k .items))
-unfolding all rankOf
+unfolding all rank rankBy symbolOf
 rows-ordered k h = all-at (length table) (λ j. ordered (rowAt j .items)) tt k h
 
 -- each mnemonic is found at its own place
@@ -81,7 +81,7 @@ named (r ∷ rs) m d h =
 
 -- an expression ends before what is written for those items
 ends : {is : List Item} {ts : List Token} {p q : Parts Tree} → Written is ts p q → T (ending is) → Stops 6 ts
-unfolding headRank rank symbolOf
+unfolding headRank
 ends end e = inl refl
 ends (a-register-there h w) e = absurd e
 ends (a-mark-there w) e = inl (eqb→eq _ _ e)
@@ -89,10 +89,12 @@ ends (a-value-there x w) e = absurd e
 
 -- what is written as a row's operands is read, and no token is left
 read-operands : {is : List Item} {ts : List Token} {p q : Parts Tree} → Written is ts p q → T (ordered is) → operands is p ts ≡ read q []
-unfolding readItems readItem aRegister aMark bind mapped symbolOf
+unfolding readItems readItem aRegister aMark bind mapped
 read-operands end o = refl
 read-operands (a-register-there {t = t} h w) o = rw (lt-ltb (registerOf t) 8 h) (read-operands w o)
-read-operands (a-mark-there {m = m} {is = is} w) o = rw (eq-eqb m m refl) (read-operands w (after-mark m is o .1))
+read-operands (a-mark-there {m = m} {is = is} w) o =
+    let (h, l) = after-mark m is o in
+    rw (byte-symbol m (omega arith), eq-eqb m m refl) (read-operands w l)
 read-operands (a-value-there {is = is} {ts = ts} x w) o =
     let (e, l) = both-split (ending is) (ordered is) o in
     rw (whole x ts (ends w e)) (read-operands w l)

@@ -9,6 +9,7 @@ use borrow.Author.Tests.{eq-eqb, ne-eqb, eqb-false, lt-ltb, le-ltb}
 use lib.Dec.{eqb}
 use lib.ListN.{length, take, drop, getD}
 use Rattle.word.specs.Word.{pick}
+use Rattle.isa.specs.Instructions.{Register, a-register, b-register, d-register}
 use Rattle.token.specs.declared.Token.{Token as Found}
 use Rattle.token.specs.declared.Token.the-variants.{End, Here}
 use Rattle.token.specs.Tokens.{Token}
@@ -23,7 +24,7 @@ use Rattle.expression.proofs.Parts.{part-none}
 use Rattle.statement.specs.declared.operands.Parts.{Parts as Held}
 use Rattle.statement.specs.declared.operands.Operands.{Operands}
 use Rattle.statement.specs.declared.operands.Operands.the-variants.{Refused, Read}
-use Rattle.statement.specs.Syntax.{Register, a-register, b-register, d-register, register, mark, N, Parts, put, putN}
+use Rattle.statement.specs.Syntax.{register, mark, N, Parts, put, putN}
 use Rattle.statement.specs.Reading.{aRegister, aMark, readItem, readItems}
 use Rattle.statement.specs.Table.{itemOf, itemsOf}
 use Rattle.statement.specs.Parts.{shownParts, blankValue, toldParts, registerAt}

@@ -6,13 +6,14 @@ use mathlib.Core.List.{List, [], _∷_}
 use lib.Dec.{eqb, ltb}
 use lib.ListN.{length}
 use Rattle.word.specs.Word.{pick}
+use Rattle.isa.specs.Instructions.{Register, a-register, b-register, d-register}
 use Rattle.token.specs.Tokens.{Token, between, digit}
 use Rattle.token.specs.Scan.{symbolOf}
 use Rattle.expression.specs.declared.Value.{Value}
 use Rattle.expression.specs.Operands.{Label, registerOf, isName, operandValue, literalWord, hexed, numeral, digitOf}
 use Rattle.expression.specs.Grammar.{Tree, valueOf}
 use Rattle.expression.specs.Reading.{Out, refused, read, bind, mapped, parse, labels}
-use Rattle.statement.specs.Syntax.{Register, a-register, b-register, d-register, Item, register, mark, N, rowAt, table, Parts, put, putN, blank, line}
+use Rattle.statement.specs.Syntax.{Item, register, mark, N, rowAt, table, Parts, put, putN, blank, line}
 use Rattle.statement.specs.Reading.{outside, rowOf, aRegister, aMark, finished, readItem, readItems, statementOf, lineBy, lineOf, valuedParts, valuedStatement, valued}
 use Rattle.statement.specs.Parts.{expressionOf, blankValue}
 

@@ -6,6 +6,8 @@ use mathlib.Core.List.{List, [], _∷_}
 use lib.Dec.{eqb, ltb}
 use lib.ListN.{length}
 use Rattle.word.specs.Word.{pick}
+use Rattle.isa.specs.Instructions.{Register, a-register, b-register, d-register}
+use Rattle.token.specs.Ascii.{byte}
 use Rattle.token.specs.Tokens.{Token}
 use Rattle.token.specs.Scan.{part, tokensAt}
 use Rattle.expression.specs.declared.Value.{Value}
@@ -18,7 +20,7 @@ use Rattle.statement.specs.declared.operands.Operands.the-variants.{Refu
 use Rattle.statement.specs.declared.line.Line.{Line as Found}
 use Rattle.statement.specs.declared.line.Line.the-variants.{Outside, Reads}
 use Rattle.statement.specs.declared.line.Content.{Content}
-use Rattle.statement.specs.Syntax.{Register, a-register, b-register, d-register, Parts, Statement, none, of-row, line, table}
+use Rattle.statement.specs.Syntax.{Parts, Statement, none, of-row, line, table}
 use Rattle.statement.specs.Reading.{ReadLine, outside, reads}
 
 abbrev pub shownParts : Held → Parts Value
@@ -38,7 +40,7 @@ expressionOf text table ts = mapped (valueOf (operandValue (labels text table)))
 
 -- the register that a letter of the table stands for
 unfoldable pub registerAt : ℕ → Register
-registerAt c = pick (eqb c 97) a-register (pick (eqb c 98) b-register d-register)
+registerAt c = pick (eqb c (byte "a")) a-register (pick (eqb c (byte "b")) b-register d-register)
 
 -- ---- Lines
 

@@ -5,13 +5,15 @@ use mathlib.Core.List.{List, [], _∷_}
 use lib.Dec.{eqb, ltb}
 use lib.ListN.{length}
 use Rattle.word.specs.Word.{pick}
+use Rattle.isa.specs.Instructions.{Register}
+use Rattle.token.specs.Ascii.{byte}
 use Rattle.token.specs.Tokens.{Token}
 use Rattle.token.specs.Scan.{symbolOf, alike}
 use Rattle.expression.specs.declared.Value.{Value}
 use Rattle.expression.specs.Operands.{registerOf, isName}
 use Rattle.expression.specs.Grammar.{Tree}
 use Rattle.expression.specs.Reading.{Out, refused, read, bind, mapped, parse}
-use Rattle.statement.specs.Syntax.{Register, Item, register, mark, N, Row, table, rowAt, Parts, put, putN, blank, Statement, none, of-row, Line, line}
+use Rattle.statement.specs.Syntax.{Item, register, mark, N, Row, table, rowAt, Parts, put, putN, blank, Statement, none, of-row, Line, line}
 
 -- a line's reading, if it has one
 pub data ReadLine (A : Type 0) : Type 0 where
@@ -62,7 +64,7 @@ module _ {A : Type 0} (expression : List Token → Out A) where
   lineBy empty [] = statementOf empty [] []
   lineBy empty (w ∷ []) = statementOf empty [] (w ∷ [])
   lineBy empty (w ∷ c ∷ ts) =
-      pick (eqb (symbolOf c) 58) (pick (isName w) (statementOf empty (w ∷ []) ts) outside) (statementOf empty [] (w ∷ c ∷ ts))
+      pick (eqb (symbolOf c) (byte ":")) (pick (isName w) (statementOf empty (w ∷ []) ts) outside) (statementOf empty [] (w ∷ c ∷ ts))
 
 -- the reading of a line's tokens
 unfoldable pub lineOf : List Token → ReadLine Tree

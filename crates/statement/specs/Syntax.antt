@@ -4,16 +4,13 @@ use mathlib.Core.Bool.{true}
 use mathlib.Core.Path.{_≡_}
 use mathlib.Core.List.{List, [], _∷_, _++_}
 use lib.ListN.{length, getD}
-use Rattle.token.specs.Ascii.{ascii}
+use Rattle.isa.specs.Instructions.{Register, a-register, b-register, d-register}
+use Rattle.token.specs.Ascii.{byte, ascii}
 use Rattle.token.specs.Tokens.{Token}
 use Rattle.expression.specs.Operands.{registerOf, isName}
 use Rattle.expression.specs.Grammar.{Tree, operand, Expression}
 
 -- ---- The table: the sheet's column Assembler
-
--- the registers of an instruction
-pub data Register : Type 0 where
-  a-register b-register d-register : Register
 
 -- what stands in the operands of a statement
 pub data Item : Type 0 where
@@ -33,13 +30,13 @@ abbrev Rd : Item
 Rd = register d-register
 
 abbrev comma : Item
-comma = mark 44
+comma = mark (byte ",")
 
 abbrev opening : Item
-opening = mark 40
+opening = mark (byte "(")
 
 abbrev closing : Item
-closing = mark 41
+closing = mark (byte ")")
 
 -- how the value of N becomes the instruction's number n
 pub data Field : Type 0 where

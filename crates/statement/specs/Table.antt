@@ -6,8 +6,9 @@ use mathlib.Core.List.{List, [], _∷_}
 use lib.Dec.{eqb}
 use lib.ListN.{take, drop}
 use Rattle.word.specs.Word.{pick}
-use Rattle.token.specs.Ascii.{ascii}
-use Rattle.statement.specs.Syntax.{Item, register, a-register, b-register, d-register, mark, N, Field, number, eight-bits, target}
+use Rattle.isa.specs.Instructions.{a-register, b-register, d-register}
+use Rattle.token.specs.Ascii.{byte, ascii}
+use Rattle.statement.specs.Syntax.{Item, register, mark, N, Field, number, eight-bits, target}
 
 abbrev pub rowText : List ℕ
 rowText = ascii "AND   d,a,b OR    d,a,b XOR   d,a,b NOT   d,a   ADD   d,a,b SUB   d,a,b SHA   d,a,b SHL   d,a,b CMPLT d,a,b CMPLE d,a,b CMPEQ d,a,b CMPLTUd,a,b CMPLEUd,a,b ADDI  d,a,n LD    d,n(a)ST    n(a),bLDB   d,n(a)STB   n(a),bJALR  d,a   BZ    a,n   BNZ   a,n   MOVI  d,n   MOVHI d,n   IN    d,n   OUT   n,a   MUL   d,a,b MULH  d,a,b MULHU d,a,b DIV   d,a,b DIVU  d,a,b .word n     "
@@ -18,15 +19,15 @@ mnemonicLengths = 3 ∷ 2 ∷ 3 ∷ 3 ∷ 3 ∷ 3 ∷ 3 ∷ 3 ∷ 5 ∷ 5 ∷ 5 
 
 unfoldable pub itemOf : ℕ → Item
 itemOf c =
-    pick (eqb c 97) (register a-register)
-    (pick (eqb c 98) (register b-register)
-    (pick (eqb c 100) (register d-register)
-    (pick (eqb c 110) N (mark c))))
+    pick (eqb c (byte "a")) (register a-register)
+    (pick (eqb c (byte "b")) (register b-register)
+    (pick (eqb c (byte "d")) (register d-register)
+    (pick (eqb c (byte "n")) N (mark c))))
 
 -- the items of a row's operands, up to the first space
 unfoldable pub itemsOf : List ℕ → List Item
 itemsOf [] = []
-itemsOf (c ∷ cs) = pick (eqb c 32) [] (itemOf c ∷ itemsOf cs)
+itemsOf (c ∷ cs) = pick (eqb c (byte " ")) [] (itemOf c ∷ itemsOf cs)
 
 unfoldable pub cell : ℕ → List ℕ
 cell k = take 6 (drop (12 * k + 6) rowText)

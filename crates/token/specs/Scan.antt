@@ -1,22 +1,22 @@
 -- The division into tokens as a function, and what the code's parts say of it: proofs/Division.antt shows that `tokens` is the
--- one division by the rule of Tokens. Definitions of the crates above use `tokens`, `symbolOf` and `alike`; the rest serves inner
--- contracts.
+-- one division by the rule of Tokens. Definitions of the crates above use `tokens` and `alike`; the rest serves inner contracts.
 use Prim.Native.Nat.{ℕ, _-_, _<_, _≤_}
 use mathlib.Core.Bool.{Bool, true, false}
 use mathlib.Core.Path.{_≡_}
 use mathlib.Core.List.{List, [], _∷_, _++_}
 use lib.ListN.{length, take, drop, getD}
-use lib.Dec.{eqb}
+use lib.Dec.{eqb, ltb}
 use Rattle.word.specs.Word.{pick}
 use Rattle.token.specs.declared.Token.{Token as Found}
 use Rattle.token.specs.declared.Token.the-variants.{End, Here}
+use Rattle.token.specs.Ascii.{byte}
 use Rattle.token.specs.Tokens.{Token, letterOrDigit}
 
 -- whether b goes on the token that begins with the byte c and has n bytes so far
 unfoldable pub goesOn : ℕ → ℕ → ℕ → Bool
 goesOn c n b =
-    pick (letterOrDigit b) (pick (letterOrDigit c) true (eqb c 46))
-    (pick (eqb b 60) (pick (eqb c 60) (eqb n 1) false) false)
+    pick (letterOrDigit b) (pick (letterOrDigit c) true (eqb c (byte ".")))
+    (pick (eqb b (byte "<")) (pick (eqb c (byte "<")) (eqb n 1) false) false)
 
 unfoldable pub joins : Token → ℕ → Bool
 joins [] b = false
@@ -28,7 +28,7 @@ ended [] = []
 ended (b ∷ t) = (b ∷ t) ∷ []
 
 unfoldable pub begun : ℕ → Token
-begun b = pick (eqb b 32) [] (b ∷ [])
+begun b = pick (eqb b (byte " ")) [] (b ∷ [])
 
 -- t is the part already read of a token
 unfoldable pub scan : Token → List ℕ → List Token
@@ -41,7 +41,7 @@ tokens s = scan [] s
 -- the line that a text begins with: its bytes before the first newline
 unfoldable pub firstLine : List ℕ → List ℕ
 firstLine [] = []
-firstLine (b ∷ s) = pick (eqb b 10) [] (b ∷ firstLine s)
+firstLine (b ∷ s) = pick (eqb b (byte "\n")) [] (b ∷ firstLine s)
 
 -- the tokens from a position of a text to the end of its line
 unfoldable pub tokensAt : List ℕ → ℕ → List Token
@@ -50,8 +50,9 @@ tokensAt text at = tokens (firstLine (drop at text))
 -- the number of a token: of a token of one byte the byte, 256 for `<<`, 257 for any other
 unfoldable pub symbolOf : Token → ℕ
 symbolOf [] = 257
-symbolOf (b ∷ []) = b
-symbolOf (b ∷ c ∷ t) = pick (eqb b 60) 256 257
+symbolOf (b ∷ []) = pick (ltb b 256) b 257
+symbolOf (b ∷ c ∷ []) = pick (eqb b (byte "<")) (pick (eqb c (byte "<")) 256 257) 257
+symbolOf (b ∷ c ∷ d ∷ t) = 257
 
 -- the bytes from start to end
 abbrev pub part : ℕ → ℕ → List ℕ → List ℕ
@@ -67,7 +68,7 @@ alike (b ∷ t) (c ∷ u) = pick (eqb b c) (alike t u) false
 -- what `after_spaces` says
 pub record Skipped (s : List ℕ) (at r : ℕ) : Type 0 where
   pub same : tokensAt s at ≡ tokensAt s r
-  pub solid : r < length s → getD s r 0 ≡ 32 → ⊥
+  pub solid : r < length s → getD s r 0 ≡ byte " " → ⊥
 
 -- what `token_end` says
 pub record Ended (s : List ℕ) (start r : ℕ) : Type 0 where

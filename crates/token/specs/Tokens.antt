@@ -5,6 +5,7 @@ use mathlib.Core.Path.{_≡_}
 use mathlib.Core.List.{List, [], _∷_, _++_}
 use lib.Dec.{leb}
 use Rattle.word.specs.Word.{pick}
+use Rattle.token.specs.Ascii.{byte, ascii}
 
 abbrev pub Token : Type 0
 Token = List ℕ
@@ -13,13 +14,11 @@ Token = List ℕ
 unfoldable pub between : ℕ → ℕ → ℕ → Bool
 between low high b = pick (leb low b) (leb b high) false
 
--- 0 to 9
 unfoldable pub digit : ℕ → Bool
-digit b = between 48 57 b
+digit b = between (byte "0") (byte "9") b
 
--- A to Z, a to z
 unfoldable pub letter : ℕ → Bool
-letter b = pick (between 65 90 b) true (between 97 122 b)
+letter b = pick (between (byte "A") (byte "Z") b) true (between (byte "a") (byte "z") b)
 
 unfoldable pub letterOrDigit : ℕ → Bool
 letterOrDigit b = pick (digit b) true (letter b)
@@ -34,11 +33,11 @@ pub data IsToken : Token → Type 0 where
   -- letters and digits in a row are one token,
   row : {t : Token} → Row t → IsToken t
   -- and so they are with a point before;
-  pointed : {t : Token} → Row t → IsToken (46 ∷ t)
+  pointed : {t : Token} → Row t → IsToken (byte "." ∷ t)
   -- so is `<<`;
-  shift : IsToken (60 ∷ 60 ∷ [])
+  shift : IsToken (ascii "<<")
   -- any other byte but the space is a token of its own.
-  single : {b : ℕ} → letterOrDigit b ≡ false → (b ≡ 32 → ⊥) → IsToken (b ∷ [])
+  single : {b : ℕ} → letterOrDigit b ≡ false → (b ≡ byte " " → ⊥) → IsToken (b ∷ [])
 
 -- the token t is the longest that begins there: the byte that follows would not make it a longer one
 abbrev pub Longest : Token → List ℕ → Type 0
@@ -48,5 +47,5 @@ Longest t (b ∷ s) = IsToken (t ++ (b ∷ [])) → ⊥
 -- `Divided s ts`: the line s has the tokens ts. Spaces may stand anywhere outside tokens.
 pub data Divided : List ℕ → List Token → Type 0 where
   end : Divided [] []
-  space : {s : List ℕ} {ts : List Token} → Divided s ts → Divided (32 ∷ s) ts
+  space : {s : List ℕ} {ts : List Token} → Divided s ts → Divided (byte " " ∷ s) ts
   token : {s : List ℕ} {ts : List Token} (t : Token) → IsToken t → Longest t s → Divided s ts → Divided (t ++ s) (t ∷ ts)

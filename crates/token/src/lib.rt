@@ -112,10 +112,16 @@ fn symbol_of(text: &[u8], start: usize, end: usize) -> u16
     if end - start == 1 {
         return b as u16;
     }
-    if b == b'<' {
-        return 256;
+    if end - start != 2 {
+        return 257;
     }
-    257
+    if b != b'<' {
+        return 257;
+    }
+    if text[start + 1] != b'<' {
+        return 257;
+    }
+    256
 }
 
 pub fn token_at(text: &[u8], at: usize) -> Token

@@ -4,8 +4,7 @@ use mathlib.Core.Path.{sym}
 use Prim.Native.Nat.{ℕ, _≤_}
 use native.Mathlib.Omega.{arith}
 use borrow.Author.Needs.{needs}
-use Rattle.expression.specs.Operands.{rankOf}
-use Rattle.expression.specs.Reading.{JoinedBy}
+use Rattle.expression.specs.Reading.{rankBy, JoinedBy}
 use Rattle.expression.proofs.After.{no-operator, operator, other-operator}
 use Rattle.expression.proofs.Climb.{no-join, join-is}
 use Rattle.expression.proofs.operator_at.Statement.{statement}
@@ -35,7 +34,7 @@ returns-4 c =
     let a = t .before .before .before .before .args in (
       λ k l h e. no-join (sym e),
       λ symbol end e.
-          join-is (λ (s z : ℕ). JoinedBy (a .text .now) (a .at) (rankOf s) s z × (a .low ≤ rankOf s) × (rankOf s ≤ a .high)) e
+          join-is (λ (s z : ℕ). JoinedBy (a .text .now) (a .at) (rankBy s) s z × (a .low ≤ rankBy s) × (rankBy s ≤ a .high)) e
           (operator _ _ _ (t .before .before .token-at .ensures) (t .t .given .1) (r .rank-of .ensures) (r .rank-of .ensures), omega (arith, r .rank-of .ensures, c .before .if1 .left), omega (arith, r .rank-of .ensures, c .if2 .left)),
     )
 

@@ -1,13 +1,13 @@
 -- Arm by arm.
 -- Assumes nothing.
 use mathlib.Core.Path.{sym}
-use Rattle.expression.specs.Operands.{rankOf}
-use Rattle.expression.proofs.Operators.{no-symbol}
+use Rattle.expression.specs.Reading.{rankBy}
+use Rattle.expression.proofs.Operators.{no-rank}
 use Rattle.expression.proofs.arithmetic.rank_of.Statement.{statement}
 use Rattle.expression.proofs.arithmetic.rank_of.Tie as tie
 
 pub rank-of-spec : {M : Type 1} → statement M
-unfolding rankOf
+unfolding rankBy
 rank-of-spec =
     tie.close
     (tie.spec
@@ -17,4 +17,4 @@ rank-of-spec =
     (λ c. rw (c .match .keys4))
     (λ c. rw (c .match .keys5))
     (λ c. rw (c .match .keys6))
-    (λ c. sym (no-symbol _ _ _ _ _ _ _ (c .match .rest))))
+    (λ c. sym (no-rank (c .match .rest))))

@@ -17,13 +17,13 @@ returns-2 : tie.Need-returns-2
 unfolding digitOf
 returns-2 c =
     let b = c .before .before .before .before .args .b in
-    (rw (outside 48 57 b (λ l h. omega arith), inside 65 70 b (omega arith) (omega arith)), omega arith)
+    (rw (outside 48 57 b (λ l h. omega arith), inside 65 70 b (omega arith) (omega arith)) (omega arith), omega arith)
 
 returns-3 : tie.Need-returns-3
 unfolding digitOf
 returns-3 c =
     let b = c .before .before .before .before .before .before .args .b in
-    (rw (outside 48 57 b (λ l h. omega arith), outside 65 70 b (λ l h. omega arith), inside 97 102 b (omega arith) (omega arith)), omega arith)
+    (rw (outside 48 57 b (λ l h. omega arith), outside 65 70 b (λ l h. omega arith), inside 97 102 b (omega arith) (omega arith)) (omega arith), omega arith)
 
 pub digit-of-spec : {M : Type 1} → statement M
 digit-of-spec =
