@@ -15,7 +15,7 @@ use Rattle.expression.specs.Operands.{Label, nameValue}
 use Rattle.expression.specs.Reading.{labels}
 use Rattle.assembler.specs.Text.{Place, given, crowded, repeated, newLabels}
 use Rattle.statement.specs.Parts.{labelOf}
-use Rattle.assembler.specs.Passes.{placeAt, Labelled}
+use Rattle.assembler.specs.Passes.{placeWith, Labelled}
 use Rattle.assembler.proofs.Stores.{taken-more, label-more}
 
 labels-length : (text : List ℕ) (n : ℕ) (u : List ℕ) → length u ≡ 3 * n → length (labels text u) ≡ n
@@ -40,7 +40,7 @@ module _ (text table : List ℕ) (count label until address : ℕ) (room : lengt
   names = labels text (take (3 * count) table)
 
   abbrev place : Place
-  place = placeAt text table count address
+  place = placeWith text table count address
 
   abbrev name : Token
   name = part label until text
@@ -59,7 +59,7 @@ module _ (text table : List ℕ) (count label until address : ℕ) (room : lengt
 
     -- a name that was given before
     pub given-before : nameValue names name .known ≡ true → Labelled text table count label until address table (record { labels = count; number = 11 })
-    unfolding placeAt repeated crowded newLabels given
+    unfolding placeWith repeated crowded newLabels given
     given-before e = record { number = rw (one, e); given = rw (one, e) (sym (append-nil names)); room = room; few = few }
 
     length-before : length (take (3 * count) table) ≡ 3 * count
@@ -70,7 +70,7 @@ module _ (text table : List ℕ) (count label until address : ℕ) (room : lengt
 
     -- a 65th name
     pub no-room : nameValue names name .known ≡ false → count ≡ 64 → Labelled text table count label until address table (record { labels = count; number = 10 })
-    unfolding placeAt repeated crowded newLabels given
+    unfolding placeWith repeated crowded newLabels given
     no-room e q =
         let f : leb 64 (length names) ≡ true = sym full ∙ le-leb 64 count (omega arith) in
         record { number = rw (one, e, f); given = rw (one, e, f) (sym (append-nil names)); room = room; few = few }
@@ -78,7 +78,7 @@ module _ (text table : List ℕ) (count label until address : ℕ) (room : lengt
     -- a new name
     pub gives-one : nameValue names name .known ≡ false → (count ≡ 64 → ⊥)
         → Labelled text table count label until address (set (set (set table (3 * count) label) (3 * count + 1) until) (3 * count + 2) address) (record { labels = count + 1; number = 0 })
-    unfolding placeAt repeated crowded newLabels given
+    unfolding placeWith repeated crowded newLabels given
     gives-one e n =
         let f : leb 64 (length names) ≡ false = sym full ∙ lt-leb 64 count (omega arith) in
         let k : 3 * (count + 1) ≡ 3 * count + 3 = omega arith in

@@ -15,13 +15,13 @@ use Rattle.expression.specs.Reading.{labels}
 use Rattle.encoding.specs.declared.Judged.{Judged as Outcome}
 use Rattle.assembler.specs.declared.passes.Given.{Given}
 use Rattle.assembler.specs.declared.passes.Progress.{Progress}
-use Rattle.statement.specs.Syntax.{Statement, none, of-row, line}
+use Rattle.statement.specs.Syntax.{Statement, no-statement, of-row, line}
 use Rattle.statement.specs.Reading.{ReadLine, outside, reads}
 use Rattle.assembler.specs.Text.{Place, crowded, repeated, admitted, after, newLabels, judged}
 use Rattle.encoding.specs.Words.{wordsIn, stated, Judged, bad}
 use Rattle.statement.specs.Parts.{labelOf}
 use Rattle.encoding.specs.Numbers.{shownJudged}
-use Rattle.assembler.specs.Passes.{placeAt, Labelled, finish, moved, Taken}
+use Rattle.assembler.specs.Passes.{placeWith, Labelled, finish, moved, Taken}
 use Rattle.assembler.proofs.Taking.{moved-reply}
 
 abbrev turnedAway : ℕ → ℕ → Outcome
@@ -58,18 +58,18 @@ not-both q (w ∷ l) e = rw e
 module _ (text table : List ℕ) (p : Progress) (started : 1 ≤ p .line) (l : ReadLine Value) (count : ℕ) (table′ : List ℕ) (room : length table′ ≡ 192) (few : count ≤ 64)
     (j : Outcome) (one : j .words ≤ 1) where
   abbrev here : Place
-  here = placeAt text table (p .labels) (p .address)
+  here = placeWith text table (p .labels) (p .address)
 
   taken : judged here (admitted here l) ≡ shownJudged j
-      → placeAt text table′ count (p .address + 2 * j .words) ≡ after here (admitted here l)
+      → placeWith text table′ count (p .address + 2 * j .words) ≡ after here (admitted here l)
       → Taken text table l p table′ (moved p count j)
-  unfolding placeAt
+  unfolding placeWith
   taken v m =
       let q : Moved p count j (moved p count j) = moved-parts p count j in
       record {
         place =
-            ap (λ (k : ℕ). placeAt text table′ k (moved p count j .address)) (q .labels)
-            ∙ ap (λ (a : ℕ). placeAt text table′ count a) (q .address)
+            ap (λ (k : ℕ). placeWith text table′ k (moved p count j .address)) (q .labels)
+            ∙ ap (λ (a : ℕ). placeWith text table′ count a) (q .address)
             ∙ m;
         reply = λ js. ap (λ (x : Judged). finish p (x ∷ js)) v ∙ moved-reply p count j js started one;
         room = room;
@@ -82,7 +82,7 @@ module _ (text table : List ℕ) (p : Progress) (started : 1 ≤ p .line) (l : R
 -- outside the grammar
 pub taken-outside : (text table : List ℕ) (p : Progress) → 1 ≤ p .line → length table ≡ 192 → p .labels ≤ 64
     → Taken text table outside p table (moved p (p .labels) (turnedAway 10 0))
-unfolding placeAt judged admitted after shownJudged
+unfolding placeWith judged admitted after shownJudged
 taken-outside text table p s r f =
     taken text table p s outside (p .labels) table r f (turnedAway 10 0) (omega arith) refl
     (ap (λ (a : ℕ). record { names = labels text (take (3 * p .labels) table); address = a }) (let e : p .address + 2 * 0 ≡ p .address = omega arith in e))
@@ -90,7 +90,7 @@ taken-outside text table p s r f =
 module _ (text table : List ℕ) (p : Progress) (started : 1 ≤ p .line) (label until : ℕ) (s : Statement Value) (table′ : List ℕ) (g : Given)
     (m : Labelled text table (p .labels) label until (p .address) table′ g) where
   abbrev at : Place
-  at = placeAt text table (p .labels) (p .address)
+  at = placeWith text table (p .labels) (p .address)
 
   abbrev name : List Token
   name = labelOf text label until
@@ -104,7 +104,7 @@ module _ (text table : List ℕ) (p : Progress) (started : 1 ≤ p .line) (label
 
   -- the name is one too many
   pub taken-crowded : g .number ≡ 10 → Taken text table this p table′ (moved p (g .labels) (turnedAway 10 0))
-  unfolding placeAt judged admitted after shownJudged
+  unfolding placeWith judged admitted after shownJudged
   taken-crowded e = go (repeated at name) refl (crowded at name) refl
     where
       go : (b : Bool) → repeated at name ≡ b → (d : Bool) → crowded at name ≡ d → Taken text table this p table′ (moved p (g .labels) (turnedAway 10 0))
@@ -122,8 +122,8 @@ module _ (text table : List ℕ) (p : Progress) (started : 1 ≤ p .line) (label
           absurd (omega arith)
 
   -- the names and the address after a line that is read
-  places : (j : Outcome) → j .words ≡ wordsIn s → crowded at name ≡ false → placeAt text table′ (g .labels) (p .address + 2 * j .words) ≡ after at (admitted at this)
-  unfolding placeAt admitted after
+  places : (j : Outcome) → j .words ≡ wordsIn s → crowded at name ≡ false → placeWith text table′ (g .labels) (p .address + 2 * j .words) ≡ after at (admitted at this)
+  unfolding placeWith admitted after
   places j e w =
       ap (λ (ns : List Label). record { names = ns; address = p .address + 2 * j .words }) (names-by false w)
       ∙ ap (λ (k : ℕ). record { names = labels text (take (3 * p .labels) table) ++ newLabels at name; address = p .address + 2 * k }) e
@@ -131,7 +131,7 @@ module _ (text table : List ℕ) (p : Progress) (started : 1 ≤ p .line) (label
 
   -- an earlier line gave the name
   pub taken-repeated : (j : Outcome) → j .words ≡ wordsIn s → j .words ≤ 1 → g .number ≡ 11 → Taken text table this p table′ (moved p (g .labels) (turnedAway 11 (j .words)))
-  unfolding judged admitted shownJudged placeAt
+  unfolding judged admitted shownJudged placeWith
   taken-repeated j o f e = go (repeated at name) refl (crowded at name) refl
     where
       go : (b : Bool) → repeated at name ≡ b → (d : Bool) → crowded at name ≡ d → Taken text table this p table′ (moved p (g .labels) (turnedAway 11 (j .words)))
@@ -150,7 +150,7 @@ module _ (text table : List ℕ) (p : Progress) (started : 1 ≤ p .line) (label
   -- the line is read, and comes to j
   pub taken-read : (j : Outcome) → j .words ≡ wordsIn s → j .words ≤ 1 → shownJudged j ≡ stated (p .address) s → (g .number ≡ 10 → ⊥) → (g .number ≡ 11 → ⊥)
       → Taken text table this p table′ (moved p (g .labels) j)
-  unfolding judged admitted placeAt
+  unfolding judged admitted placeWith
   taken-read j o f v n k = go (repeated at name) refl (crowded at name) refl
     where
       go : (b : Bool) → repeated at name ≡ b → (d : Bool) → crowded at name ≡ d → Taken text table this p table′ (moved p (g .labels) j)
@@ -193,5 +193,5 @@ module _ {text table table′ : List ℕ} {p : Progress} {label until : ℕ} {s 
 
 pub words-few : (s : Statement Value) → wordsIn s ≤ 1
 unfolding wordsIn
-words-few none = omega arith
+words-few no-statement = omega arith
 words-few (of-row k q) = omega arith

@@ -17,7 +17,7 @@ use Rattle.refusal.specs.Refusals.{refusalNumber}
 use Rattle.kinds.specs.declared.Kind.the-variants.{And}
 use Rattle.kinds.specs.Kinds.{kinds}
 use Rattle.isa.specs.declared.Instruction.{Instruction}
-use Rattle.isa.specs.Instructions.{Written, word, refused, writeOf}
+use Rattle.isa.specs.Instructions.{WriteReply, word, write-refused, writeOf}
 use Rattle.expression.specs.declared.Value.{Value}
 use Rattle.expression.specs.Operands.{Label, operandValue}
 use Rattle.expression.specs.Grammar.{Tree, valueOf}
@@ -25,10 +25,10 @@ use Rattle.expression.specs.Reading.{labels}
 use Rattle.assembler.specs.declared.Assembly.{Assembly}
 use Rattle.assembler.specs.declared.Assembly.the-variants.{Words, Refused}
 use Rattle.assembler.specs.declared.passes.Progress.{Progress}
-use Rattle.statement.specs.Syntax.{rowAt, Parts, Statement, none, of-row}
+use Rattle.statement.specs.Syntax.{rowAt, Parts, Statement, no-statement, of-row}
 use Rattle.statement.specs.Reading.{ReadLine, outside, reads, lineOf, valued}
 use Rattle.token.specs.Scan.{part, tokens}
-use Rattle.assembler.specs.Text.{Place, start, lines, readings, textLines, admitted, after, namesFrom, repeated, judged, verdicts, textVerdicts, Reply, words, turned-away, replyFrom, wordsOf, stored, AssembleLeft, leftBy, assembleLeft}
+use Rattle.assembler.specs.Text.{Place, start, lines, readings, textLines, admitted, after, namesFrom, repeated, judged, verdicts, textVerdicts, Reply, words, text-refused, replyFrom, wordsOf, stored, AssembleLeft, assembleLeftBy, assembleLeft}
 use Rattle.encoding.specs.Words.{odd, numberOf, written, encoded, stated, Judged, bad, nothing, gives}
 use Rattle.assembler.specs.Passes.{linesFrom, finish, Scanned, Fine, WrittenBy, AssembledBy, shownAssembly}
 use Rattle.assembler.proofs.LineEnds.{first-and-more}
@@ -52,10 +52,10 @@ one-of : (Q : Judged → Type 0) (t : Bool) {x y : Judged} → Q x → Q y → Q
 one-of Q true p q = p
 one-of Q false p q = q
 
-written-numbered : (w : Written) → NumberedBy (written w)
+written-numbered : (w : WriteReply) → NumberedBy (written w)
 unfolding written
 written-numbered (word w) = tt
-written-numbered (refused r) = inr (inr refl)
+written-numbered (write-refused r) = inr (inr refl)
 
 -- the instruction of row k
 abbrev instructionOf : ℕ → ℕ → Parts Value → Instruction
@@ -64,7 +64,7 @@ instructionOf k address p =
 
 stated-numbered : (address : ℕ) (s : Statement Value) → NumberedBy (stated address s)
 unfolding stated encoded
-stated-numbered address none = tt
+stated-numbered address no-statement = tt
 stated-numbered address (of-row k p) =
     one-of NumberedBy (p .n .known) {x = encoded k address p} {y = bad 11}
     (one-of NumberedBy (eqb k (length kinds)) tt (one-of NumberedBy (odd (rowAt k .field) address (p .n .word)) (inr (inr refl)) (written-numbered (writeOf (instructionOf k address p)))))
@@ -75,7 +75,7 @@ unfolding judged
 judged-numbered p outside = inl refl
 judged-numbered p (reads l) = one-of NumberedBy (repeated p (l .label)) (inr (inl refl)) (stated-numbered (p .address) (l .statement))
 
-turned-away-numbered : (names : List Label) (ls : List (ReadLine Tree)) (p : Place) (k n line r : ℕ) → replyFrom k n (verdicts names p ls) ≡ turned-away line r → Numbered r
+turned-away-numbered : (names : List Label) (ls : List (ReadLine Tree)) (p : Place) (k n line r : ℕ) → replyFrom k n (verdicts names p ls) ≡ text-refused line r → Numbered r
 unfolding verdicts replyFrom
 turned-away-numbered names [] p k n line r e = clash (cc)
 turned-away-numbered names (l ∷ ls) p k n line r e =
@@ -87,7 +87,7 @@ turned-away-numbered names (l ∷ ls) p k n line r e =
     js : List Judged
     js = verdicts names (after p (admitted p l)) ls
 
-    go : (j : Judged) → NumberedBy j → replyFrom k n (j ∷ js) ≡ turned-away line r → ((k n : ℕ) → replyFrom k n js ≡ turned-away line r → Numbered r) → Numbered r
+    go : (j : Judged) → NumberedBy j → replyFrom k n (j ∷ js) ≡ text-refused line r → ((k n : ℕ) → replyFrom k n js ≡ text-refused line r → Numbered r) → Numbered r
     go (bad i) h q f = let z : i ≡ r = cc in subst Numbered z h
     go nothing h q f = f (suc k) n q
     go (gives w) h q f = f (suc k) (suc n) q
@@ -130,26 +130,26 @@ module _ (long : Bool) (text : List ℕ) where
     reply : finish r [] ≡ replyFrom 1 0 come-to
     reply = second .reply ∙ ap (λ (ns : List Label). replyFrom 1 0 (verdicts ns start all)) given
 
-    refused-reply : (r .first ≡ 0 → ⊥) → replyFrom 1 0 come-to ≡ turned-away (r .first) (r .number)
+    refused-reply : (r .first ≡ 0 → ⊥) → replyFrom 1 0 come-to ≡ text-refused (r .first) (r .number)
     unfolding finish
     refused-reply n =
-        sym reply ∙ ap (λ (b : Bool). pick b (replyFrom (r .line) (r .words) []) (turned-away (r .first) (r .number))) (ne-eqb _ _ n)
+        sym reply ∙ ap (λ (b : Bool). pick b (replyFrom (r .line) (r .words) []) (text-refused (r .first) (r .number))) (ne-eqb _ _ n)
 
     words-reply : r .first ≡ 0 → replyFrom 1 0 come-to ≡ words (r .words)
     unfolding finish replyFrom
     words-reply e =
-        sym reply ∙ ap (λ (b : Bool). pick b (replyFrom (r .line) (r .words) []) (turned-away (r .first) (r .number))) (eq-eqb _ _ e)
+        sym reply ∙ ap (λ (b : Bool). pick b (replyFrom (r .line) (r .words) []) (text-refused (r .first) (r .number))) (eq-eqb _ _ e)
 
     pub numbered : (r .first ≡ 0 → ⊥) → Numbered (r .number)
     numbered n = turned-away-numbered names all start 1 0 (r .first) (r .number) (refused-reply n)
 
     pub left-refused : (program program′ : List ℕ) (f : Refusal) → (r .first ≡ 0 → ⊥) → refusalNumber f ≡ r .number → program′ ≡ program
         → AssembledBy long text program program′ (Refused (r .first) f)
-    unfolding leftBy
+    unfolding assembleLeftBy
     left-refused program program′ f n e q =
-        ap (λ (k : ℕ). record { reply = turned-away (r .first) k; program = program′ }) e
-        ∙ ap (λ (x : List ℕ). record { reply = turned-away (r .first) (r .number); program = x }) q
-        ∙ sym (ap (λ (x : Reply). leftBy x come-to program) (refused-reply n))
+        ap (λ (k : ℕ). record { reply = text-refused (r .first) k; program = program′ }) e
+        ∙ ap (λ (x : List ℕ). record { reply = text-refused (r .first) (r .number); program = x }) q
+        ∙ sym (ap (λ (x : Reply). assembleLeftBy x come-to program) (refused-reply n))
 
     short : r .first ≡ 0 → long ≡ false
     unfolding linesFrom
@@ -179,13 +179,13 @@ module _ (long : Bool) (text : List ℕ) where
     pub left-words : (program program′ : List ℕ) → r .first ≡ 0 → length text ≤ 65536 → length program ≡ 65536
         → (long ≡ false → Fine text (part 0 (3 * p .labels) table) program → WrittenBy text (part 0 (3 * p .labels) table) program program′)
         → AssembledBy long text program program′ (Words (r .words))
-    unfolding leftBy
+    unfolding assembleLeftBy
     left-words program program′ e h k w =
         ap (λ (x : List ℕ). record { reply = words (r .words); program = x })
         (w (short e) (can-write program e h k)
         ∙ ap (λ (b : Bool). stored (wordsOf (verdicts (labels text (part 0 (3 * p .labels) table)) start (linesFrom b text 0))) program) (sym (short e))
         ∙ ap (λ (x : List Judged). stored (wordsOf x) program) by-table)
-        ∙ sym (ap (λ (x : Reply). leftBy x come-to program) (words-reply e))
+        ∙ sym (ap (λ (x : Reply). assembleLeftBy x come-to program) (words-reply e))
 
 -- ---- The call
 
@@ -202,7 +202,7 @@ module _ (text program program′ : List ℕ) (r : Assembly) (h : length program
   unfolding assembleLeft textVerdicts
   whole long read e a =
       rw (eq-eqb (length program) 65536 h)
-      (a ∙ ap (λ (x : List (ReadLine Tree)). leftBy (replyFrom 1 0 (verdicts (namesFrom start x) start x)) (verdicts (namesFrom start x) start x) program) e)
+      (a ∙ ap (λ (x : List (ReadLine Tree)). assembleLeftBy (replyFrom 1 0 (verdicts (namesFrom start x) start x)) (verdicts (namesFrom start x) start x) program) e)
 
   pub long-text : 65536 < length text → AssembledBy true (take 65536 text) program program′ r → Left
   unfolding textLines linesFrom

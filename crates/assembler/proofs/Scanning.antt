@@ -19,7 +19,7 @@ use Rattle.statement.specs.declared.line.Line.the-variants.{Outside}
 use Rattle.statement.specs.Reading.{ReadLine, outside, lineBy, lineOf, valued}
 use Rattle.assembler.specs.Text.{Place, start, admitted, after, namesFrom, verdicts, judged, replyFrom}
 use Rattle.statement.specs.Parts.{shownLine, LineMeets, expressionOf, blankValue}
-use Rattle.assembler.specs.Passes.{LineEnd, LineRead, placeAt, linesFrom, finish, Ready, Taken, Scanned}
+use Rattle.assembler.specs.Passes.{LineEnd, LineRead, placeWith, linesFrom, finish, Ready, Taken, Scanned}
 use Rattle.statement.proofs.Valued.{read-valued}
 use Rattle.assembler.proofs.LineEnds.{next-line, last-line}
 use Rattle.assembler.proofs.Taking.{after-valued, admitted-valued}
@@ -38,8 +38,8 @@ module _ (long : Bool) (text names : List ℕ) where
 
   -- at the beginning of a line: the names and the reply that the lines from here come to are those of the text
   pub record Scanning (at : ℕ) (p : Progress) (table : List ℕ) : Type 0 where
-    pub given : namesFrom (placeAt text table (p .labels) (p .address)) (linesFrom long text at) ≡ namesFrom start (linesFrom long text 0)
-    pub reply : finish p (verdicts (labels text names) (placeAt text table (p .labels) (p .address)) (linesFrom long text at))
+    pub given : namesFrom (placeWith text table (p .labels) (p .address)) (linesFrom long text at) ≡ namesFrom start (linesFrom long text 0)
+    pub reply : finish p (verdicts (labels text names) (placeWith text table (p .labels) (p .address)) (linesFrom long text at))
         ≡ replyFrom 1 0 (verdicts (labels text names) start (linesFrom long text 0))
     pub room : length table ≡ 192
     pub few : p .labels ≤ 64
@@ -50,7 +50,7 @@ module _ (long : Bool) (text names : List ℕ) where
     pub bytes : p .address ≤ 2 * at
 
   pub scanning : (table : List ℕ) → length table ≡ 192 → Scanning 0 (record { line = 1; labels = 0; words = 0; address = 0; first = 0; number = 0 }) table
-  unfolding placeAt labels finish
+  unfolding placeWith labels finish
   scanning table h =
       record {
         given = refl;
@@ -68,10 +68,10 @@ module _ (long : Bool) (text names : List ℕ) where
   module _ (at : ℕ) (p : Progress) (table : List ℕ) (s : Scanning at p table) (l : ReadLine Tree) (L : ReadLine Value) (v : L ≡ valued valuesOf l)
       (table′ : List ℕ) (r : Progress) (t : Taken text table L p table′ r) where
     abbrev here : Place
-    here = placeAt text table (p .labels) (p .address)
+    here = placeWith text table (p .labels) (p .address)
 
     abbrev there : Place
-    there = placeAt text table′ (r .labels) (r .address)
+    there = placeWith text table′ (r .labels) (r .address)
 
     moves : there ≡ after here (admitted here l)
     moves =
@@ -111,7 +111,7 @@ module _ (long : Bool) (text names : List ℕ) where
           }
 
       pub scan-last : end ≡ length text → l ≡ pick long outside (lineOf (tokensAt text at)) → Scanned long text names table′ r
-      unfolding placeAt namesFrom verdicts
+      unfolding placeWith namesFrom verdicts
       scan-last h q =
           let c : linesFrom long text at ≡ l ∷ [] = last-line text at end e long h ∙ ap (λ (x : ReadLine Tree). x ∷ []) (sym q) in
           record {

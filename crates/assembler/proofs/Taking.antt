@@ -11,9 +11,9 @@ use Rattle.expression.specs.declared.Value.{Value}
 use Rattle.expression.specs.Grammar.{Tree}
 use Rattle.encoding.specs.declared.Judged.{Judged as Outcome}
 use Rattle.assembler.specs.declared.passes.Progress.{Progress}
-use Rattle.statement.specs.Syntax.{Statement, none, of-row}
+use Rattle.statement.specs.Syntax.{Statement, no-statement, of-row}
 use Rattle.statement.specs.Reading.{ReadLine, outside, reads, valued, valuedStatement}
-use Rattle.assembler.specs.Text.{Place, crowded, admitted, newLabels, after, words, turned-away, replyFrom}
+use Rattle.assembler.specs.Text.{Place, crowded, admitted, newLabels, after, words, text-refused, replyFrom}
 use Rattle.encoding.specs.Words.{wordsIn, Judged, bad, nothing, gives}
 use Rattle.encoding.specs.Numbers.{shownJudged}
 use Rattle.assembler.specs.Passes.{finish, moved}
@@ -45,7 +45,7 @@ module _ (p : Progress) (count : ℕ) (j : Outcome) (js : List Judged) (started 
 
       Stands : Bool → Bool → Type 0
       Stands f n =
-          pick f (replyFrom (p .line) (p .words) (pick n (pick (eqb (j .words) 0) nothing (gives (j .word))) (bad (j .number)) ∷ js)) (turned-away (p .first) (p .number))
+          pick f (replyFrom (p .line) (p .words) (pick n (pick (eqb (j .words) 0) nothing (gives (j .word))) (bad (j .number)) ∷ js)) (text-refused (p .first) (p .number))
           ≡ finish
           (pick f
           (pick n
@@ -57,16 +57,16 @@ module _ (p : Progress) (count : ℕ) (j : Outcome) (js : List Judged) (started 
       go : (f : Bool) → eqb (p .first) 0 ≡ f → (n : Bool) → Stands f n
       go true e true = fine (eqb (j .words) 0) refl
       go true e false =
-          sym (ap (λ (b : Bool). pick b (replyFrom (p .line + 1) (p .words) js) (turned-away (p .line) (j .number))) nonzero)
+          sym (ap (λ (b : Bool). pick b (replyFrom (p .line + 1) (p .words) js) (text-refused (p .line) (j .number))) nonzero)
       go false e n =
-          sym (ap (λ (b : Bool). pick b (replyFrom (p .line + 1) (p .words) js) (turned-away (p .first) (p .number))) e)
+          sym (ap (λ (b : Bool). pick b (replyFrom (p .line + 1) (p .words) js) (text-refused (p .first) (p .number))) e)
 
 -- ---- The place: it goes by the line alone, not by its values
 
 module _ (v : Tree → Value) where
   words-valued : (s : Statement Tree) → wordsIn (valuedStatement v s) ≡ wordsIn s
   unfolding wordsIn valuedStatement
-  words-valued none = refl
+  words-valued no-statement = refl
   words-valued (of-row k p) = refl
 
   pub after-valued : (p : Place) (l : ReadLine Tree) → after p (valued v l) ≡ after p l

@@ -22,7 +22,7 @@ use Rattle.statement.specs.declared.line.Line.{Line as Found}
 use Rattle.encoding.specs.declared.Judged.{Judged as Outcome}
 use Rattle.statement.specs.Syntax.{Line}
 use Rattle.statement.specs.Reading.{ReadLine, outside, reads, lineOf, valued}
-use Rattle.assembler.specs.Text.{Place, start, lines, readings, newLabels, crowded, repeated, admitted, after, namesFrom, verdicts, judged, Reply, words, turned-away, replyFrom, wordsOf, stored, AssembleLeft, leftBy}
+use Rattle.assembler.specs.Text.{Place, start, lines, readings, newLabels, crowded, repeated, admitted, after, namesFrom, verdicts, judged, Reply, words, text-refused, replyFrom, wordsOf, stored, AssembleLeft, assembleLeftBy}
 use Rattle.encoding.specs.Words.{stated, wordsIn, Judged}
 use Rattle.statement.specs.Parts.{labelOf, labelInside, shownLine}
 use Rattle.encoding.specs.Numbers.{shownJudged}
@@ -35,17 +35,17 @@ pub record LineEnd (text : List ℕ) (at r : ℕ) : Type 0 where
   pub newline : r < length text → getD text r 0 ≡ byte "\n"
 
 -- the place with the first so many labels of a table
-unfoldable pub placeAt : List ℕ → List ℕ → ℕ → ℕ → Place
-placeAt text table count address = record { names = labels text (take (3 * count) table); address = address }
+unfoldable pub placeWith : List ℕ → List ℕ → ℕ → ℕ → Place
+placeWith text table count address = record { names = labels text (take (3 * count) table); address = address }
 
 -- what `give` says
 pub record Labelled (text table : List ℕ) (count label until address : ℕ) (table′ : List ℕ) (r : Given) : Type 0 where
-  pub number : r .number ≡ pick (repeated (placeAt text table count address) (labelOf text label until)) 11
-      (pick (crowded (placeAt text table count address) (labelOf text label until)) 10 0)
+  pub number : r .number ≡ pick (repeated (placeWith text table count address) (labelOf text label until)) 11
+      (pick (crowded (placeWith text table count address) (labelOf text label until)) 10 0)
   pub given : labels text (take (3 * r .labels) table′)
       ≡ labels text (take (3 * count) table)
-      ++ pick (crowded (placeAt text table count address) (labelOf text label until)) []
-      (newLabels (placeAt text table count address) (labelOf text label until))
+      ++ pick (crowded (placeWith text table count address) (labelOf text label until)) []
+      (newLabels (placeWith text table count address) (labelOf text label until))
   pub room : length table′ ≡ 192
   pub few : r .labels ≤ 64
 
@@ -62,7 +62,7 @@ pub record LineRead (long : Bool) (text names : List ℕ) (at end : ℕ) (r : Fo
 
 -- the reply, where the lines from here come to js
 unfoldable pub finish : Progress → List Judged → Reply
-finish p js = pick (eqb (p .first) 0) (replyFrom (p .line) (p .words) js) (turned-away (p .first) (p .number))
+finish p js = pick (eqb (p .first) 0) (replyFrom (p .line) (p .words) js) (text-refused (p .first) (p .number))
 
 abbrev progress : ℕ → ℕ → ℕ → ℕ → ℕ → ℕ → Progress
 progress k l w a f n = record { line = k; labels = l; words = w; address = a; first = f; number = n }
@@ -88,10 +88,10 @@ pub record Ready (text table : List ℕ) (l : Found) (p : Progress) : Type 0 whe
 
 -- what `take_line` says of a line
 pub record Taken (text table : List ℕ) (l : ReadLine Value) (p : Progress) (table′ : List ℕ) (r : Progress) : Type 0 where
-  pub place : placeAt text table′ (r .labels) (r .address)
-      ≡ after (placeAt text table (p .labels) (p .address)) (admitted (placeAt text table (p .labels) (p .address)) l)
+  pub place : placeWith text table′ (r .labels) (r .address)
+      ≡ after (placeWith text table (p .labels) (p .address)) (admitted (placeWith text table (p .labels) (p .address)) l)
   pub reply : (js : List Judged)
-      → finish p (judged (placeAt text table (p .labels) (p .address)) (admitted (placeAt text table (p .labels) (p .address)) l) ∷ js) ≡ finish r js
+      → finish p (judged (placeWith text table (p .labels) (p .address)) (admitted (placeWith text table (p .labels) (p .address)) l) ∷ js) ≡ finish r js
   pub room : length table′ ≡ 192
   pub few : r .labels ≤ 64
   pub line : r .line ≡ p .line + 1
@@ -142,12 +142,12 @@ WrittenBy text names program program′ = program′ ≡ stored (wordsOf (verdic
 -- the reply in numbers
 abbrev pub shownAssembly : Assembly → Reply
 shownAssembly (Words n) = words n
-shownAssembly (Refused line refusal) = turned-away line (refusalNumber refusal)
+shownAssembly (Refused line refusal) = text-refused line (refusalNumber refusal)
 
 -- what `assembled` says of the part of a text that is read
 abbrev pub AssembledBy : Bool → List ℕ → List ℕ → List ℕ → Assembly → Type 0
 AssembledBy long text program program′ r =
     _≡_ {A = AssembleLeft} (record { reply = shownAssembly r; program = program′ })
-    (leftBy (replyFrom 1 0 (verdicts (namesFrom start (linesFrom long text 0)) start (linesFrom long text 0)))
+    (assembleLeftBy (replyFrom 1 0 (verdicts (namesFrom start (linesFrom long text 0)) start (linesFrom long text 0)))
     (verdicts (namesFrom start (linesFrom long text 0)) start (linesFrom long text 0))
     program)

@@ -113,12 +113,12 @@ bytesOf (w ∷ ws) = w % 256 ∷ w / 256 ∷ bytesOf ws
 -- their count is returned; a refusal returns line and number
 pub data Reply : Type 0 where
   words : ℕ → Reply
-  turned-away : ℕ → ℕ → Reply
+  text-refused : ℕ → ℕ → Reply
 
 -- the first bad line wins; the lines are numbered from k
 unfoldable pub replyFrom : ℕ → ℕ → List Judged → Reply
 replyFrom k count [] = words count
-replyFrom k count (bad r ∷ js) = turned-away k r
+replyFrom k count (bad r ∷ js) = text-refused k r
 replyFrom k count (nothing ∷ js) = replyFrom (suc k) count js
 replyFrom k count (gives w ∷ js) = replyFrom (suc k) (suc count) js
 
@@ -132,13 +132,13 @@ unfoldable pub stored : List ℕ → List ℕ → List ℕ
 stored ws program = bytesOf ws ++ drop (2 * length ws) program
 
 -- a refusal leaves it untouched
-unfoldable pub leftBy : Reply → List Judged → List ℕ → AssembleLeft
-leftBy (words count) js program = record { reply = words count; program = stored (wordsOf js) program }
-leftBy (turned-away k r) js program = record { reply = turned-away k r; program = program }
+unfoldable pub assembleLeftBy : Reply → List Judged → List ℕ → AssembleLeft
+assembleLeftBy (words count) js program = record { reply = words count; program = stored (wordsOf js) program }
+assembleLeftBy (text-refused k r) js program = record { reply = text-refused k r; program = program }
 
 -- The destination is a program memory, tested first for 1 (with line 0).
 unfoldable pub assembleLeft : List ℕ → List ℕ → AssembleLeft
 assembleLeft text program =
     pick (eqb (length program) 65536)
-    (leftBy (replyFrom 1 0 (textVerdicts text)) (textVerdicts text) program)
-    (record { reply = turned-away 0 1; program = program })
+    (assembleLeftBy (replyFrom 1 0 (textVerdicts text)) (textVerdicts text) program)
+    (record { reply = text-refused 0 1; program = program })

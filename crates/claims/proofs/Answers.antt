@@ -6,7 +6,7 @@ use Prim.Native.Nat.{ℕ}
 use lib.ListN.{getD}
 use Rattle.refusal.specs.declared.Refusal.{Refusal}
 use Rattle.refusal.specs.declared.Refusal.the-variants.{LentLength, ShortFile, LargePart, PartOutside, OddPc, StepCount, InstructionPart, LongFile, ShortDestination, TextLine, TextName, TextValue, FullSheet}
-use Rattle.refusal.specs.Refusals.{refusalNumber, Verdict, accepted, refused as turned-away}
+use Rattle.refusal.specs.Refusals.{refusalNumber, Verdict, accepted, refused}
 use Rattle.kinds.specs.declared.Kind.the-variants.{And}
 use Rattle.isa.specs.declared.Reading.{Reading}
 use Rattle.isa.specs.declared.Decoded.{Decoded}
@@ -23,17 +23,17 @@ use Rattle.save.specs.declared.Saving.{Saving}
 use Rattle.save.specs.declared.Saving.the-variants.{Saved, Refused as SaveRefused}
 use Rattle.assembler.specs.declared.Assembly.{Assembly}
 use Rattle.assembler.specs.declared.Assembly.the-variants.{Words, Refused as TextRefused}
-use Rattle.assembler.specs.Text.{Reply, words, turned-away as text-refused}
+use Rattle.assembler.specs.Text.{Reply, words, text-refused}
 use Rattle.assembler.specs.Passes.{shownAssembly}
-use Rattle.save.specs.Saved.{SaveReply, saved, refused as save-refused, shownSaving}
+use Rattle.save.specs.Saved.{SaveReply, saved, save-refused, shownSaving}
 use Rattle.run.specs.declared.Answer.{Answer}
 use Rattle.run.specs.declared.Answer.the-variants.{Stopped, Refused as RunRefused}
-use Rattle.run.specs.Runs.{RunReply, stopped, refused as run-refused, shownAnswer}
+use Rattle.run.specs.Runs.{RunReply, stopped, run-refused, shownAnswer}
 use Rattle.sheet.specs.declared.Feeding.{Feeding}
 use Rattle.sheet.specs.declared.Feeding.the-variants.{Taken, Refused as FeedRefused}
 use Rattle.sheet.specs.Sheet.{shownFeeding}
 use Rattle.kinds.specs.Kinds.{kinds}
-use Rattle.isa.specs.Instructions.{Read, instruction, unassigned, shownReading, Written, word, refused, shownWriting}
+use Rattle.isa.specs.Instructions.{Read, instruction, unassigned, shownReading, WriteReply, word, write-refused, shownWriting}
 use Rattle.isa.specs.Masks.{Decoding, shownDecoded}
 use Rattle.isa.proofs.Every.{listed}
 use Rattle.claims.specs.Answers.{Injective, Answers}
@@ -76,9 +76,9 @@ decoded-back : (x : Decoded) → decoded-of (shownDecoded x) ≡ x
 unfolding decoded-of
 decoded-back x = ap (λ (y : Reading). record { reading = y; reads = x .reads; writes = x .writes }) (reading-back (x .reading))
 
-writing-of : Written → Writing
+writing-of : WriteReply → Writing
 writing-of (word w) = Word w
-writing-of (refused n) = Refused (refusal-at n)
+writing-of (write-refused n) = Refused (refusal-at n)
 
 writing-back : (x : Writing) → writing-of (shownWriting x) ≡ x
 unfolding writing-of
@@ -88,7 +88,7 @@ writing-back (Refused r) = ap Refused (refusal-back r)
 -- an enum of these two cases
 verdict-of : {A : Type 0} → A → (Refusal → A) → Verdict → A
 verdict-of x f accepted = x
-verdict-of x f (turned-away n) = f (refusal-at n)
+verdict-of x f (refused n) = f (refusal-at n)
 
 loading-back : (x : Loading) → verdict-of Accepted LoadRefused (shownLoading x) ≡ x
 unfolding verdict-of

@@ -17,7 +17,7 @@ use Rattle.expression.specs.Grammar.{Tree, valueOf}
 use Rattle.statement.specs.Syntax.{table, Parts, of-row, Line}
 use Rattle.statement.specs.Reading.{ReadLine, reads, valuedParts, valued}
 use Rattle.encoding.specs.Words.{Judged, bad, nothing, gives, encoded}
-use Rattle.assembler.specs.Text.{textLines, start, admitted, judged, namesFrom, textVerdicts, wordsOf, words, turned-away, AssembleLeft, stored, leftBy, assembleLeft}
+use Rattle.assembler.specs.Text.{textLines, start, admitted, judged, namesFrom, textVerdicts, wordsOf, words, text-refused, AssembleLeft, stored, assembleLeftBy, assembleLeft}
 use Rattle.claims.specs.Assembly.{Reads, WordOf, textParts, valueIn, lineAt, placeAt, Bad, too-long, First, Assembles, Assembly}
 use Rattle.claims.proofs.Readings.{found, readings-unique, readings-length, taken}
 use Rattle.claims.proofs.Judging.{ten, Rightly, rightly-at}
@@ -124,12 +124,12 @@ module _ (text : List ℕ) where
 
     -- what it comes to
     data Outcome : Type 0 where
-      no-memory : (Memory → ⊥) → left .reply ≡ turned-away 0 1 → left .program ≡ program → Outcome
-      refused : Memory → (k r : ℕ) → First text k r → left .reply ≡ turned-away (suc k) r → left .program ≡ program → Outcome
+      no-memory : (Memory → ⊥) → left .reply ≡ text-refused 0 1 → left .program ≡ program → Outcome
+      refused : Memory → (k r : ℕ) → First text k r → left .reply ≡ text-refused (suc k) r → left .program ≡ program → Outcome
       accepted : Memory → AllFine → left .reply ≡ words count → left .program ≡ stored (wordsOf (textVerdicts text)) program → Outcome
 
     outcome : Outcome
-    unfolding assembleLeft leftBy
+    unfolding assembleLeft assembleLeftBy
     outcome = go (eqb (length program) 65536) refl (replied 1 0 (textVerdicts text))
       where
         reply-of : {x y : AssembleLeft} → x ≡ y → x .reply ≡ y .reply
@@ -140,12 +140,12 @@ module _ (text : List ℕ) where
 
         go : (b : Bool) → eqb (length program) 65536 ≡ b → Turned 1 0 (textVerdicts text) ⊎ Counted 1 0 (textVerdicts text) → Outcome
         go false e t =
-            let x : left ≡ record { reply = turned-away 0 1; program = program } = rw e in
+            let x : left ≡ record { reply = text-refused 0 1; program = program } = rw e in
             no-memory (eqb-false _ _ e) (reply-of x) (program-of x)
         go true e (inl t) =
             let (i, r, b, q) = t in
             let s : 1 + i ≡ suc i = omega arith in
-            let x : left ≡ record { reply = turned-away (suc i) r; program = program } = rw (e, q, s) in
+            let x : left ≡ record { reply = text-refused (suc i) r; program = program } = rw (e, q, s) in
             refused (eqb-true _ _ e) i r (first i r b) (reply-of x) (program-of x)
         go true e (inr t) =
             let s : 0 + count ≡ count = omega arith in
@@ -153,17 +153,17 @@ module _ (text : List ℕ) where
             accepted (eqb-true _ _ e) (t .0) (reply-of x) (program-of x)
 
     -- each part of the claim, by what it comes to
-    memory-not-1 : left .reply ≡ turned-away 0 1 → Memory → Outcome → ⊥
+    memory-not-1 : left .reply ≡ text-refused 0 1 → Memory → Outcome → ⊥
     memory-not-1 e m (no-memory n x y) = n m
     memory-not-1 e m (refused h k r f x y) = let z : suc k ≡ 0 = cc in omega arith
     memory-not-1 e m (accepted h g x y) = clash (cc)
 
-    no-memory-1 : (Memory → ⊥) → Outcome → left .reply ≡ turned-away 0 1
+    no-memory-1 : (Memory → ⊥) → Outcome → left .reply ≡ text-refused 0 1
     no-memory-1 m (no-memory n x y) = x
     no-memory-1 m (refused h k r f x y) = absurd (m h)
     no-memory-1 m (accepted h g x y) = absurd (m h)
 
-    refused-first : (k r : ℕ) → left .reply ≡ turned-away (suc k) r → Outcome → Memory × First text k r
+    refused-first : (k r : ℕ) → left .reply ≡ text-refused (suc k) r → Outcome → Memory × First text k r
     refused-first k r e (no-memory n x y) = let z : 0 ≡ suc k = cc in absurd (omega arith)
     refused-first k r e (refused h i q f x y) =
         let z : suc i ≡ suc k = cc in
@@ -172,7 +172,7 @@ module _ (text : List ℕ) where
         (h, subst₂ (λ (j s : ℕ). First text j s) a b f)
     refused-first k r e (accepted h g x y) = clash (cc)
 
-    first-refused : (k r : ℕ) → Memory → First text k r → Outcome → left .reply ≡ turned-away (suc k) r
+    first-refused : (k r : ℕ) → Memory → First text k r → Outcome → left .reply ≡ text-refused (suc k) r
     first-refused k r m f (no-memory n x y) = absurd (n m)
     first-refused k r m f (refused h i q g x y) = let (a, b) = one-first i k q r g f in cc (x, a, b)
     first-refused k r m f (accepted h g x y) = absurd (good k (f .there) (g k) r (f .bad))
@@ -204,13 +204,13 @@ module _ (text : List ℕ) where
         subst (WordOf q (placeAt text k .address) (valueIn text (p .n)) p) (sym (ap (λ (z : List ℕ). wordAt z (placeAt text k .address)) y ∙ c program))
         (word-of value q (placeAt text k .address) w p (sized l q p r s) v)
 
-    refused-untouched : (k r : ℕ) → left .reply ≡ turned-away k r → Outcome → left .program ≡ program
+    refused-untouched : (k r : ℕ) → left .reply ≡ text-refused k r → Outcome → left .program ≡ program
     refused-untouched k r e (no-memory n x y) = y
     refused-untouched k r e (refused h i q f x y) = y
     refused-untouched k r e (accepted h g x y) = clash (cc)
 
     -- no refusal has the number 0
-    pub refused-not-0 : (k r : ℕ) → left .reply ≡ turned-away k r → r ≡ 0 → ⊥
+    pub refused-not-0 : (k r : ℕ) → left .reply ≡ text-refused k r → r ≡ 0 → ⊥
     refused-not-0 k r e z = go outcome
       where
         go : Outcome → ⊥

@@ -17,17 +17,17 @@ use Rattle.kinds.specs.declared.Kind.{Kind}
 use Rattle.kinds.specs.declared.Kind.the-variants.{And}
 use Rattle.kinds.specs.Kinds.{kinds, kindNumber}
 use Rattle.isa.specs.declared.Instruction.{Instruction}
-use Rattle.isa.specs.Instructions.{Read, instruction, unassigned, readOf, Written, word, refused as write-refused, writeOf}
+use Rattle.isa.specs.Instructions.{Read, instruction, unassigned, readOf, WriteReply, word, write-refused, writeOf}
 use Rattle.isa.specs.Masks.{Masks, Decoding, masksOf}
 use Rattle.isa.proofs.Every.{listed}
 use Rattle.machine.specs.Run.{Stepper}
 use Rattle.panel.specs.Calls.{SetGiven, setLeft}
 use Rattle.image.specs.Image.{LoadGiven, loadLeft}
-use Rattle.save.specs.Saved.{SaveReply, saved, refused as save-refused, SaveGiven, saveLeft}
-use Rattle.assembler.specs.Text.{Reply, words, turned-away, assembleLeft}
+use Rattle.save.specs.Saved.{SaveReply, saved, save-refused, SaveGiven, saveLeft}
+use Rattle.assembler.specs.Text.{Reply, words, text-refused, assembleLeft}
 use Rattle.control.specs.Control.{byTable}
 use Rattle.usage.specs.Usage.{unused}
-use Rattle.run.specs.Runs.{Given, stopped, refused as run-refused, verdictOn, leftBy, runLeft, CountedLeft, countedBy, countedLeft}
+use Rattle.run.specs.Runs.{Given, stopped, run-refused, verdictOn, runLeftBy, runLeft, CountedLeft, countedBy, countedLeft}
 use Rattle.sheet.specs.declared.Sheet.{Sheet}
 use Rattle.sheet.specs.Sheet.{feedBy, wasAccepted, feedLeft}
 use Rattle.replies.specs.declared.SisaAnswer.{SisaAnswer}
@@ -90,10 +90,10 @@ save g =
 
 -- ---- Assembling
 
-assembly-back : (x : Reply) → ((k r : ℕ) → x ≡ turned-away k r → r ≡ 0 → ⊥)
+assembly-back : (x : Reply) → ((k r : ℕ) → x ≡ text-refused k r → r ≡ 0 → ⊥)
     → (assemblyOf (sisaAssembly x) ≡ x) × ((sisaAssembly x .refusal ≡ 0) ↔ ((n : ℕ) × (x ≡ words n))) × ((sisaAssembly x .refusal ≡ 0 → ⊥) → sisaAssembly x .words ≡ 0) × (sisaAssembly x .refusal ≡ 0 → sisaAssembly x .line ≡ 0)
 assembly-back (words n) h = (refl, (λ e. (n, refl), λ e. refl), λ n. absurd (n refl), λ e. refl)
-assembly-back (turned-away k r) h =
+assembly-back (text-refused k r) h =
     (rw (ne-eqb r 0 (h k r refl)), (λ e. absurd (h k r refl e), λ e. let z = e .1 in clash (cc)), λ n. refl, λ e. absurd (h k r refl e))
 
 assemble : (text program : List ℕ) → AssembleReplies text program
@@ -114,7 +114,7 @@ module _ (v : Stepper) (g : Given) where
   -- by the verdict
   run-back : (x : Verdict) → Not0 refused x
       → (runOf (runInNumbers (countedBy v x g)) ≡ countedBy v x g)
-      × ((runInNumbers (countedBy v x g) .reply .refusal ≡ 0) ↔ ((q : ℕ) × (s : ℕ) × (k : ℕ) × (leftBy v x g .reply ≡ stopped q s k)))
+      × ((runInNumbers (countedBy v x g) .reply .refusal ≡ 0) ↔ ((q : ℕ) × (s : ℕ) × (k : ℕ) × (runLeftBy v x g .reply ≡ stopped q s k)))
       × ((runInNumbers (countedBy v x g) .reply .refusal ≡ 0 → ⊥)
       → runInNumbers (countedBy v x g) .reply
       ≡ record { state = g .state; refusal = runInNumbers (countedBy v x g) .reply .refusal; stop = 0; steps = 0; entries = 0; usage = unused })
@@ -124,7 +124,7 @@ module _ (v : Stepper) (g : Given) where
   pub run : RunReplies v g (sisaRunLeft v g)
   unfolding sisaRunLeft countedLeft runLeft
   run =
-      let b = run-back (verdictOn g) (λ k e z. ⊎-elim (λ h. omega arith) (⊎-elim (λ h. omega arith) (λ h. omega arith)) (refusals .run v g .no-other k (ap (λ (x : Verdict). leftBy v x g .reply) e))) in
+      let b = run-back (verdictOn g) (λ k e z. ⊎-elim (λ h. omega arith) (⊎-elim (λ h. omega arith) (λ h. omega arith)) (refusals .run v g .no-other k (ap (λ (x : Verdict). runLeftBy v x g .reply) e))) in
       record { gives-back = b .0; refusal-0 = b .1; others-0 = b .2 }
 
 pub host-step : (h after : HostLent) (a : SisaAnswer) → HostStepMeets h a after → RunReplies byTable (stepGiven h) (stepLeft a after)
@@ -184,7 +184,7 @@ write-is i =
     rw (le-leb (kindNumber (i .kind)) 29 few)
     (ap (λ (k : Kind). sisaWord (writeOf (record { kind = k; a = i .a; b = i .b; d = i .d; n = i .n }))) (listed (i .kind) .1))
 
-word-back : (x : Written) → Not0 write-refused x
+word-back : (x : WriteReply) → Not0 write-refused x
     → (writtenOf (sisaWord x) ≡ x) × ((sisaWord x .refusal ≡ 0) ↔ ((w : ℕ) × (x ≡ word w))) × ((sisaWord x .refusal ≡ 0 → ⊥) → sisaWord x .word ≡ 0)
 word-back (word w) h = (refl, (λ e. (w, refl), λ e. refl), λ n. absurd (n refl))
 word-back (write-refused k) h = (rw (ne-eqb k 0 (h k refl)), (λ e. absurd (h k refl e), λ e. let z = e .1 in clash (cc)), λ n. refl)

@@ -10,17 +10,17 @@ use Rattle.word.specs.Word.{signed, lowBits}
 use Rattle.word.proofs.Computed.{all, all-at}
 use Rattle.isa.specs.declared.Instruction.{Instruction}
 use Rattle.isa.specs.Sheet.{kindAt}
-use Rattle.isa.specs.Instructions.{Read, instruction, unassigned, readOf, Written, word, refused, writeOf}
+use Rattle.isa.specs.Instructions.{Read, instruction, unassigned, readOf, WriteReply, word, write-refused, writeOf}
 use Rattle.claims.specs.Instructions.{cleared}
 
-unfoldable pub is-word : Written → ℕ → Bool
+unfoldable pub is-word : WriteReply → ℕ → Bool
 is-word (word v) w = eqb v w
-is-word (refused k) w = false
+is-word (write-refused k) w = false
 
-pub word-is : (r : Written) (w : ℕ) → T (is-word r w) → r ≡ word w
+pub word-is : (r : WriteReply) (w : ℕ) → T (is-word r w) → r ≡ word w
 unfolding is-word
 word-is (word v) w t = ap word (eqb→eq v w t)
-word-is (refused k) w t = absurd t
+word-is (write-refused k) w t = absurd t
 
 -- what was read at w is written as w, cleared
 again : Read → ℕ → Bool

@@ -24,7 +24,7 @@ use Rattle.machine.specs.Step.{Next, cannot, to, fetched, step}
 use Rattle.machine.specs.Run.{byRules, Outcome, noPlace, unless, runFrom, traceFrom}
 use Rattle.control.proofs.Laws.{lawful-rules}
 use Rattle.usage.specs.declared.Usage.{Usage}
-use Rattle.usage.specs.Usage.{isKind, doesKind, masksAt, addedFrom, counted, unused, usageOf, plusCounts, plus}
+use Rattle.usage.specs.Usage.{isKind, doesKind, masksAt, addedFrom, counted, unused, usageOf, plusCounts, plusUsage}
 use Rattle.claims.specs.Usage.{total}
 use Rattle.claims.proofs.Rules.{rules}
 
@@ -118,7 +118,7 @@ plus-within xs ys n k l a b =
     let e = a .long ∙ sym (b .long) in
     record { long = plus-long xs ys e ∙ b .long; at = λ j. omega (arith, plus-at xs ys e j, a .at j, b .at j) }
 
-pub counts-plus : (u v : Usage) (k l : ℕ) → Counts u k → Counts v l → Counts (plus u v) (k + l)
+pub counts-plus : (u v : Usage) (k l : ℕ) → Counts u k → Counts v l → Counts (plusUsage u v) (k + l)
 counts-plus u v k l a b =
     let e = a .kinds ∙ sym (b .kinds) in
     record {

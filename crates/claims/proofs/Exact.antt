@@ -19,7 +19,7 @@ use Rattle.kinds.specs.declared.Kind.{Kind}
 use Rattle.isa.specs.declared.Instruction.{Instruction}
 use Rattle.isa.specs.declared.rows.Entry.{Entry}
 use Rattle.isa.specs.declared.rows.Entry.the-variants.{Unassigned, Assigned}
-use Rattle.isa.specs.Sheet.{sheet, kindAt}
+use Rattle.isa.specs.Sheet.{sheetLine, kindAt}
 use Rattle.isa.specs.Instructions.{Register, a-register, b-register, d-register, instruction, partsOf, readAs, readOf}
 use Rattle.isa.specs.Masks.{inMask, registerMask, readsDestination, readsOf, writesOf, masksAs, masksOf}
 use Rattle.isa.proofs.Every.{every}
@@ -27,9 +27,9 @@ use Rattle.claims.specs.Masks.{has, isUsed, Exact}
 use Rattle.claims.proofs.Touched.{maskOf, in-one, in-or}
 
 abbrev bitsOf : Kind → Register → Bits
-bitsOf k a-register = sheet k .format .a
-bitsOf k b-register = sheet k .format .b
-bitsOf k d-register = sheet k .format .d
+bitsOf k a-register = sheetLine k .format .a
+bitsOf k b-register = sheetLine k .format .b
+bitsOf k d-register = sheetLine k .format .d
 
 -- a part that a format has is of three bits
 abbrev right : Bits → Bool
@@ -69,7 +69,7 @@ module _ (k : Kind) (w j : ℕ) (h : j < 8) where
       go true t = in-its d-register ∙ ap (λ b. b && eqb (field (bitsOf k d-register) w) j) (is-true (has (bitsOf k d-register)) t)
       go false t = in-one none j tt h
 
-  in-reads : inMask (readsOf k w) j ≡ (let i = partsOf (sheet k) k w in isUsed i j a-register || isUsed i j b-register || isUsed i j d-register)
+  in-reads : inMask (readsOf k w) j ≡ (let i = partsOf (sheetLine k) k w in isUsed i j a-register || isUsed i j b-register || isUsed i j d-register)
   in-reads =
       in-or _ (pick (readsDestination k) (registerMask (bitsOf k d-register) w) 0) j
       ∙ ap₂ _||_ (in-or (registerMask (bitsOf k a-register) w) (registerMask (bitsOf k b-register) w) j ∙ ap₂ _||_ (in-its a-register) (in-its b-register)) in-d
@@ -80,6 +80,6 @@ exact w i e j h = go (kindAt (opcode w) (e-of w) (f-of w)) e
   where
     go : (x : Entry) → readAs x w ≡ instruction i → Exact (masksAs x w) i j
     go (Assigned k) e =
-        let z : partsOf (sheet k) k w ≡ i = cc in
+        let z : partsOf (sheetLine k) k w ≡ i = cc in
         subst (λ (i : Instruction). Exact (masksAs (Assigned k) w) i j) z (record { reads = in-reads k w j h; writes = in-its k w j h d-register })
     go Unassigned e = clash (cc)

@@ -13,14 +13,14 @@ use Rattle.word.proofs.Computed.{both, both-split}
 use Rattle.isa.specs.Sheet.{kindAt}
 use Rattle.isa.specs.Instructions.{writeOf}
 use Rattle.token.specs.Ascii.{ascii}
-use Rattle.token.specs.Tokens.{between, digit, letter, letterOrDigit}
+use Rattle.token.specs.Tokens.{between, isDigit, isLetter, isLetterOrDigit}
 use Rattle.token.specs.Scan.{goesOn, joins, ended, begun, scan, tokens, symbolOf, alike}
 use Rattle.expression.specs.Operands.{digitOf, allDigits, numeral, hexed, isLiteral, literalWord, registerOf, isName, nameValue, isOperand, operandValue, rankOf, rank, shiftLeft, operatedOf, operated, negated}
 use Rattle.expression.specs.Grammar.{valueOf}
 use Rattle.expression.specs.Reading.{bind, mapped, closed, opening, startOf, leaf, prefixed, rest, follow, chain, ranked, inside, parse}
-use Rattle.statement.specs.Reading.{rowFrom, rowOf, aRegister, aMark, finished, readItem, readItems, statementOf, lineBy, lineOf, valuedParts, valuedStatement, valued}
+use Rattle.statement.specs.Reading.{rowFrom, rowOf, aRegister, aPunctuation, finished, readItem, readItems, statementOf, lineBy, lineOf, valuedParts, valuedStatement, valued}
 use Rattle.encoding.specs.Words.{wordsIn, distance, odd, numberOf, Judged, bad, nothing, gives, written, encoded, stated}
-use Rattle.assembler.specs.Text.{longer, lines, readings, textLines, given, crowded, admitted, newLabels, after, namesFrom, repeated, judged, verdicts, textVerdicts, wordsOf, words, replyFrom, leftBy, assembleLeft}
+use Rattle.assembler.specs.Text.{longer, lines, readings, textLines, given, crowded, admitted, newLabels, after, namesFrom, repeated, judged, verdicts, textVerdicts, wordsOf, words, replyFrom, assembleLeftBy, assembleLeft}
 use Rattle.claims.specs.Examples.{Example, sheetRows, valueRows, nameRows, Gives, Each, Examples}
 
 -- ---- The test
@@ -64,7 +64,7 @@ tests [] = true
 tests (x ∷ xs) = both (come-to (textVerdicts (ascii (x .text))) (x .its-words)) (tests xs)
 
 one : (x : Example) → T (come-to (textVerdicts (ascii (x .text))) (x .its-words)) → Gives x
-unfolding assembleLeft leftBy
+unfolding assembleLeft assembleLeftBy
 one x t program m =
     let s : 0 + length (x .its-words) ≡ length (x .its-words) = omega arith in
     rw (eq-eqb (length program) 65536 m, their-count 1 0 (textVerdicts (ascii (x .text))) (x .its-words) t, their-words (textVerdicts (ascii (x .text))) (x .its-words) t, s)
@@ -77,10 +77,10 @@ each (x ∷ xs) t =
     (one x a, each xs b)
 
 tested : T (both (tests sheetRows) (both (tests valueRows) (tests nameRows)))
-unfolding tests come-to signed lowBits writeOf between digit letter letterOrDigit goesOn joins ended begun scan tokens symbolOf alike
+unfolding tests come-to signed lowBits writeOf between isDigit isLetter isLetterOrDigit goesOn joins ended begun scan tokens symbolOf alike
     digitOf allDigits numeral hexed isLiteral literalWord registerOf isName nameValue isOperand operandValue rankOf rank shiftLeft operatedOf operated negated
     valueOf bind mapped closed opening startOf leaf prefixed rest follow chain ranked inside parse
-    rowFrom rowOf aRegister aMark finished readItem readItems statementOf lineBy lineOf valuedParts valuedStatement valued
+    rowFrom rowOf aRegister aPunctuation finished readItem readItems statementOf lineBy lineOf valuedParts valuedStatement valued
     wordsIn distance odd numberOf written encoded stated
     longer lines readings textLines given crowded admitted newLabels after namesFrom repeated judged verdicts textVerdicts
 tested = tt

@@ -17,13 +17,13 @@ use Rattle.word.proofs.Computed.{both, both-split, all, all-at}
 use Rattle.kinds.specs.declared.Kind.the-variants.{And}
 use Rattle.kinds.specs.Kinds.{kinds}
 use Rattle.isa.specs.declared.Instruction.{Instruction}
-use Rattle.isa.specs.Sheet.{Line as SheetLine, sheet}
+use Rattle.isa.specs.Sheet.{Line as SheetLine, sheetLine}
 use Rattle.isa.specs.Instructions.{Register, a-register, b-register, d-register, inRange, fits, wordOf, writeOf}
 use Rattle.token.specs.Tokens.{Token}
 use Rattle.expression.specs.declared.Value.{Value}
 use Rattle.expression.specs.Operands.{registerOf}
 use Rattle.expression.specs.Grammar.{Tree}
-use Rattle.statement.specs.Syntax.{Item, register, mark, N, table, rowAt, Parts, put, Written, end, a-register-there, a-mark-there, a-value-there, Statement, none, of-row, IsStatement, empty, written as written-row, Line, IsLine, plain, labelled}
+use Rattle.statement.specs.Syntax.{Item, register, punctuation, N, table, rowAt, Parts, put, Written, end, a-register-there, punctuation-there, a-value-there, Statement, no-statement, of-row, IsStatement, empty, written as written-row, Line, IsLine, plain, labelled}
 use Rattle.encoding.specs.Words.{odd, numberOf, bad, gives, written, encoded}
 use Rattle.claims.specs.Assembly.{Fits}
 
@@ -37,7 +37,7 @@ Within bound p = (p .a < bound a-register) × (p .b < bound b-register) × (p .d
 abbrev roomy : (Register → ℕ) → List Item → Bool
 roomy bound [] = true
 roomy bound (register r ∷ is) = both (leb 8 (bound r)) (roomy bound is)
-roomy bound (mark m ∷ is) = roomy bound is
+roomy bound (punctuation m ∷ is) = roomy bound is
 roomy bound (N ∷ is) = roomy bound is
 
 put-within : (bound : Register → ℕ) (r : Register) (k : ℕ) (p : Parts Tree) → k < bound r → Within bound p → Within bound (put r k p)
@@ -50,12 +50,12 @@ written-within bound end o w = w
 written-within bound (a-register-there {r = r} {is = is} {t = t} {p = p} h x) o w =
     let (b, l) = both-split (leb 8 (bound r)) (roomy bound is) o in
     written-within bound x l (put-within bound r (registerOf t) p (omega (arith, leb→le 8 (bound r) b)) w)
-written-within bound (a-mark-there x) o w = written-within bound x o w
+written-within bound (punctuation-there x) o w = written-within bound x o w
 written-within bound (a-value-there e x) o w = written-within bound x o w
 
 -- the line of kind k in the sheet, and the bounds of its registers
 abbrev lineOfSheet : ℕ → SheetLine
-lineOfSheet k = sheet (getD kinds k And)
+lineOfSheet k = sheetLine (getD kinds k And)
 
 abbrev bound : ℕ → Register → ℕ
 bound k a-register = 2 ^ lineOfSheet k .format .a .count
@@ -69,7 +69,7 @@ rows-roomy k h = all-at (length kinds) (λ j. roomy (bound j) (rowAt j .items)) 
 
 -- so the registers of a reading are
 abbrev pub Sized : Statement Tree → Type 0
-Sized none = Unit
+Sized no-statement = Unit
 Sized (of-row k p) = (k < length table) × (k < length kinds → Within (bound k) p)
 
 statement-sized : {ts : List Token} {s : Statement Tree} → IsStatement ts s → Sized s
@@ -83,11 +83,11 @@ line-sized (labelled n s) = statement-sized s
 -- ---- The word
 
 -- an instruction that fits is written, any other is turned away
-writes : (i : Instruction) → fits (sheet (i .kind)) i ≡ true → (w : ℕ) × (written (writeOf i) ≡ gives w)
+writes : (i : Instruction) → fits (sheetLine (i .kind)) i ≡ true → (w : ℕ) × (written (writeOf i) ≡ gives w)
 unfolding written writeOf
-writes i e = (wordOf (sheet (i .kind)) (i .a) (i .b) (i .d) (lowBits (sheet (i .kind) .format .n .count) (i .n)), rw e)
+writes i e = (wordOf (sheetLine (i .kind)) (i .a) (i .b) (i .d) (lowBits (sheetLine (i .kind) .format .n .count) (i .n)), rw e)
 
-refuses : (i : Instruction) → fits (sheet (i .kind)) i ≡ false → written (writeOf i) ≡ bad 12
+refuses : (i : Instruction) → fits (sheetLine (i .kind)) i ≡ false → written (writeOf i) ≡ bad 12
 unfolding written writeOf
 refuses i e = rw e
 

@@ -7,8 +7,8 @@ use Prim.Native.Nat.{ℕ, _<_}
 use Rattle.word.specs.Word.{pick}
 use Rattle.word.proofs.Tests.{clash, never}
 use Rattle.isa.specs.declared.Instruction.{Instruction}
-use Rattle.isa.specs.Sheet.{sheet}
-use Rattle.isa.specs.Instructions.{Read, instruction, unassigned, readOf, Written, word, refused, fits, writeOf}
+use Rattle.isa.specs.Sheet.{sheetLine}
+use Rattle.isa.specs.Instructions.{Read, instruction, unassigned, readOf, WriteReply, word, write-refused, fits, writeOf}
 use Rattle.claims.specs.Instructions.{Unassigned, InRange, Instructions}
 use Rattle.claims.proofs.Computed.{read-then-written}
 use Rattle.claims.proofs.Decides.{Decides}
@@ -18,15 +18,15 @@ use Rattle.claims.proofs.Written.{written-then-read}
 
 -- ---- What a test that decides A says of an answer that hangs on it
 
-chosen : (t : Bool) {A : Type 0} (v : ℕ) → Decides t A → A ↔ ((w : ℕ) × (pick t (word v) (refused 7) ≡ word w))
+chosen : (t : Bool) {A : Type 0} (v : ℕ) → Decides t A → A ↔ ((w : ℕ) × (pick t (word v) (write-refused 7) ≡ word w))
 chosen true v d = (λ h. (v, refl), λ h. d .0 refl)
-chosen false v d = (λ h. never (d .1 h), λ h. let e : refused 7 ≡ word (h .0) = h .1 in clash (cc))
+chosen false v d = (λ h. never (d .1 h), λ h. let e : write-refused 7 ≡ word (h .0) = h .1 in clash (cc))
 
-turned-away : (t : Bool) {A : Type 0} (v : ℕ) → Decides t A → (A → ⊥) ↔ (pick t (word v) (refused 7) ≡ refused 7)
+turned-away : (t : Bool) {A : Type 0} (v : ℕ) → Decides t A → (A → ⊥) ↔ (pick t (word v) (write-refused 7) ≡ write-refused 7)
 turned-away true v d = (λ n. absurd (n (d .0 refl)), λ e. clash (cc))
 turned-away false v d = (λ n. refl, λ e h. never (d .1 h))
 
-only-7 : (t : Bool) (v k : ℕ) → pick t (word v) (refused 7) ≡ refused k → k ≡ 7
+only-7 : (t : Bool) (v k : ℕ) → pick t (word v) (write-refused 7) ≡ write-refused k → k ≡ 7
 only-7 true v k e = clash (cc)
 only-7 false v k e = cc
 
@@ -36,7 +36,7 @@ only-7 false v k e = cc
 read-in-range : (w : ℕ) → w < 65536 → (r : Read) → readOf w ≡ r → (r ≡ unassigned → ⊥) → (i : Instruction) × (readOf w ≡ instruction i) × InRange i
 unfolding writeOf
 read-in-range w h (instruction i) e n =
-    (i, e, chosen (fits (sheet (i .kind)) i) _ (in-range i) .1 (_, read-then-written w h i e))
+    (i, e, chosen (fits (sheetLine (i .kind)) i) _ (in-range i) .1 (_, read-then-written w h i e))
 read-in-range w h unassigned e n = absurd (n refl)
 
 pub instructions : Instructions
@@ -47,7 +47,7 @@ instructions =
       assigned-words = λ w h n. read-in-range w h (readOf w) refl (λ e. n (unassigned-words w h .0 e));
       read-then-written = read-then-written;
       written-then-read = written-then-read;
-      written = λ i. chosen (fits (sheet (i .kind)) i) _ (in-range i);
-      refused-7 = λ i. turned-away (fits (sheet (i .kind)) i) _ (in-range i);
-      no-other = λ i k. only-7 (fits (sheet (i .kind)) i) _ k;
+      written = λ i. chosen (fits (sheetLine (i .kind)) i) _ (in-range i);
+      refused-7 = λ i. turned-away (fits (sheetLine (i .kind)) i) _ (in-range i);
+      no-other = λ i k. only-7 (fits (sheetLine (i .kind)) i) _ k;
     }

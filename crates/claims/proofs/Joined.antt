@@ -11,7 +11,7 @@ use borrow.Author.Tests.{ne-eqb, eqb-true, eqb-false}
 use Rattle.word.specs.Word.{pick}
 use Rattle.word.proofs.Tests.{never, is-true, either}
 use Rattle.word.proofs.Computed.{both, both-split}
-use Rattle.token.specs.Tokens.{Token, between, digit, letter, letterOrDigit, Row, last, then, IsToken, row, pointed, single, Divided, end, space, token}
+use Rattle.token.specs.Tokens.{Token, between, isDigit, isLetter, isLetterOrDigit, Alphanumeric, last, then, IsToken, alphanumeric, pointed, single, Divided, end, space, token}
 use Rattle.token.specs.Scan.{goesOn, joins}
 use Rattle.token.proofs.Scanning.{Over}
 use Rattle.token.proofs.Division.{some-byte, over-longest}
@@ -59,8 +59,8 @@ first-line s t e = joined-lines s (10 ∷ t) [] (lines t) e refl ∙ ap (λ (l :
 
 unfoldable pub row-test : Token → Bool
 row-test [] = false
-row-test (b ∷ []) = letterOrDigit b
-row-test (b ∷ c ∷ t) = both (letterOrDigit b) (row-test (c ∷ t))
+row-test (b ∷ []) = isLetterOrDigit b
+row-test (b ∷ c ∷ t) = both (isLetterOrDigit b) (row-test (c ∷ t))
 
 -- letters and digits, or a point and those
 unfoldable pub word-test : Token → Bool
@@ -73,21 +73,21 @@ plain t = both (word-test t) (leb (length t) 20)
 
 -- a byte that is a token whatever stands before or after it
 unfoldable pub dividing : ℕ → Bool
-dividing b = both (not (letterOrDigit b)) (both (not (eqb b 32)) (both (not (eqb b 46)) (both (not (eqb b 60)) (not (eqb b 10)))))
+dividing b = both (not (isLetterOrDigit b)) (both (not (eqb b 32)) (both (not (eqb b 46)) (both (not (eqb b 60)) (not (eqb b 10)))))
 
-row-tested : (t : Token) → T (row-test t) → Row t
+row-tested : (t : Token) → T (row-test t) → Alphanumeric t
 unfolding row-test
 row-tested [] h = absurd h
-row-tested (b ∷ []) h = last (is-true (letterOrDigit b) h)
+row-tested (b ∷ []) h = last (is-true (isLetterOrDigit b) h)
 row-tested (b ∷ c ∷ t) h =
-    let (x, y) = both-split (letterOrDigit b) (row-test (c ∷ t)) h in
-    then (is-true (letterOrDigit b) x) (row-tested (c ∷ t) y)
+    let (x, y) = both-split (isLetterOrDigit b) (row-test (c ∷ t)) h in
+    then (is-true (isLetterOrDigit b) x) (row-tested (c ∷ t) y)
 
-no-newline : (b : ℕ) → letterOrDigit b ≡ true → eqb b 10 ≡ false
-unfolding letterOrDigit digit letter between
-no-newline b h = ne-eqb b 10 (λ e. never (ap letterOrDigit (sym e) ∙ h))
+no-newline : (b : ℕ) → isLetterOrDigit b ≡ true → eqb b 10 ≡ false
+unfolding isLetterOrDigit isDigit isLetter between
+no-newline b h = ne-eqb b 10 (λ e. never (ap isLetterOrDigit (sym e) ∙ h))
 
-row-whole : {t : Token} → Row t → broken t ≡ false
+row-whole : {t : Token} → Alphanumeric t → broken t ≡ false
 unfolding broken
 row-whole (last {b} h) = rw (no-newline b h)
 row-whole (then {b} h r) = rw (no-newline b h) (row-whole r)
@@ -99,10 +99,10 @@ word-tested (b ∷ t) h = go (eqb b 46) refl h
   where
     go : (x : Bool) → eqb b 46 ≡ x → T (pick x (row-test t) (row-test (b ∷ t))) → IsToken (b ∷ t) × (broken (b ∷ t) ≡ false)
     go true e h = rw (eqb-true b 46 e) (pointed (row-tested t h), row-whole (row-tested t h))
-    go false e h = (row (row-tested (b ∷ t) h), row-whole (row-tested (b ∷ t) h))
+    go false e h = (alphanumeric (row-tested (b ∷ t) h), row-whole (row-tested (b ∷ t) h))
 
 record Dividing (b : ℕ) : Type 0 where
-  no-row : letterOrDigit b ≡ false
+  no-row : isLetterOrDigit b ≡ false
   no-space : eqb b 32 ≡ false
   no-point : eqb b 46 ≡ false
   no-shift : eqb b 60 ≡ false
@@ -111,7 +111,7 @@ record Dividing (b : ℕ) : Type 0 where
 divides : (b : ℕ) → T (dividing b) → Dividing b
 unfolding dividing
 divides b h =
-    let (r, x) = both-split (not (letterOrDigit b)) _ h in
+    let (r, x) = both-split (not (isLetterOrDigit b)) _ h in
     let (s, y) = both-split (not (eqb b 32)) _ x in
     let (p, z) = both-split (not (eqb b 46)) _ y in
     let (m, n) = both-split (not (eqb b 60)) _ z in
@@ -129,13 +129,13 @@ pub record Text (most : ℕ) (s : List ℕ) (ts : List Token) : Type 0 where
 abbrev pub Parted : List ℕ → Type 0
 Parted s = (t : Token) → Over t s
 
-parted : (b : ℕ) (s : List ℕ) → letterOrDigit b ≡ false → eqb b 60 ≡ false → Parted (b ∷ s)
+parted : (b : ℕ) (s : List ℕ) → isLetterOrDigit b ≡ false → eqb b 60 ≡ false → Parted (b ∷ s)
 unfolding joins goesOn
 parted b s r m [] = refl
 parted b s r m (c ∷ t) = rw (r, m)
 
 space-parted : (s : List ℕ) → Parted (32 ∷ s)
-unfolding letterOrDigit digit letter between
+unfolding isLetterOrDigit isDigit isLetter between
 space-parted s = parted 32 s refl refl
 
 pub mark-parted : (b : ℕ) (s : List ℕ) → T (dividing b) → Parted (b ∷ s)
@@ -146,7 +146,7 @@ unfolding joins goesOn
 over-dividing b [] d = tt
 over-dividing b (c ∷ s) d =
     rw (d .no-row, d .no-point, d .no-shift)
-    (either (λ x. x ≡ false) (letterOrDigit c) refl (either (λ x. x ≡ false) (eqb c 60) refl refl))
+    (either (λ x. x ≡ false) (isLetterOrDigit c) refl (either (λ x. x ≡ false) (eqb c 60) refl refl))
 
 pub nothing-there : Text 0 [] []
 unfolding broken

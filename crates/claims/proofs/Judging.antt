@@ -15,7 +15,7 @@ use Rattle.token.specs.Tokens.{Token}
 use Rattle.expression.specs.declared.Value.{Value}
 use Rattle.expression.specs.Operands.{Label, operandValue}
 use Rattle.expression.specs.Grammar.{Tree, valueOf}
-use Rattle.statement.specs.Syntax.{Parts, Statement, none, of-row, Line, IsLine, plain, labelled}
+use Rattle.statement.specs.Syntax.{Parts, Statement, no-statement, of-row, Line, IsLine, plain, labelled}
 use Rattle.statement.specs.Reading.{ReadLine, outside, reads, valued, valuedParts, valuedStatement}
 use Rattle.encoding.specs.Words.{encoded, stated, Judged, bad, nothing, gives}
 use Rattle.assembler.specs.Text.{textLines, Place, start, given, crowded, admitted, namesFrom, repeated, judged}
@@ -97,11 +97,11 @@ module _ (text : List ℕ) (k : ℕ) where
   module _ (l : Line Tree) (read : Reads (lineAt text k) l) (whole : Last text k → ⊥) where
     -- every name in it is known, and its value fits
     abbrev Known : Statement Tree → Type 0
-    Known none = Unit
+    Known no-statement = Unit
     Known (of-row i p) = value (p .n) .known ≡ true
 
     abbrev Fitting : Statement Tree → Type 0
-    Fitting none = Unit
+    Fitting no-statement = Unit
     Fitting (of-row i p) = Fits i (place .address) (value (p .n) .word)
 
     -- no number holds where none of its conditions does
@@ -135,7 +135,7 @@ module _ (text : List ℕ) (k : ℕ) where
     module _ (c : crowded place (l .label) ≡ false) (d : repeated place (l .label) ≡ false) where
       statement-rightly : (s : Statement Tree) → l .statement ≡ s → Sized s → Rightly (Bad text k) (stated (place .address) (valuedStatement value s))
       unfolding stated valuedStatement valuedParts
-      statement-rightly none e o = λ q. refuted {q = q} (λ f. c, λ f. d, λ f. subst Known (sym e) tt, λ f. subst Fitting (sym e) tt)
+      statement-rightly no-statement e o = λ q. refuted {q = q} (λ f. c, λ f. d, λ f. subst Known (sym e) tt, λ f. subst Fitting (sym e) tt)
       statement-rightly (of-row i p) e o = go (value (p .n) .known) refl (encodes i (place .address) (valuedParts value p) o)
         where
           go : (b : Bool) → value (p .n) .known ≡ b → Encodes i (place .address) (valuedParts value p)

@@ -6,7 +6,7 @@ use mathlib.Core.List.{List, []}
 use Prim.Native.Nat.{ℕ, _+_, _%_}
 use lib.Dec.{leb}
 use lib.ListN.{length, set, length-set}
-use Rattle.refusal.specs.Refusals.{Verdict, accepted, refused as turned-away}
+use Rattle.refusal.specs.Refusals.{Verdict, accepted, refused}
 use Rattle.word.specs.Word.{pick}
 use Rattle.machine.specs.Machine.{Machine}
 use Rattle.machine.specs.Step.{PC, to}
@@ -34,9 +34,9 @@ module _ (h : Host) (f : Fit (machineOn h [])) where
 
   run-fits : (lent : Lent) (v : Verdict) → Fit (machineOn (afterRun (countedBy byRules v (givenTo h lent) .left)) [])
   run-fits lent accepted = run-keeps Fit step-fits (lent .budget) (0 + length (lent .log)) (machineOn h []) f
-  run-fits lent (turned-away k) = f
+  run-fits lent (refused k) = f
 
-  only : (lent : Lent) → verdictOn (givenTo h lent) ≡ pick (leb (h .state .n + lent .budget) 4294967295) accepted (turned-away 6)
+  only : (lent : Lent) → verdictOn (givenTo h lent) ≡ pick (leb (h .state .n + lent .budget) 4294967295) accepted (refused 6)
   unfolding verdict
   only lent =
       let p : length (h .P) ≡ 65536 = ap (λ x. x .0) (f .0) in
@@ -45,7 +45,7 @@ module _ (h : Host) (f : Fit (machineOn h [])) where
       let o : length (h .O) ≡ 256 = ap (λ x. x .3) (f .0) in
       rw (p, d, i, o, f .1)
 
-  run-only : (lent : Lent) (t : Bool) → Only6 (told (countedBy byRules (pick t accepted (turned-away 6)) (givenTo h lent)))
+  run-only : (lent : Lent) (t : Bool) → Only6 (told (countedBy byRules (pick t accepted (refused 6)) (givenTo h lent)))
   run-only lent true = tt
   run-only lent false = refl
 
@@ -53,7 +53,7 @@ module _ (h : Host) (f : Fit (machineOn h [])) where
   unfolding countedLeft
   run-both lent =
       subst (λ v. let x = countedBy byRules v (givenTo h lent) in Only6 (told x) × Fit (machineOn (afterRun (x .left)) [])) (sym (only lent))
-      (let t = leb (h .state .n + lent .budget) 4294967295 in (run-only lent t, run-fits lent (pick t accepted (turned-away 6))))
+      (let t = leb (h .state .n + lent .budget) 4294967295 in (run-only lent t, run-fits lent (pick t accepted (refused 6))))
 
   -- ---- A setting
 

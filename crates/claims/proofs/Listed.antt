@@ -12,10 +12,10 @@ use borrow.Author.Tests.{le-ltb, eq-eqb}
 use Rattle.word.proofs.Tests.{clash}
 use Rattle.token.specs.Scan.{ended, scan, tokens}
 use Rattle.expression.specs.Grammar.{Tree}
-use Rattle.statement.specs.Syntax.{Statement, none, of-row, Line, line}
+use Rattle.statement.specs.Syntax.{Statement, no-statement, of-row, Line, line}
 use Rattle.statement.specs.Reading.{ReadLine, reads, statementOf, lineBy, lineOf, valuedStatement, valued}
 use Rattle.encoding.specs.Words.{wordsIn, gives, stated}
-use Rattle.assembler.specs.Text.{lines, readings, textLines, Place, namesFrom, newLabels, crowded, admitted, after, repeated, judged, verdicts, textVerdicts, wordsOf, words, replyFrom, stored, leftBy, assembleLeft}
+use Rattle.assembler.specs.Text.{lines, readings, textLines, Place, namesFrom, newLabels, crowded, admitted, after, repeated, judged, verdicts, textVerdicts, wordsOf, words, replyFrom, stored, assembleLeftBy, assembleLeft}
 use Rattle.claims.specs.Assembly.{Reads}
 use Rattle.claims.proofs.Readings.{found}
 use Rattle.claims.proofs.Joined.{broken}
@@ -38,7 +38,7 @@ pub record Gives (address : ℕ) (s : List ℕ) (w : ℕ) : Type 0 where
 -- what gives a word is a statement
 one-word : (p : Place) (s : Statement Tree) (w : ℕ) → judged p (valued worth (reads (line [] s))) ≡ gives w → wordsIn s ≡ 1
 unfolding judged valued repeated valuedStatement stated wordsIn
-one-word p none w e = clash (cc)
+one-word p no-statement w e = clash (cc)
 one-word p (of-row k q) w e = refl
 
 plain-line : (p : Place) (l : Line Tree) → l .label ≡ [] → admitted p (reads l) ≡ reads l
@@ -108,7 +108,7 @@ text-read text h =
 
 pub assembled : (text program ws : List ℕ) → Lines 0 (lines text) ws → length text ≤ 65536 → length program ≡ 65536
     → assembleLeft text program ≡ record { reply = words (length ws); program = stored ws program }
-unfolding assembleLeft textVerdicts leftBy
+unfolding assembleLeft textVerdicts assembleLeftBy
 assembled text program ws g h m =
     let c = come g in
     rw (eq-eqb (length program) 65536 m, text-read text h, c .no-names, c .count 1 0, c .their-words, zero-add (length ws))

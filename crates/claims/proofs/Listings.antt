@@ -9,14 +9,14 @@ use lib.Dec.{ltb}
 use lib.ListN.{length, getD, drop, drop-of-length-le}
 use lib.Seq.{drop-cons, take-append-seam}
 use borrow.Author.Tests.{ltb-true, ltb-false}
-use Rattle.printing.specs.Text.{held}
+use Rattle.printing.specs.Text.{inArray}
 use Rattle.listing.specs.declared.Line.{Line}
-use Rattle.listing.specs.File.{listing, lineAt}
+use Rattle.listing.specs.File.{listing, listedLine}
 use Rattle.claims.specs.Listings.{bytesOf, writtenFrom, Listings}
 
-module _ (lines : List (List ℕ)) (line : ℕ → Line) (is : (k : ℕ) → line k ≡ lineAt lines k) where
+module _ (lines : List (List ℕ)) (line : ℕ → Line) (is : (k : ℕ) → line k ≡ listedLine lines k) where
   bytes-are : (k : ℕ) → bytesOf (line k) ≡ getD lines k []
-  unfolding held
+  unfolding inArray
   bytes-are k = ap bytesOf (is k) ∙ take-append-seam (getD lines k []) _
 
   none-left : (k : ℕ) → length lines ≤ k → [] ≡ flatten (drop k lines)

@@ -17,11 +17,11 @@ use Rattle.muldiv.specs.Muldiv.{div}
 use Rattle.kinds.specs.declared.Kind.{Kind}
 use Rattle.kinds.specs.declared.Kind.the-variants.{Sha, Shl, Cmplt, Cmpltu, Ldb, Bz, Div}
 use Rattle.isa.specs.declared.Instruction.{Instruction}
-use Rattle.isa.specs.Sheet.{kindAt, sheet}
+use Rattle.isa.specs.Sheet.{kindAt, sheetLine}
 use Rattle.isa.specs.Instructions.{readOf, writeOf}
 use Rattle.machine.specs.Machine.{Machine, count, onState, wordAt}
 use Rattle.machine.specs.Step.{PC, write, jump, Rule, addi, ld, jalr, bnz, movi, movhi, rule, choice, cannot, to, stepBy, step}
-use Rattle.claims.specs.Instructions.{Register, InRange}
+use Rattle.claims.specs.Instructions.{RegisterRange, InRange}
 use Rattle.claims.specs.Rules.{r, SE-n, done, effect, stepAs}
 use Rattle.claims.specs.Marked.{registers, Steps, Does, Gives, Marked}
 use Rattle.claims.proofs.Instructions.{instructions}
@@ -42,7 +42,7 @@ there : (rs : List ℕ) (k : ℕ) {v u : ℕ} → length rs ≡ 8 → k < 8 → 
 there rs k {v} l h e = getD-set-same rs k v 0 (omega arith) ∙ e
 
 -- a register, used or not, is one of the eight
-few : (p : Bits) (x : ℕ) → Register p x → x < 8
+few : (p : Bits) (x : ℕ) → RegisterRange p x → x < 8
 few p x = go (eqb (p .count) 0)
   where
     go : (t : Bool) → pick t (x ≡ 0) (x < 8) → x < 8
@@ -53,7 +53,7 @@ few p x = go (eqb (p .count) 0)
 gives : (k : Kind) (g : ℕ → ℕ → ℕ) {x y v : ℕ} → ((m : Machine) (d a b : ℕ) → r m b ≡ y → effect k a b d (pos 0) m ≡ done (write d (g (r m a) (r m b)) m)) → g x y ≡ v → Gives k x y v
 gives k g s e m d a b p q =
     by-sheet (registers k d a b) m (s (jump (add (PC m) 2) m) d a b q)
-    (λ i l. there (m .state .r) d l (few (sheet k .format .d) d (i .d)) (ap₂ g p q ∙ e))
+    (λ i l. there (m .state .r) d l (few (sheetLine k .format .d) d (i .d)) (ap₂ g p q ∙ e))
 
 pub marked : Marked
 unfolding readOf writeOf kindAt signed lowBits SE shifted choice addi ld jalr bnz movi movhi

@@ -5,7 +5,7 @@ use mathlib.Core.Path.{_≡_, refl, sym, ap, _∙_}
 use mathlib.Core.List.{List, [], _∷_}
 use lib.ListN.{getD}
 use Rattle.word.proofs.Tests.{never, either}
-use Rattle.token.specs.Tokens.{Token, digit}
+use Rattle.token.specs.Tokens.{Token, isDigit}
 use Rattle.token.specs.Scan.{alike}
 use Rattle.token.proofs.Alike.{alike-refl, alike-same}
 use Rattle.expression.specs.declared.Value.{Value}
@@ -40,11 +40,11 @@ unnamed-unknown names w n = go (nameValue names w .known) refl
 -- ---- Expressions
 
 -- an operand is a literal, which is known, or a name
-literal-known : (names : List Label) (w : Token) → digit (getD w 0 0) ≡ true → operandValue names w .known ≡ true
+literal-known : (names : List Label) (w : Token) → isDigit (getD w 0 0) ≡ true → operandValue names w .known ≡ true
 unfolding operandValue
 literal-known names w d = rw d
 
-by-name : (names : List Label) (w : Token) → digit (getD w 0 0) ≡ false → operandValue names w .known ≡ nameValue names w .known
+by-name : (names : List Label) (w : Token) → isDigit (getD w 0 0) ≡ false → operandValue names w .known ≡ nameValue names w .known
 unfolding operandValue
 by-name names w d = rw d
 
@@ -65,9 +65,9 @@ module _ (names : List Label) where
 
   pub unknown-uses : (t : Tree) → known t ≡ false → Unnamed t
   unfolding valueOf operated negatedValue
-  unknown-uses (operand w) e = go (digit (getD w 0 0)) refl
+  unknown-uses (operand w) e = go (isDigit (getD w 0 0)) refl
     where
-      go : (b : Bool) → digit (getD w 0 0) ≡ b → Unnamed (operand w)
+      go : (b : Bool) → isDigit (getD w 0 0) ≡ b → Unnamed (operand w)
       go true d = never (sym e ∙ literal-known names w d)
       go false d = (w, the-name d, unknown-unnamed names w (sym (by-name names w d) ∙ e))
   unknown-uses (negation t) e = let (w, u, n) = unknown-uses t e in (w, negated u, n)

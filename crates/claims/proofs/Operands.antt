@@ -15,8 +15,8 @@ use Rattle.word.specs.Word.{subtract, signed, lowBits}
 use Rattle.word.proofs.Tests.{is-true}
 use Rattle.word.proofs.Computed.{both, both-split, all, all-at}
 use Rattle.token.specs.Ascii.{ascii}
-use Rattle.token.specs.Tokens.{Token, between, digit, letter, letterOrDigit}
-use Rattle.printing.specs.Text.{digit as digitByte, digits, decimal, hex4}
+use Rattle.token.specs.Tokens.{Token, between, isDigit, isLetter, isLetterOrDigit}
+use Rattle.printing.specs.Text.{digit, digits, decimal, hex4}
 use Rattle.expression.specs.declared.Value.{Value}
 use Rattle.expression.specs.Operands.{digitOf, allDigits, numeral, hexed, isLiteral, literalWord, isOperand, operandValue, negated}
 use Rattle.expression.specs.Grammar.{Tree, operand, negation, valueOf, Expression, single, unary-minus, tighter}
@@ -30,36 +30,36 @@ use Rattle.claims.proofs.Joined.{is-false, row-test, word-test, plain, 
 -- the token t is a literal of value v
 record Literal (t : Token) (v : ℕ) : Type 0 where
   token : T (plain t)
-  first : digit (getD t 0 0) ≡ true
+  first : isDigit (getD t 0 0) ≡ true
   is : isOperand t ≡ true
   value : literalWord t ≡ v
 
 -- x in decimal
 decimal-test : ℕ → Bool
-decimal-test x = both (plain (decimal x)) (both (digit (getD (decimal x) 0 0)) (both (isOperand (decimal x)) (eqb (literalWord (decimal x)) x)))
+decimal-test x = both (plain (decimal x)) (both (isDigit (getD (decimal x) 0 0)) (both (isOperand (decimal x)) (eqb (literalWord (decimal x)) x)))
 
 decimal-literal : (x : ℕ) → x < 257 → Literal (decimal x) x
-unfolding all decimal-test plain row-test word-test digit letterOrDigit letter between decimal digits digitByte isOperand isLiteral hexed allDigits digitOf literalWord numeral
+unfolding all decimal-test plain row-test word-test isDigit isLetterOrDigit isLetter between decimal digits digit isOperand isLiteral hexed allDigits digitOf literalWord numeral
 decimal-literal x h =
     let (p, q) = both-split (plain (decimal x)) _ (all-at 257 decimal-test tt x h) in
-    let (d, r) = both-split (digit (getD (decimal x) 0 0)) _ q in
+    let (d, r) = both-split (isDigit (getD (decimal x) 0 0)) _ q in
     let (o, e) = both-split (isOperand (decimal x)) _ r in
     record { token = p; first = is-true _ d; is = is-true _ o; value = eqb→eq _ _ e }
 
 -- a hexadecimal digit
 hex-test : ℕ → Bool
-hex-test d = both (letterOrDigit (digitByte d)) (eqb (digitOf (digitByte d)) d)
+hex-test d = both (isLetterOrDigit (digit d)) (eqb (digitOf (digit d)) d)
 
-hex-digit : (d : ℕ) → d < 16 → (letterOrDigit (digitByte d) ≡ true) × (digitOf (digitByte d) ≡ d)
-unfolding all hex-test digit letterOrDigit letter between digitByte digitOf
+hex-digit : (d : ℕ) → d < 16 → (isLetterOrDigit (digit d) ≡ true) × (digitOf (digit d) ≡ d)
+unfolding all hex-test isDigit isLetterOrDigit isLetter between digit digitOf
 hex-digit d h =
-    let (l, e) = both-split (letterOrDigit (digitByte d)) _ (all-at 16 hex-test tt d h) in
+    let (l, e) = both-split (isLetterOrDigit (digit d)) _ (all-at 16 hex-test tt d h) in
     (is-true _ l, eqb→eq _ _ e)
 
 -- four of them
 hex-literal : (v x y z w : ℕ) → x < 16 → y < 16 → z < 16 → w < 16 → v < 65536 → ((x * 16 + y) * 16 + z) * 16 + w ≡ v
-    → Literal (ascii "0x" ++ (digitByte x ∷ digitByte y ∷ digitByte z ∷ digitByte w ∷ [])) v
-unfolding plain row-test word-test digit letterOrDigit letter between isOperand isLiteral hexed allDigits literalWord numeral
+    → Literal (ascii "0x" ++ (digit x ∷ digit y ∷ digit z ∷ digit w ∷ [])) v
+unfolding plain row-test word-test isDigit isLetterOrDigit isLetter between isOperand isLiteral hexed allDigits literalWord numeral
 hex-literal v x y z w hx hy hz hw h e =
     let (lx, dx) = hex-digit x hx in
     let (ly, dy) = hex-digit y hy in
@@ -109,7 +109,7 @@ literal-means t v l =
     }
 
 negative-means : (t : Token) (v : ℕ) → Literal t v → Means (45 ∷ t) (subtract 0 v)
-unfolding valueOf negated operandValue dividing letterOrDigit letter digit between
+unfolding valueOf negated operandValue dividing isLetterOrDigit isLetter isDigit between
 negative-means t v l =
     record {
       tokens = ascii "-" ∷ t ∷ [];
@@ -223,5 +223,5 @@ operand-stands address f n h = stands address f n _ (valueIn address f n) (opera
 
 -- where no operand stands, n is 0
 pub blank-stands : (address : ℕ) → Stands address number (pos 0) (operand (ascii "0"))
-unfolding valueOf operandValue literalWord hexed numeral digitOf digit between odd numberOf signed
+unfolding valueOf operandValue literalWord hexed numeral digitOf isDigit between odd numberOf signed
 blank-stands address = stands address number (pos 0) (operand (ascii "0")) 0 refl (refl, refl)

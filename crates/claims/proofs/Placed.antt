@@ -16,13 +16,13 @@ use Rattle.word.proofs.Tests.{clash}
 use Rattle.kinds.specs.declared.Kind.the-variants.{And}
 use Rattle.kinds.specs.Kinds.{kinds}
 use Rattle.isa.specs.declared.Instruction.{Instruction}
-use Rattle.isa.specs.Instructions.{Written, word, refused, writeOf}
+use Rattle.isa.specs.Instructions.{WriteReply, word, write-refused, writeOf}
 use Rattle.machine.specs.Machine.{wordAt}
 use Rattle.token.specs.Tokens.{between}
 use Rattle.expression.specs.declared.Value.{Value}
 use Rattle.expression.specs.Operands.{Label, operandValue}
 use Rattle.expression.specs.Grammar.{Tree, valueOf}
-use Rattle.statement.specs.Syntax.{Field, number, eight-bits, target, table, rowAt, Parts, Statement, none, of-row, Line}
+use Rattle.statement.specs.Syntax.{Field, number, eight-bits, target, table, rowAt, Parts, Statement, no-statement, of-row, Line}
 use Rattle.statement.specs.Reading.{ReadLine, outside, reads, valuedParts, valuedStatement, valued}
 use Rattle.encoding.specs.Words.{wordsIn, distance, odd, numberOf, Judged, bad, nothing, gives, written, encoded, stated}
 use Rattle.assembler.specs.Text.{Place, crowded, admitted, after, repeated, judged, verdicts, wordsOf, bytesOf, stored}
@@ -66,15 +66,15 @@ stands target address v e =
 -- ---- The word of a statement
 
 -- what is written is a word, where it is not turned away
-was-written : (r : Written) (w : ℕ) → written r ≡ gives w → r ≡ word w
+was-written : (r : WriteReply) (w : ℕ) → written r ≡ gives w → r ≡ word w
 unfolding written
 was-written (word v) w e = cc
-was-written (refused k) w e = clash (cc)
+was-written (write-refused k) w e = clash (cc)
 
-writes : (r : Written) → Fine (written r) → (w : ℕ) × (written r ≡ gives w)
+writes : (r : WriteReply) → Fine (written r) → (w : ℕ) × (written r ≡ gives w)
 unfolding written
 writes (word w) f = (w, refl)
-writes (refused k) f = absurd f
+writes (write-refused k) f = absurd f
 
 pub word-of : (value : Tree → Value) (q address w : ℕ) (p : Parts Tree) → q < length table → encoded q address (valuedParts value p) ≡ gives w
     → WordOf q address (value (p .n) .word) p w
@@ -105,7 +105,7 @@ module _ (address q : ℕ) (p : Parts Value) where
   unfolding encoded
   encodes = go (eqb q (length kinds)) (odd (rowAt q .field) address (p .n .word)) _
     where
-      go : (a b : Bool) (r : Written) → Fine (pick a (gives (p .n .word)) (pick b (bad 12) (written r)))
+      go : (a b : Bool) (r : WriteReply) → Fine (pick a (gives (p .n .word)) (pick b (bad 12) (written r)))
           → (w : ℕ) × (pick a (gives (p .n .word)) (pick b (bad 12) (written r)) ≡ gives w)
       go true b r f = (p .n .word, refl)
       go false true r f = absurd f
@@ -154,7 +154,7 @@ module _ (value : Tree → Value) (p : Place) where
       passed j e n = ap (λ (x : ReadLine Tree). after p x .address) (by-statement l f .0) ∙ rw (e, n)
 
       go : (s : Statement Tree) → l .statement ≡ s → after p (admitted p (reads l)) .address ≡ p .address + 2 * length (wordsOf (verdict (reads l) ∷ []))
-      go none e = passed nothing (by-statement l f .1 ∙ rw e) (rw e)
+      go no-statement e = passed nothing (by-statement l f .1 ∙ rw e) (rw e)
       go (of-row q r) e = let (w, x, y) = line-word l q r e f in passed (gives w) x (rw e)
 
 -- ---- The words of lines

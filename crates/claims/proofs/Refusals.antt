@@ -11,9 +11,9 @@ use Rattle.word.proofs.Tests.{clash}
 use Rattle.machine.specs.Run.{Stepper}
 use Rattle.machine.specs.Lengths.{lengthsFit}
 use Rattle.panel.specs.Calls.{SetGiven, SetLeft, setLeft}
-use Rattle.image.specs.Image.{W, programOffset, C, dataOffset, LoadGiven, fileReply, loadReply, leftBy as load-leftBy, loadLeft}
+use Rattle.image.specs.Image.{W, programOffset, C, dataOffset, LoadGiven, fileReply, loadReply, loadLeftBy, loadLeft}
 use Rattle.usage.specs.Usage.{unused}
-use Rattle.run.specs.Runs.{Given, stopped, refused as run-refused, verdict, verdictOn, leftBy as run-leftBy, runLeft, countedBy, countedLeft}
+use Rattle.run.specs.Runs.{Given, stopped, run-refused, verdict, verdictOn, runLeftBy, runLeft, countedBy, countedLeft}
 use Rattle.run.proofs.Uncounted.{uncounted}
 use Rattle.claims.specs.Refusals.{Lengths, LoadRefusals, SetRefusals, RunRefusals, Refusals}
 use Rattle.claims.proofs.Decides.{Fails, fails-eq, fails-le, fails-and, decides-eq, decides-stable}
@@ -40,8 +40,8 @@ module _ (g : LoadGiven) where
       record {
         accepted = accepted;
         refused = refused;
-        Accepts = λ v. load-leftBy v g .reply ≡ accepted;
-        Gives = λ v k. load-leftBy v g .reply ≡ refused k;
+        Accepts = λ v. loadLeftBy v g .reply ≡ accepted;
+        Gives = λ v k. loadLeftBy v g .reply ≡ refused k;
         accepts = refl;
         gives = λ k. refl;
         no-number = λ k e. clash (cc);
@@ -69,7 +69,7 @@ module _ (g : LoadGiven) where
         number-4 = flat4 (number load-replies load-tests 0 4 refl);
         accepts = flat4 (none load-replies load-tests);
         no-other = λ k e. one-of load-replies load-tests k e .0;
-        nothing-changes = λ k e. ap (λ v. load-leftBy v g) (one-of load-replies load-tests k e .1);
+        nothing-changes = λ k e. ap (λ v. loadLeftBy v g) (one-of load-replies load-tests k e .1);
       }
 
 -- ---- Set
@@ -111,8 +111,8 @@ module _ (v : Stepper) (g : Given) where
       record {
         accepted = accepted;
         refused = refused;
-        Accepts = λ x. (q : ℕ) × (s : ℕ) × (k : ℕ) × (run-leftBy v x g .reply ≡ stopped q s k);
-        Gives = λ x k. run-leftBy v x g .reply ≡ run-refused k;
+        Accepts = λ x. (q : ℕ) × (s : ℕ) × (k : ℕ) × (runLeftBy v x g .reply ≡ stopped q s k);
+        Gives = λ x k. runLeftBy v x g .reply ≡ run-refused k;
         accepts = (_, _, _, refl);
         gives = λ k. refl;
         no-number = λ k e. clash (cc);
@@ -126,7 +126,7 @@ module _ (v : Stepper) (g : Given) where
       then at 5 (fails-eq (g .state .pc % 2) 0)
       then last (at 6 (fails-le (g .state .n + g .budget) 4294967295))
 
-  no-counts : (x : Verdict) (k : ℕ) → run-leftBy v x g .reply ≡ run-refused k → countedBy v x g .usage ≡ unused
+  no-counts : (x : Verdict) (k : ℕ) → runLeftBy v x g .reply ≡ run-refused k → countedBy v x g .usage ≡ unused
   no-counts accepted k e = clash (cc)
   no-counts (refused j) k e = refl
 
@@ -139,7 +139,7 @@ module _ (v : Stepper) (g : Given) where
         number-6 = flat3 (number run-replies run-tests 0 6 refl);
         accepts = flat3 (none run-replies run-tests);
         no-other = λ k e. one-of run-replies run-tests k e .0;
-        nothing-changes = λ k e. ap (λ x. run-leftBy v x g) (one-of run-replies run-tests k e .1);
+        nothing-changes = λ k e. ap (λ x. runLeftBy v x g) (one-of run-replies run-tests k e .1);
         without-counts = uncounted v g refl;
         no-counts = no-counts (verdictOn g);
       }

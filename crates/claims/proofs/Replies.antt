@@ -10,7 +10,7 @@ use Rattle.expression.specs.Operands.{Label, operandValue}
 use Rattle.expression.specs.Grammar.{Tree, valueOf}
 use Rattle.statement.specs.Reading.{ReadLine, outside, valued}
 use Rattle.encoding.specs.Words.{Judged, bad, nothing, gives}
-use Rattle.assembler.specs.Text.{Place, admitted, after, judged, verdicts, wordsOf, words, turned-away, replyFrom}
+use Rattle.assembler.specs.Text.{Place, admitted, after, judged, verdicts, wordsOf, words, text-refused, replyFrom}
 use Rattle.claims.specs.Assembly.{placeOf}
 
 -- not turned away
@@ -41,7 +41,7 @@ next-fine j js f a (suc i) = a i
 
 -- the lines are numbered from k, and n words came before
 abbrev pub Turned : ℕ → ℕ → List Judged → Type 0
-Turned k n js = (i : ℕ) × (r : ℕ) × FirstBad js i r × (replyFrom k n js ≡ turned-away (k + i) r)
+Turned k n js = (i : ℕ) × (r : ℕ) × FirstBad js i r × (replyFrom k n js ≡ text-refused (k + i) r)
 
 abbrev pub Counted : ℕ → ℕ → List Judged → Type 0
 Counted k n js = ((i : ℕ) → Fine (getD js i nothing)) × (replyFrom k n js ≡ words (n + length (wordsOf js)))
@@ -53,7 +53,7 @@ onward :
 onward j js k n m f e c (inl t) =
     let (i, r, b, q) = t in
     let s : suc k + i ≡ k + suc i = omega arith in
-    inl (suc i, r, next-bad j js i r f b, e ∙ q ∙ ap (λ (x : ℕ). turned-away x r) s)
+    inl (suc i, r, next-bad j js i r f b, e ∙ q ∙ ap (λ (x : ℕ). text-refused x r) s)
 onward j js k n m f e c (inr t) = inr (next-fine j js f (t .0), e ∙ t .1 ∙ ap words (sym c))
 
 pub replied : (k n : ℕ) (js : List Judged) → Turned k n js ⊎ Counted k n js
@@ -61,7 +61,7 @@ unfolding replyFrom wordsOf
 replied k n [] = let e : n ≡ n + 0 = omega arith in inr (λ i. tt, ap words e)
 replied k n (bad r ∷ js) =
     let e : k ≡ k + 0 = omega arith in
-    inl (0, r, record { inside = omega arith; there = refl; before = λ j h. absurd (omega arith) }, ap (λ (x : ℕ). turned-away x r) e)
+    inl (0, r, record { inside = omega arith; there = refl; before = λ j h. absurd (omega arith) }, ap (λ (x : ℕ). text-refused x r) e)
 replied k n (nothing ∷ js) = onward nothing js k n n tt refl refl (replied (suc k) n js)
 replied k n (gives w ∷ js) = onward (gives w) js k n (suc n) tt refl (omega arith) (replied (suc k) (suc n) js)
 

@@ -17,13 +17,13 @@ use Rattle.word.proofs.Computed.{both, both-split, all}
 use Rattle.kinds.specs.declared.Kind.{Kind}
 use Rattle.kinds.specs.Kinds.{kindNumber}
 use Rattle.isa.specs.declared.Instruction.{Instruction}
-use Rattle.isa.specs.Sheet.{Number, signed-n, unsigned-n, Line as SheetLine, sheet}
+use Rattle.isa.specs.Sheet.{Number, signed-n, unsigned-n, Line as SheetLine, sheetLine}
 use Rattle.isa.specs.Instructions.{registerPart, Register, a-register, b-register, d-register, inRange, fits}
 use Rattle.isa.proofs.Every.{every}
 use Rattle.token.specs.Ascii.{ascii}
-use Rattle.token.specs.Tokens.{between, digit, letter, letterOrDigit}
+use Rattle.token.specs.Tokens.{between, isDigit, isLetter, isLetterOrDigit}
 use Rattle.expression.specs.Grammar.{operand}
-use Rattle.statement.specs.Syntax.{Item, register, mark, N, Field, number, eight-bits, target, rowAt}
+use Rattle.statement.specs.Syntax.{Item, register, punctuation, N, Field, number, eight-bits, target, rowAt}
 use Rattle.claims.proofs.Joined.{row-test, word-test, plain, dividing}
 use Rattle.claims.proofs.Operands.{Near, limit, Stands, blank-stands}
 
@@ -101,27 +101,27 @@ is-same d-register d-register = true
 abbrev pub names : Register → List Item → Bool
 names r [] = false
 names r (register s ∷ is) = pick (is-same r s) true (names r is)
-names r (mark m ∷ is) = names r is
+names r (punctuation m ∷ is) = names r is
 names r (N ∷ is) = names r is
 
 abbrev pub numbered : List Item → Bool
 numbered [] = false
 numbered (register s ∷ is) = numbered is
-numbered (mark m ∷ is) = numbered is
+numbered (punctuation m ∷ is) = numbered is
 numbered (N ∷ is) = true
 
 -- a mark stands there, or nothing
 abbrev pub marked : List Item → Bool
 marked [] = true
 marked (register s ∷ is) = false
-marked (mark m ∷ is) = true
+marked (punctuation m ∷ is) = true
 marked (N ∷ is) = false
 
 -- a mark divides, and stands after each register and N but the last
 abbrev pub laid : List Item → Bool
 laid [] = true
 laid (register s ∷ is) = both (marked is) (laid is)
-laid (mark m ∷ is) = both (dividing m) (laid is)
+laid (punctuation m ∷ is) = both (dividing m) (laid is)
 laid (N ∷ is) = both (marked is) (laid is)
 
 abbrev pub itemsOf : Kind → List Item
@@ -131,10 +131,10 @@ abbrev pub fieldOf : Kind → Field
 fieldOf k = rowAt (kindNumber k) .field
 
 abbrev aboveOf : Kind → ℕ
-aboveOf k = above (sheet k .number) (sheet k .format .n)
+aboveOf k = above (sheetLine k .number) (sheetLine k .format .n)
 
 abbrev belowOf : Kind → ℕ
-belowOf k = below (sheet k .number) (sheet k .format .n)
+belowOf k = below (sheetLine k .number) (sheetLine k .format .n)
 
 abbrev plainField : Field → Bool
 plainField number = true
@@ -142,11 +142,11 @@ plainField eight-bits = false
 plainField target = false
 
 pub mnemonic-plain : (k : Kind) → T (plain (rowAt (kindNumber k) .mnemonic))
-unfolding all plain word-test row-test letterOrDigit letter digit between
+unfolding all plain word-test row-test isLetterOrDigit isLetter isDigit between
 mnemonic-plain k = every (λ k. plain (rowAt (kindNumber k) .mnemonic)) tt k
 
 pub items-laid : (k : Kind) → T (laid (itemsOf k))
-unfolding all dividing letterOrDigit letter digit between
+unfolding all dividing isLetterOrDigit isLetter isDigit between
 items-laid k = every (λ k. laid (itemsOf k)) tt k
 
 pub few-items : (k : Kind) → length (itemsOf k) ≤ 6
@@ -155,7 +155,7 @@ few-items k = leb→le _ _ (every (λ k. leb (length (itemsOf k)) 6) tt k)
 
 -- a register has at most 8 values, and one where it does not stand in the row
 register-test : Register → Kind → Bool
-register-test r k = both (leb (sizeOf (sheet k) r) 8) (pick (names r (itemsOf k)) true (leb (sizeOf (sheet k) r) 1))
+register-test r k = both (leb (sizeOf (sheetLine k) r) 8) (pick (names r (itemsOf k)) true (leb (sizeOf (sheetLine k) r) 1))
 
 registers-tested : (r : Register) (k : Kind) → T (register-test r k)
 unfolding all register-test
@@ -187,28 +187,28 @@ plain-blank address number h = blank-stands address
 plain-blank address eight-bits h = absurd h
 plain-blank address target h = absurd h
 
-module _ (i : Instruction) (e : fits (sheet (i .kind)) i ≡ true) where
+module _ (i : Instruction) (e : fits (sheetLine (i .kind)) i ≡ true) where
   abbrev k : Kind
   k = i .kind
 
   pub small : (r : Register) → registerPart i r < 8
   unfolding register-test
   small r =
-      let (x, y) = both-split (leb (sizeOf (sheet k) r) 8) _ (registers-tested r k) in
-      omega (arith, leb→le (sizeOf (sheet k) r) 8 x, register-fits (sheet k) i e r)
+      let (x, y) = both-split (leb (sizeOf (sheetLine k) r) 8) _ (registers-tested r k) in
+      omega (arith, leb→le (sizeOf (sheetLine k) r) 8 x, register-fits (sheetLine k) i e r)
 
   pub absent : (r : Register) → names r (itemsOf k) ≡ false → 0 ≡ registerPart i r
   unfolding register-test
   absent r n =
-      let (x, y) = both-split (leb (sizeOf (sheet k) r) 8) _ (registers-tested r k) in
-      omega (arith, leb→le (sizeOf (sheet k) r) 1 (other (names r (itemsOf k)) _ n y), register-fits (sheet k) i e r)
+      let (x, y) = both-split (leb (sizeOf (sheetLine k) r) 8) _ (registers-tested r k) in
+      omega (arith, leb→le (sizeOf (sheetLine k) r) 1 (other (names r (itemsOf k)) _ n y), register-fits (sheetLine k) i e r)
 
   pub near : Near (limit (fieldOf k)) (i .n)
   unfolding number-test
   near =
       let (x, y) = both-split (leb (aboveOf k) (limit (fieldOf k))) _ (numbers-tested k) in
       let (z, w) = both-split (leb (belowOf k) 128) _ y in
-      among-near (aboveOf k) (belowOf k) (limit (fieldOf k)) (i .n) (leb→le _ _ x) (leb→le _ _ z) (number-fits (sheet k) i e)
+      among-near (aboveOf k) (belowOf k) (limit (fieldOf k)) (i .n) (leb→le _ _ x) (leb→le _ _ z) (number-fits (sheetLine k) i e)
 
   pub blank-number : (address : ℕ) → numbered (itemsOf k) ≡ false → Stands address (fieldOf k) (i .n) (operand (ascii "0"))
   unfolding number-test
@@ -217,5 +217,5 @@ module _ (i : Instruction) (e : fits (sheet (i .kind)) i ≡ true) where
       let (z, w) = both-split (leb (belowOf k) 128) _ y in
       let (a, c) = both-split (leb (aboveOf k) 1) _ (other (numbered (itemsOf k)) _ n w) in
       let (b, f) = both-split (leb (belowOf k) 0) _ c in
-      subst (λ (m : ℤ). Stands address (fieldOf k) m (operand (ascii "0"))) (sym (among-none (aboveOf k) (belowOf k) (i .n) (leb→le _ _ a) (leb→le _ _ b) (number-fits (sheet k) i e)))
+      subst (λ (m : ℤ). Stands address (fieldOf k) m (operand (ascii "0"))) (sym (among-none (aboveOf k) (belowOf k) (i .n) (leb→le _ _ a) (leb→le _ _ b) (number-fits (sheetLine k) i e)))
       (plain-blank address (fieldOf k) f)

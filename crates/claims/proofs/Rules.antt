@@ -11,7 +11,7 @@ use Rattle.muldiv.specs.Muldiv.{muldiv}
 use Rattle.isa.specs.Sheet.{kindAt}
 use Rattle.isa.specs.Instructions.{Read, instruction, unassigned, readAs, readOf}
 use Rattle.machine.specs.Machine.{Machine}
-use Rattle.machine.specs.Step.{Ra, Rb, d5-3, write, Rule, compute, compare, addi, ld, st, ldb, stb, jalr, bz, bnz, movi, movhi, input, output, multiply, Row, by-f, by-f-dividing, none, rows, inRow, choice, Next, cannot, stepBy, fetched, step}
+use Rattle.machine.specs.Step.{Ra, Rb, d5-3, write, Rule, compute, compare, addi, ld, st, ldb, stb, jalr, bz, bnz, movi, movhi, input, output, multiplyDivide, RuleRow, by-f, by-f-dividing, no-rule, ruleRows, ruleInRow, choice, Next, cannot, stepBy, fetched, step}
 use Rattle.usage.proofs.Functions.{table, at}
 use Rattle.claims.specs.Rules.{stepAs, Rules}
 use Rattle.claims.proofs.Written.{written-then-read}
@@ -31,13 +31,13 @@ at-word g h t w = at 8 _ _ (at 2 _ _ (at 16 _ _ t (opcode w) (omega arith)) (e-o
 with-f : (ℕ → ℕ → ℕ → ℕ) → (ℕ → ℕ) → Rule
 with-f g F w m = write (d5-3 w) (g (F w) (Ra w m) (Rb w m)) m
 
-rows-with : (ℕ → ℕ) → List Row
+rows-with : (ℕ → ℕ) → List RuleRow
 rows-with F =
     by-f (0 ∷ 1 ∷ 2 ∷ 3 ∷ 4 ∷ 5 ∷ 6 ∷ 7 ∷ []) (with-f operation F) ∷ by-f (0 ∷ 1 ∷ 3 ∷ 4 ∷ 5 ∷ []) (with-f comparison F)
-    ∷ (take 9 (drop 2 rows) ++ (by-f-dividing (0 ∷ 1 ∷ 2 ∷ 4 ∷ 5 ∷ []) (4 ∷ 5 ∷ []) (with-f muldiv F) ∷ drop 12 rows))
+    ∷ (take 9 (drop 2 ruleRows) ++ (by-f-dividing (0 ∷ 1 ∷ 2 ∷ 4 ∷ 5 ∷ []) (4 ∷ 5 ∷ []) (with-f muldiv F) ∷ drop 12 ruleRows))
 
 by-rows : ℕ → ℕ → ℕ → (ℕ → ℕ) → ℕ → Machine → Next
-by-rows op e f F w m = stepBy (inRow (getD (rows-with F) op none) e f) w m
+by-rows op e f F w m = stepBy (ruleInRow (getD (rows-with F) op no-rule) e f) w m
 
 -- which is looked at for the one word
 only-there : table-of by-rows ≡ table-of (λ op e f F w m. by-rows op e f (λ v. F w) w m)
@@ -58,7 +58,7 @@ same = refl
 
 -- with the word's own f, the rows are the machine's
 stepped : (m : Machine) (w : ℕ) → fetched m ≡ w → step m ≡ of-read (readOf w) m
-unfolding step choice with-f rows-with by-rows compute compare multiply by-sheet readOf
+unfolding step choice with-f rows-with by-rows compute compare multiplyDivide by-sheet readOf
 stepped m w h = ap (λ w. stepBy (choice w) w m) h ∙ ap (λ g. g f-of w m) (at-word _ _ only-there w) ∙ ap (λ g. g w m) (at-word _ _ same w)
 
 pub rules : Rules

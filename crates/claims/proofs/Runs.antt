@@ -15,7 +15,7 @@ use Rattle.machine.specs.Run.{Stepper, byRules, Outcome, noPlace, runFrom}
 use Rattle.machine.proofs.Runs.{Lawful, run-none, run-cannot, run-full, run-on}
 use Rattle.control.specs.Control.{byControl}
 use Rattle.control.proofs.Laws.{lawful-control, lawful-rules, cannot-rules, cannot-control}
-use Rattle.run.specs.Runs.{Given, left, stopped, machineAt, leftOf, leftBy, runLeft, verdictOn}
+use Rattle.run.specs.Runs.{Given, left, stopped, machineAt, leftOf, runLeftBy, runLeft, verdictOn}
 use Rattle.run.proofs.Uncounted.{uncounted}
 use Rattle.claims.specs.Runs.{Takes, none, more, First, budget-used, word-unassigned, zero-divisor, no-place, Reported, Runs}
 
@@ -106,7 +106,7 @@ module _ (v : Stepper) (known : Known v) (g : Given) where
             ap (λ s. left (stopped (z .reason) s l) (z .after .state) (z .after .P) (z .after .D) (z .after .I) (z .after .O) (z .after .L ++ drop l (g .log))) steps;
       })
 
-  by-verdict : (x : Verdict) (q s k : ℕ) → leftBy v x g .reply ≡ stopped q s k → Reported v g (leftBy v x g) q s k
+  by-verdict : (x : Verdict) (q s k : ℕ) → runLeftBy v x g .reply ≡ stopped q s k → Reported v g (runLeftBy v x g) q s k
   by-verdict accepted q s k h =
       let m = machineAt g in
       let places : length (g .log) ≡ length (m .L) + length (g .log) = omega arith in

@@ -8,7 +8,7 @@ use native.Mathlib.Omega.{arith}
 use lib.ListN.{length, take, drop}
 use lib.Seq.{take-append-seam}
 use Rattle.word.proofs.Tests.{clash}
-use Rattle.save.specs.Saved.{savedFile, SaveReply, saved, refused, SaveGiven, SaveLeft, saveReply, leftBy, saveLeft}
+use Rattle.save.specs.Saved.{savedFile, SaveReply, saved, save-refused, SaveGiven, SaveLeft, saveReply, saveLeftBy, saveLeft}
 use Rattle.save.proofs.Saved.{RightLengths, file-length, file-at-most, loads-back, last-word, least-words, last-byte, least-bytes, number-1, number-9, saves, no-other, nothing-changes}
 use Rattle.claims.specs.Saved.{LoadsAs, MemoryLengths, ShortDestination, SaveRefusals, Saved}
 use Rattle.claims.proofs.Decides.{decides-eq, decides-le, decides-stable}
@@ -53,9 +53,9 @@ then-loaded g l n e r =
     ap (λ (x : SaveLeft). take n (x .destination)) e ∙ by-reply (saveReply g) (ap (λ (x : SaveLeft). x .reply) (sym e) ∙ r) (s .0) in
     subst (λ f. LoadsAs f (g .P) (g .D)) (sym file) (loads-back (g .P) (g .D) (s .1 .0) (s .1 .1))
   where
-    by-reply : (x : SaveReply) → leftBy x g .reply ≡ saved n → n ≡ length (savedFile (g .P) (g .D)) → take n (leftBy x g .destination) ≡ savedFile (g .P) (g .D)
+    by-reply : (x : SaveReply) → saveLeftBy x g .reply ≡ saved n → n ≡ length (savedFile (g .P) (g .D)) → take n (saveLeftBy x g .destination) ≡ savedFile (g .P) (g .D)
     by-reply (saved k) q z = let same : k ≡ n = cc in rw (same, z) (take-append-seam (savedFile (g .P) (g .D)) (drop (length (savedFile (g .P) (g .D))) (g .destination)))
-    by-reply (refused k) q z = clash (cc)
+    by-reply (save-refused k) q z = clash (cc)
 
 pub saving : Saved
 saving =

@@ -7,7 +7,7 @@ use native.Mathlib.Omega.{arith}
 use lib.ListN.{length, replicate, length-append, length-take, length-drop, length-replicate}
 use Rattle.refusal.specs.Refusals.{Verdict, accepted, refused}
 use Rattle.word.proofs.Tests.{clash}
-use Rattle.image.specs.Image.{W, C, programOffset, dataOffset, memoryOf, loaded, LoadGiven, LoadLeft, fileReply, loadReply, leftBy, loadLeft}
+use Rattle.image.specs.Image.{W, C, programOffset, dataOffset, memoryOf, loaded, LoadGiven, LoadLeft, fileReply, loadReply, loadLeftBy, loadLeft}
 use Rattle.image.proofs.Fits.{fits}
 use Rattle.report.specs.Example.{exampleFile}
 use Rattle.claims.specs.Session.{Calls, hostOf, machineOn, machineCalls, machineReplies, Session}
@@ -34,7 +34,7 @@ accepted-load : (g : LoadGiven) (l : LoadLeft) → l ≡ loadLeft g → l .reply
 unfolding loadLeft loaded
 accepted-load g l e ok = go (loadReply g) e
   where
-    go : (r : Verdict) → l ≡ leftBy r g → (r ≡ accepted) × (machineOn (hostOf l) [] ≡ loaded (g .file))
+    go : (r : Verdict) → l ≡ loadLeftBy r g → (r ≡ accepted) × (machineOn (hostOf l) [] ≡ loaded (g .file))
     go accepted e = (refl, ap (λ x. machineOn (hostOf x) []) e)
     go (refused k) e = let z : refused k ≡ accepted = sym (ap (λ x. x .reply) e) ∙ ok in clash (cc)
 
@@ -54,7 +54,7 @@ zeros n = length-replicate n 0
 pub session : Session
 session =
     record {
-      agreed = λ g l₁ l₂ e₁ ok₁ e₂ ok₂ cs₁ cs₂ alike rs₁ rs₂ h₁ h₂ ds₁ ds₂.
+      demand-3 = λ g l₁ l₂ e₁ ok₁ e₂ ok₂ cs₁ cs₂ alike rs₁ rs₂ h₁ h₂ ds₁ ds₂.
           let m = accepted-load g l₁ e₁ ok₁ .1 in
           let t = calls-together ds₁ [] in
           let s = same ds₁ (subst (λ l. Calls (hostOf l) cs₂ rs₂ h₂) (e₂ ∙ sym e₁) ds₂) alike in

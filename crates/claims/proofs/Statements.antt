@@ -12,14 +12,14 @@ use Rattle.word.specs.Word.{pick}
 use Rattle.word.proofs.Computed.{both-split, all, all-at}
 use Rattle.kinds.specs.declared.Kind.{Kind}
 use Rattle.isa.specs.declared.Instruction.{Instruction}
-use Rattle.isa.specs.Sheet.{sheet}
+use Rattle.isa.specs.Sheet.{sheetLine}
 use Rattle.isa.specs.Instructions.{registerPart, Register, a-register, b-register, d-register, fits}
 use Rattle.token.specs.Ascii.{ascii}
-use Rattle.token.specs.Tokens.{Token, between, digit, letter, letterOrDigit}
+use Rattle.token.specs.Tokens.{Token, between, isDigit, isLetter, isLetterOrDigit}
 use Rattle.expression.specs.Operands.{registerOf}
 use Rattle.expression.specs.Grammar.{Tree}
-use Rattle.statement.specs.Syntax.{Item, register, mark, N, Parts, blank, put, putN, Written, end, a-register-there, a-mark-there, a-value-there}
-use Rattle.listing.specs.Listing.{registerText, operandText, rowOf, itemsText, instructionText}
+use Rattle.statement.specs.Syntax.{Item, register, punctuation, N, Parts, blank, put, putN, Written, end, a-register-there, punctuation-there, a-value-there}
+use Rattle.listing.specs.Listing.{registerText, operandText, rowFor, itemsText, instructionText}
 use Rattle.claims.proofs.Joined.{row-test, word-test, plain, dividing, Parted, mark-parted, Text, wider, nothing-there, word-before, mark-before, space-before, spaced-before}
 use Rattle.claims.proofs.Operands.{Means, valueIn, operand-means, Stands, operand-stands}
 use Rattle.claims.proofs.Rows.{is-same, names, numbered, marked, laid, itemsOf, fieldOf, mnemonic-plain, items-laid, few-items, small, absent, near, blank-number}
@@ -27,7 +27,7 @@ use Rattle.claims.proofs.Rows.{is-same, names, numbered, marked, laid, 
 -- ---- Registers and marks
 
 register-plain : (k : ℕ) → k < 8 → T (plain (registerText k))
-unfolding all plain word-test row-test letterOrDigit letter digit between
+unfolding all plain word-test row-test isLetterOrDigit isLetter isDigit between
 register-plain k h = all-at 8 (λ k. plain (registerText k)) tt k h
 
 register-read : (k : ℕ) → k < 8 → registerOf (registerText k) ≡ k
@@ -46,7 +46,7 @@ markText m = pick (eqb m 44) (ascii ", ") (m ∷ [])
 
 module _ (m : ℕ) (h : T (dividing m)) (s : List ℕ) where
   mark-parts : Parted (markText m ++ s)
-  unfolding dividing letterOrDigit letter digit between
+  unfolding dividing isLetterOrDigit isLetter isDigit between
   mark-parts = go (eqb m 44)
     where
       go : (x : Bool) → Parted (pick x (ascii ", ") (m ∷ []) ++ s)
@@ -64,7 +64,7 @@ apart : (a b : Bool) → pick a true false ≡ false → b ≡ false → pick a 
 apart true b e f = e
 apart false b e f = f
 
-module _ (address : ℕ) (i : Instruction) (e : fits (sheet (i .kind)) i ≡ true) where
+module _ (address : ℕ) (i : Instruction) (e : fits (sheetLine (i .kind)) i ≡ true) where
   abbrev k : Kind
   k = i .kind
 
@@ -78,7 +78,7 @@ module _ (address : ℕ) (i : Instruction) (e : fits (sheet (i .kind)) i ≡ tru
   abbrev filled : List Item → Parts Tree → Parts Tree
   filled [] p = p
   filled (register r ∷ is) p = filled is (put r (registerPart i r) p)
-  filled (mark m ∷ is) p = filled is p
+  filled (punctuation m ∷ is) p = filled is p
   filled (N ∷ is) p = filled is (putN (means .tree) p)
 
   -- a register's part of p
@@ -101,7 +101,7 @@ module _ (address : ℕ) (i : Instruction) (e : fits (sheet (i .kind)) i ≡ tru
   filled-register : (r : Register) (is : List Item) (p : Parts Tree) → (names r is ≡ false → part r p ≡ registerPart i r) → part r (filled is p) ≡ registerPart i r
   filled-register r [] p h = h refl
   filled-register r (register s ∷ is) p h = filled-register r is (put s (registerPart i s) p) (λ n. part-put r s p (λ q. h (apart (is-same r s) (names r is) q n)))
-  filled-register r (mark m ∷ is) p h = filled-register r is p h
+  filled-register r (punctuation m ∷ is) p h = filled-register r is p h
   filled-register a-register (N ∷ is) p h = filled-register a-register is (putN (means .tree) p) h
   filled-register b-register (N ∷ is) p h = filled-register b-register is (putN (means .tree) p) h
   filled-register d-register (N ∷ is) p h = filled-register d-register is (putN (means .tree) p) h
@@ -117,7 +117,7 @@ module _ (address : ℕ) (i : Instruction) (e : fits (sheet (i .kind)) i ≡ tru
   filled-number : (is : List Item) (p : Parts Tree) → (numbered is ≡ false → StandsFor (p .n)) → StandsFor (filled is p .n)
   filled-number [] p h = h refl
   filled-number (register s ∷ is) p h = filled-number is (put s (registerPart i s) p) (λ n. put-n s p (h n))
-  filled-number (mark m ∷ is) p h = filled-number is p h
+  filled-number (punctuation m ∷ is) p h = filled-number is p h
   filled-number (N ∷ is) p h = filled-number is (putN (means .tree) p) (λ n. operand-stands address (fieldOf k) (i .n) (near i e))
 
   -- what is read of its row are its own parts
@@ -138,7 +138,7 @@ module _ (address : ℕ) (i : Instruction) (e : fits (sheet (i .kind)) i ≡ tru
 
   abbrev itemTokens : Item → List Token
   itemTokens (register r) = registerText (registerPart i r) ∷ []
-  itemTokens (mark m) = (m ∷ []) ∷ []
+  itemTokens (punctuation m) = (m ∷ []) ∷ []
   itemTokens N = means .tokens
 
   itemsTokens : List Item → List Token
@@ -149,7 +149,7 @@ module _ (address : ℕ) (i : Instruction) (e : fits (sheet (i .kind)) i ≡ tru
   unfolding itemsTokens
   items-written [] p = end
   items-written (register r ∷ is) p = register-there (registerPart i r) (small i e r) (items-written is (put r (registerPart i r) p))
-  items-written (mark m ∷ is) p = a-mark-there (items-written is p)
+  items-written (punctuation m ∷ is) p = punctuation-there (items-written is p)
   items-written (N ∷ is) p = a-value-there (means .read) (items-written is (putN (means .tree) p))
 
   abbrev textOf : List Item → List ℕ
@@ -159,7 +159,7 @@ module _ (address : ℕ) (i : Instruction) (e : fits (sheet (i .kind)) i ≡ tru
   unfolding itemsText
   items-parted [] h l = λ t. tt
   items-parted (register r ∷ is) h l = absurd h
-  items-parted (mark m ∷ is) h l = mark-parts m (both-split (dividing m) _ l .0) (textOf is)
+  items-parted (punctuation m ∷ is) h l = mark-parts m (both-split (dividing m) _ l .0) (textOf is)
   items-parted (N ∷ is) h l = absurd h
 
   items-text : (is : List Item) → T (laid is) → Text (40 * length is) (textOf is) (itemsTokens is)
@@ -168,7 +168,7 @@ module _ (address : ℕ) (i : Instruction) (e : fits (sheet (i .kind)) i ≡ tru
   items-text (register r ∷ is) l =
       let (h, m) = both-split (marked is) _ l in
       wider (omega arith) (word-before (registerText (registerPart i r)) (register-plain (registerPart i r) (small i e r)) (items-parted is h m) (items-text is m))
-  items-text (mark m ∷ is) l =
+  items-text (punctuation m ∷ is) l =
       let (h, r) = both-split (dividing m) _ l in
       wider (omega arith) (mark-text m h (textOf is) (items-text is r))
   items-text (N ∷ is) l =
@@ -182,9 +182,9 @@ module _ (address : ℕ) (i : Instruction) (e : fits (sheet (i .kind)) i ≡ tru
   unfolding tokensOf
   written = items-written (itemsOf k) blank
 
-  pub text : Text 300 (instructionText address i) (rowOf i .mnemonic ∷ tokensOf)
+  pub text : Text 300 (instructionText address i) (rowFor i .mnemonic ∷ tokensOf)
   unfolding instructionText tokensOf
   text =
-      rw (append-assoc (rowOf i .mnemonic) (ascii " ") (textOf (itemsOf k)))
+      rw (append-assoc (rowFor i .mnemonic) (ascii " ") (textOf (itemsOf k)))
       (wider (omega (arith, few-items k))
-      (spaced-before (rowOf i .mnemonic) (mnemonic-plain k) (items-text (itemsOf k) (items-laid k))))
+      (spaced-before (rowFor i .mnemonic) (mnemonic-plain k) (items-text (itemsOf k) (items-laid k))))

@@ -14,11 +14,11 @@ use Rattle.kinds.specs.declared.Kind.{Kind}
 use Rattle.kinds.specs.declared.Kind.the-variants.{And}
 use Rattle.kinds.specs.Kinds.{kinds, kindNumber}
 use Rattle.isa.specs.declared.Instruction.{Instruction}
-use Rattle.isa.specs.Sheet.{sheet}
+use Rattle.isa.specs.Sheet.{sheetLine}
 use Rattle.isa.specs.Instructions.{Read, instruction, unassigned, readOf, word, writeOf, fits}
 use Rattle.isa.proofs.Every.{listed as kind-listed}
 use Rattle.token.specs.Ascii.{ascii}
-use Rattle.token.specs.Tokens.{Token, between, digit, letter, letterOrDigit}
+use Rattle.token.specs.Tokens.{Token, between, isDigit, isLetter, isLetterOrDigit}
 use Rattle.printing.specs.Text.{hex4}
 use Rattle.expression.specs.declared.Value.{Value}
 use Rattle.expression.specs.Grammar.{Tree}
@@ -66,9 +66,9 @@ module _ (address : ℕ) (i : Instruction) (w : ℕ) (h : writeOf i ≡ word w) 
   abbrev k : ℕ
   k = kindNumber (i .kind)
 
-  fitting : fits (sheet (i .kind)) i ≡ true
+  fitting : fits (sheetLine (i .kind)) i ≡ true
   unfolding writeOf
-  fitting = passed (fits (sheet (i .kind)) i) (λ e. clash (cc)) h .0
+  fitting = passed (fits (sheetLine (i .kind)) i) (λ e. clash (cc)) h .0
 
   its-word : encoded k address (valuedParts worth (parts address i fitting)) ≡ gives w
   unfolding valuedParts
@@ -86,7 +86,7 @@ module _ (address : ℕ) (i : Instruction) (w : ℕ) (h : writeOf i ≡ word w) 
 -- ---- An unassigned word
 
 unassigned-gives : (address w : ℕ) → w < 65536 → Gives address (ascii ".word " ++ wordText w) w
-unfolding hex4 plain word-test row-test letterOrDigit letter digit between encoded valuedParts
+unfolding hex4 plain word-test row-test isLetterOrDigit isLetter isDigit between encoded valuedParts
 unassigned-gives address w h =
     let m = word-means w h in
     row-gives address (length kinds) w _ (m .tokens ++ []) (putN (m .tree) blank)

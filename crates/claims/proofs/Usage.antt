@@ -14,9 +14,9 @@ use Rattle.word.proofs.Tests.{never}
 use Rattle.machine.specs.Run.{byRules, run}
 use Rattle.control.proofs.Agreement.{same-stepper}
 use Rattle.usage.specs.declared.Usage.{Usage}
-use Rattle.usage.specs.Usage.{unused, plusCounts, plus}
+use Rattle.usage.specs.Usage.{unused, plusCounts, plusUsage}
 use Rattle.usage.proofs.Sums.{unused-plus}
-use Rattle.run.specs.Runs.{Given, verdictOn, machineAt, leftBy, runLeft, CountedLeft, countedBy, countedLeft, CountedMeets}
+use Rattle.run.specs.Runs.{Given, verdictOn, machineAt, runLeftBy, runLeft, CountedLeft, countedBy, countedLeft, CountedMeets}
 use Rattle.sheet.specs.declared.Sheet.{Sheet}
 use Rattle.sheet.specs.Sheet.{empty, sums, wasAccepted, feedLeft}
 use Rattle.claims.specs.Session.{Engine, by-rules, by-table, stepperOf}
@@ -41,7 +41,7 @@ record Ran (x : Verdict) (g : Given) (l : CountedLeft) : Type 0 where
 fits : (g : Given) → accepted ≡ verdictOn g → g .state .n + g .budget ≤ 4294967295
 unfolding runLeft
 fits g e =
-    let few = refusals .run byRules g .accepts .0 (_, _, _, ap (λ (x : Verdict). leftBy byRules x g .reply) (sym e)) .2 in
+    let few = refusals .run byRules g .accepts .0 (_, _, _, ap (λ (x : Verdict). runLeftBy byRules x g .reply) (sym e)) .2 in
     omega (arith, few)
 
 by-verdict : (g : Given) (x : Verdict) → x ≡ verdictOn g → Ran x g (countedBy byRules x g)
@@ -79,14 +79,14 @@ sums-plus (x ∷ xs) (y ∷ ys) e h =
     λ i. here i ∷ sums-plus xs ys (omega arith) (λ j. h (suc j)) i
 
 -- counts of zero leave a sheet's counts as they are
-none-joins : (v : Usage) (l n : ℕ) → Counts v l → sheetOf (plus unused v) (0 + n) ≡ sheetOf v n
+none-joins : (v : Usage) (l n : ℕ) → Counts v l → sheetOf (plusUsage unused v) (0 + n) ≡ sheetOf v n
 none-joins v l n b =
     let e = unused-plus (record { kinds = b .kinds; reads = b .reads .long; writes = b .writes .long }) in
     λ i. sheetOf (e i) (zero-add n i)
 
 -- a run fed to a sheet of other counts, their sum below 2^64
 joins : (t : Bool) (u v : Usage) (k l n : ℕ) → (t ≡ false → u ≡ unused) → Counts u k → Counts v l → k + l < 2 ^ 64
-    → nextBy t (sheetOf v n) u ≡ sheetOf (plus u v) (flag t + n)
+    → nextBy t (sheetOf v n) u ≡ sheetOf (plusUsage u v) (flag t + n)
 joins true u v k l n z a b h =
     let c = counts-plus u v k l a b in
     let runs : n + 1 ≡ 1 + n = omega arith in

@@ -15,7 +15,7 @@ use Rattle.kinds.specs.declared.Kind.{Kind}
 use Rattle.kinds.specs.declared.Kind.the-variants.{And}
 use Rattle.kinds.specs.Kinds.{kinds}
 use Rattle.isa.specs.declared.Instruction.{Instruction}
-use Rattle.isa.specs.Sheet.{sheet, kindAt}
+use Rattle.isa.specs.Sheet.{sheetLine, kindAt}
 use Rattle.isa.specs.Instructions.{registerPart, Register, a-register, b-register, d-register, wordOf, word, writeOf}
 use Rattle.isa.specs.Masks.{inMask, masksOf}
 use Rattle.isa.proofs.Every.{every}
@@ -36,7 +36,7 @@ part p x = pick (has p) x 0
 -- a, b and d are R1, R2 and R3, and n is 1
 example : Kind → Instruction
 example k =
-    let f = sheet k .format in
+    let f = sheetLine k .format in
     record { kind = k; a = part (f .a) 1; b = part (f .b) 2; d = part (f .d) 3; n = pos (part (f .n) 1) }
 
 -- where no instruction of these looks: the test leaves it shut
@@ -50,7 +50,7 @@ zeros-length n = length-replicate n 0
 machine : Kind → List ℕ → Machine
 machine k rs =
     let i = example k in
-    let w = wordOf (sheet k) (i .a) (i .b) (i .d) (natAbs (i .n)) in
+    let w = wordOf (sheetLine k) (i .a) (i .b) (i .d) (natAbs (i .n)) in
     record {
       state = record { r = rs; pc = 0; n = 0 };
       P = w % 256 ∷ w / 256 ∷ zeros 65534;
@@ -143,9 +143,9 @@ uses-shown k p = every (λ k. needed k p) (at-each p) k
     at-each b-register = tt
     at-each d-register = tt
 
-writes-shown : (k : Kind) → T (pick (has (sheet k .format .d)) (changes k) true)
+writes-shown : (k : Kind) → T (pick (has (sheetLine k .format .d)) (changes k) true)
 unfolding all changes after next-of machine example signed lowBits shifted
-writes-shown = every (λ k. pick (has (sheet k .format .d)) (changes k) true) tt
+writes-shown = every (λ k. pick (has (sheetLine k .format .d)) (changes k) true) tt
 
 word-shown : (k : Kind) → T (is-word (writeOf (example k)) (fetched (machine k [])))
 unfolding all machine example is-word writeOf fetched lowBits
@@ -187,7 +187,7 @@ reads-needed k p e =
       },
     )
 
-pub writes-needed : (k : Kind) → has (sheet k .format .d) ≡ true → (i : Instruction) × (i .kind ≡ k) × Writes i (i .d)
+pub writes-needed : (k : Kind) → has (sheetLine k .format .d) ≡ true → (i : Instruction) × (i .kind ≡ k) × Writes i (i .d)
 unfolding machine after example changes
 writes-needed k e =
     let d = example k .d in

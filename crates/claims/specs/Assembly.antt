@@ -38,16 +38,16 @@ use lib.ListN.{length, take, getD}
 use Rattle.word.specs.Word.{add, signed, lowBits}
 use Rattle.kinds.specs.declared.Kind.the-variants.{And}
 use Rattle.kinds.specs.Kinds.{kinds}
-use Rattle.isa.specs.Sheet.{sheet}
+use Rattle.isa.specs.Sheet.{sheetLine}
 use Rattle.isa.specs.Instructions.{inRange, word, writeOf}
 use Rattle.machine.specs.Machine.{wordAt}
-use Rattle.token.specs.Tokens.{Token, digit, Divided}
+use Rattle.token.specs.Tokens.{Token, isDigit, Divided}
 use Rattle.expression.specs.Operands.{Label, operandValue, Operator}
 use Rattle.expression.specs.Grammar.{Tree, operand, negation, operation, valueOf}
 use Rattle.statement.specs.Syntax.{Field, number, eight-bits, target, rowAt, Parts, of-row, Line, IsLine}
 use Rattle.statement.specs.Reading.{ReadLine, outside, reads}
 use Rattle.encoding.specs.Words.{odd, numberOf}
-use Rattle.assembler.specs.Text.{lines, textLines, Place, start, admitted, after, namesFrom, textVerdicts, wordsOf, words, turned-away, stored, assembleLeft}
+use Rattle.assembler.specs.Text.{lines, textLines, Place, start, admitted, after, namesFrom, textVerdicts, wordsOf, words, text-refused, stored, assembleLeft}
 use Rattle.claims.specs.Rules.{SE-n}
 
 -- ---- A line's reading, from its bytes
@@ -74,7 +74,7 @@ pub data Named : List Label → Token → Type 0 where
 
 -- w stands in the expression as a name: an operand that does not begin with a digit
 pub data Uses : Tree → Token → Type 0 where
-  the-name : {w : Token} → digit (getD w 0 0) ≡ false → Uses (operand w) w
+  the-name : {w : Token} → isDigit (getD w 0 0) ≡ false → Uses (operand w) w
   negated : {t : Tree} {w : Token} → Uses t w → Uses (negation t) w
   left : {o : Operator} {t u : Tree} {w : Token} → Uses t w → Uses (operation o t u) w
   right : {o : Operator} {t u : Tree} {w : Token} → Uses u w → Uses (operation o t u) w
@@ -85,7 +85,7 @@ abbrev pub Fits : ℕ → ℕ → ℕ → Type 0
 Fits k address v =
     (k ≡ length kinds)
     ⊎ ((odd (rowAt k .field) address v ≡ false)
-    × (inRange (sheet (getD kinds k And) .number) (sheet (getD kinds k And) .format .n) (numberOf (rowAt k .field) address v) ≡ true))
+    × (inRange (sheetLine (getD kinds k And) .number) (sheetLine (getD kinds k And) .format .n) (numberOf (rowAt k .field) address v) ≡ true))
 
 -- ---- Words
 
@@ -159,9 +159,9 @@ pub record First (text : List ℕ) (k r : ℕ) : Type 0 where
 
 pub record Assembles (text program : List ℕ) : Type 0 where
   -- 1, with line 0: the destination is no program memory; it is tested first
-  pub number-1 : (assembleLeft text program .reply ≡ turned-away 0 1) ↔ (length program ≡ 65536 → ⊥)
+  pub number-1 : (assembleLeft text program .reply ≡ text-refused 0 1) ↔ (length program ≡ 65536 → ⊥)
   -- Lines are numbered from 1.
-  pub refuses : (k r : ℕ) → (assembleLeft text program .reply ≡ turned-away (suc k) r) ↔ ((length program ≡ 65536) × First text k r)
+  pub refuses : (k r : ℕ) → (assembleLeft text program .reply ≡ text-refused (suc k) r) ↔ ((length program ≡ 65536) × First text k r)
   -- Otherwise the words are returned, and their count,
   pub accepts :
       (n : ℕ) → (assembleLeft text program .reply ≡ words n)
@@ -174,7 +174,7 @@ pub record Assembles (text program : List ℕ) : Type 0 where
       → (k : ℕ) (l : Line Tree) (q : ℕ) (p : Parts Tree) → k < length (textParts text) → Reads (lineAt text k) l → l .statement ≡ of-row q p
       → WordOf q (placeAt text k .address) (valueIn text (p .n)) p (wordAt (assembleLeft text program .program) (placeAt text k .address))
   -- a refusal leaves the memory untouched.
-  pub untouched : (k r : ℕ) → assembleLeft text program .reply ≡ turned-away k r → assembleLeft text program .program ≡ program
+  pub untouched : (k r : ℕ) → assembleLeft text program .reply ≡ text-refused k r → assembleLeft text program .program ≡ program
 
 pub record Assembly : Type 0 where
   pub unique : Unique

@@ -13,13 +13,13 @@ use Rattle.word.specs.Word.{pick}
 use Rattle.kinds.specs.declared.Kind.the-variants.{And}
 use Rattle.kinds.specs.Kinds.{kinds, kindNumber}
 use Rattle.isa.specs.declared.Instruction.{Instruction}
-use Rattle.isa.specs.Instructions.{Read, instruction, unassigned, readOf, Written, word, refused as write-refused, writeOf}
+use Rattle.isa.specs.Instructions.{Read, instruction, unassigned, readOf, WriteReply, word, write-refused, writeOf}
 use Rattle.isa.specs.Masks.{Decoding, decodingOf}
 use Rattle.machine.specs.Run.{Stepper}
 use Rattle.panel.specs.Calls.{SetGiven, SetLeft, setLeft}
 use Rattle.image.specs.Image.{LoadGiven, LoadLeft, loadLeft}
-use Rattle.save.specs.Saved.{SaveReply, saved, refused as save-refused, SaveGiven, SaveLeft, saveLeft}
-use Rattle.assembler.specs.Text.{Reply, words, turned-away, AssembleLeft, assembleLeft}
+use Rattle.save.specs.Saved.{SaveReply, saved, save-refused, SaveGiven, SaveLeft, saveLeft}
+use Rattle.assembler.specs.Text.{Reply, words, text-refused, AssembleLeft, assembleLeft}
 use Rattle.control.specs.Control.{byTable}
 use Rattle.usage.specs.declared.Usage.{Usage}
 use Rattle.usage.specs.Usage.{unused}
@@ -67,7 +67,7 @@ pub record SaveReplies (g : SaveGiven) : Type 0 where
 -- ---- sisa_assemble
 
 abbrev pub assemblyOf : SisaAssembly → Reply
-assemblyOf r = pick (eqb (r .refusal) 0) (words (r .words)) (turned-away (r .line) (r .refusal))
+assemblyOf r = pick (eqb (r .refusal) 0) (words (r .words)) (text-refused (r .line) (r .refusal))
 
 abbrev pub assembleOf : SisaAssembleLeft → AssembleLeft
 assembleOf l = record { reply = assemblyOf (l .reply); program = l .program }
@@ -148,7 +148,7 @@ pub record ReadReplies (w : ℕ) : Type 0 where
 abbrev pub sisaWriteOf : Instruction → SisaWord
 sisaWriteOf i = sisaWrite (kindNumber (i .kind)) (i .a) (i .b) (i .d) (i .n)
 
-abbrev pub writtenOf : SisaWord → Written
+abbrev pub writtenOf : SisaWord → WriteReply
 writtenOf r = pick (eqb (r .refusal) 0) (word (r .word)) (write-refused (r .refusal))
 
 pub record WriteReplies (i : Instruction) : Type 0 where

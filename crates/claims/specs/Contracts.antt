@@ -24,11 +24,11 @@ use Rattle.run.specs.declared.Counted.{Counted}
 use Rattle.run.specs.Runs.{Given, given, Left, left, shownAnswer, RunMeets, CountedMeets}
 use Rattle.sheet.specs.declared.Sheet.{Sheet}
 use Rattle.sheet.specs.Sheet.{empty, FeedLeft, shownFeeding, feedLeft}
-use Rattle.printing.specs.Text.{held}
+use Rattle.printing.specs.Text.{inArray}
 use Rattle.report.specs.Printed.{printed}
 use Rattle.diagnostic.specs.Diagnostic.{diagnosticOf}
 use Rattle.trimfile.specs.TrimFile.{FileLeft, fileLeft}
-use Rattle.listing.specs.File.{listing, lineAt}
+use Rattle.listing.specs.File.{listing, listedLine}
 use Rattle.machine.proofs.State.reset.Reads as state-reset
 use Rattle.isa.proofs.read.Reads as read
 use Rattle.isa.proofs.write.Reads as write
@@ -48,25 +48,25 @@ use Rattle.diagnostic.proofs.diagnostic.Reads as diagnostic
 use Rattle.trimfile.proofs.from_text.Reads as from-text
 
 -- a lent slice
-abbrev pub Lent : Type 0
-Lent = RefT (List ℕ)
+abbrev pub LentSlice : Type 0
+LentSlice = RefT (List ℕ)
 
 -- a run's arguments: state, program, memory, inputs, outputs, budget, log
 abbrev pub RunArguments : Type 0
-RunArguments = State × (Lent × (Lent × (Lent × (Lent × (ℕ × (Lent × Unit {0}))))))
+RunArguments = State × (LentSlice × (LentSlice × (LentSlice × (LentSlice × (ℕ × (LentSlice × Unit {0}))))))
 
 -- what it is given
 abbrev pub givenBy : RunArguments → Given
 givenBy a = given (a .0) (now (a .1 .0)) (now (a .1 .1 .0)) (now (a .1 .1 .1 .0)) (now (a .1 .1 .1 .1 .0)) (a .1 .1 .1 .1 .1 .0) (now (a .1 .1 .1 .1 .1 .1 .0))
 
 -- what it leaves, with its answer and state
-abbrev pub leftBy : Answer → State → RunArguments → Left
-leftBy r state s =
+abbrev pub leftAfter : Answer → State → RunArguments → Left
+leftAfter r state s =
     left (shownAnswer r) state (now (s .1 .0)) (now (s .1 .1 .0)) (now (s .1 .1 .1 .0)) (now (s .1 .1 .1 .1 .0)) (now (s .1 .1 .1 .1 .1 .1 .0))
 
 -- what a run that goes by v says, with its counts
 abbrev pub RunSays : Stepper → RunArguments → Counted → RunArguments → Type 0
-RunSays v a r s = CountedMeets v (givenBy a) (record { left = leftBy (r .answer) (r .state) s; usage = r .usage })
+RunSays v a r s = CountedMeets v (givenBy a) (record { left = leftAfter (r .answer) (r .state) s; usage = r .usage })
 
 pub record Contracts : Type 1 where
   -- State::reset()
@@ -136,7 +136,7 @@ pub record Contracts : Type 1 where
   pub run-by-table : (κs : Lfts 5) (a : _) (r : _) (s : _) → run-by-table.Learnt κs a r s ↔ RunSays byTable a r s
   -- run_by_control, with its words before these; it reports no counts
   pub run-by-control-asks : (κs : Lfts 6) (a : _) → run-by-control.Asked κs a
-  pub run-by-control : (κs : Lfts 6) (a : _) (r : _) (s : _) → run-by-control.Learnt κs a r s ↔ RunMeets (byControl (now (a .0))) (givenBy (a .1)) (leftBy (r .answer) (r .state) (s .1))
+  pub run-by-control : (κs : Lfts 6) (a : _) (r : _) (s : _) → run-by-control.Learnt κs a r s ↔ RunMeets (byControl (now (a .0))) (givenBy (a .1)) (leftAfter (r .answer) (r .state) (s .1))
   -- Sheet::empty()
   pub sheet-empty-asks : (κs : Lfts 0) (a : _) → sheet-empty.Asked κs a
   pub sheet-empty : (κs : Lfts 0) (a : _) (r : _) (s : _) → sheet-empty.Learnt κs a r s ↔ (r ≡ empty)
@@ -148,13 +148,13 @@ pub record Contracts : Type 1 where
       ↔ (_≡_ {A = FeedLeft} (record { reply = shownFeeding (r .reply); sheet = r .sheet }) (feedLeft (a .0) (shownAnswer (a .1 .0)) (a .1 .1 .0)))
   -- report(file)
   pub report-asks : (κs : Lfts 1) (a : _) → report.Asked κs a
-  pub report : (κs : Lfts 1) (a : _) (r : _) (s : _) → report.Learnt κs a r s ↔ (r ≡ held (printed (now (a .0))))
+  pub report : (κs : Lfts 1) (a : _) (r : _) (s : _) → report.Learnt κs a r s ↔ (r ≡ inArray (printed (now (a .0))))
   -- line_at(file, k)
   pub line-at-asks : (κs : Lfts 1) (a : _) → line-at.Asked κs a
-  pub line-at : (κs : Lfts 1) (a : _) (r : _) (s : _) → line-at.Learnt κs a r s ↔ (r ≡ lineAt (listing (now (a .0))) (a .1 .0))
+  pub line-at : (κs : Lfts 1) (a : _) (r : _) (s : _) → line-at.Learnt κs a r s ↔ (r ≡ listedLine (listing (now (a .0))) (a .1 .0))
   -- diagnostic(text, line, refusal)
   pub diagnostic-asks : (κs : Lfts 1) (a : _) → diagnostic.Asked κs a
-  pub diagnostic : (κs : Lfts 1) (a : _) (r : _) (s : _) → diagnostic.Learnt κs a r s ↔ (r ≡ held (diagnosticOf (now (a .0)) (a .1 .0) (refusalNumber (a .1 .1 .0))))
+  pub diagnostic : (κs : Lfts 1) (a : _) (r : _) (s : _) → diagnostic.Learnt κs a r s ↔ (r ≡ inArray (diagnosticOf (now (a .0)) (a .1 .0) (refusalNumber (a .1 .1 .0))))
   -- from_text(text, destination)
   pub from-text-asks : (κs : Lfts 2) (a : _) → from-text.Asked κs a
   pub from-text :

@@ -5,7 +5,7 @@ use Prim.Native.Nat.{ℕ}
 use lib.Dec.{eqb}
 use Rattle.word.specs.Word.{pick}
 use Rattle.machine.specs.declared.State.{State}
-use Rattle.run.specs.Runs.{Given, given, RunReply, stopped, refused}
+use Rattle.run.specs.Runs.{Given, given, RunReply, stopped, run-refused}
 use Rattle.replies.specs.declared.SisaAnswer.{SisaAnswer}
 use Rattle.replies.specs.Sisa.{HostLent, hostLent, HostStepMeets}
 use Rattle.claims.specs.Session.{by-table, Lent, Call, runs, Reply, of-run, Host, CallMeets, Calls}
@@ -29,7 +29,7 @@ stepGiven h = given (h .state) (h .P) (h .D) (h .I) (h .O) 1 (h .log)
 
 -- a host step's answer as a run's reply: refusal 0 is an accepted one
 abbrev pub replyOf : SisaAnswer → RunReply
-replyOf a = pick (eqb (a .refusal) 0) (stopped (a .stop) (a .steps) (a .entries)) (refused (a .refusal))
+replyOf a = pick (eqb (a .refusal) 0) (stopped (a .stop) (a .steps) (a .entries)) (run-refused (a .refusal))
 
 -- One call, of which only its contract is known; of a host step that of sisa_host_step, where `state` is what it left in the
 -- host's registers.

@@ -10,8 +10,8 @@ use Rattle.word.specs.Fields.{Bits, field, opcode, f-of}
 use Rattle.word.specs.Word.{pick}
 use Rattle.kinds.specs.declared.Kind.{Kind}
 use Rattle.isa.specs.declared.Instruction.{Instruction}
-use Rattle.isa.specs.Sheet.{Number, signed-n, unsigned-n, Line, sheet}
-use Rattle.isa.specs.Instructions.{Read, instruction, unassigned, readOf, Written, word, refused, placed, writeOf}
+use Rattle.isa.specs.Sheet.{Number, signed-n, unsigned-n, Line, sheetLine}
+use Rattle.isa.specs.Instructions.{Read, instruction, unassigned, readOf, WriteReply, word, write-refused, placed, writeOf}
 
 -- the unassigned words: opcode 1 with f = 2, 6 or 7, opcode 11 with f = 3, 6 or 7, and opcodes 12 to 15
 abbrev pub Unassigned : ℕ → Type 0
@@ -21,8 +21,8 @@ Unassigned w =
     ⊎ (12 ≤ opcode w)
 
 -- a register is 0 to 7; an unused one is 0
-abbrev pub Register : Bits → ℕ → Type 0
-Register p x = pick (eqb (p .count) 0) (x ≡ 0) (x < 8)
+abbrev pub RegisterRange : Bits → ℕ → Type 0
+RegisterRange p x = pick (eqb (p .count) 0) (x ≡ 0) (x < 8)
 
 -- n is -32..31 in 6 bits and -128..127 in 8 where it is signed, 0..255 in 8 bits where not; unused, 0
 abbrev pub Range : Number → Bits → ℤ → Type 0
@@ -31,14 +31,14 @@ Range unsigned-n p n = (pos 0 ≤ℤ n) × (n <ℤ pos (2 ^ p .count))
 
 -- each part is in its range, and each unused part is 0
 pub record InRange (i : Instruction) : Type 0 where
-  pub a : Register (sheet (i .kind) .format .a) (i .a)
-  pub b : Register (sheet (i .kind) .format .b) (i .b)
-  pub d : Register (sheet (i .kind) .format .d) (i .d)
-  pub n : Range (sheet (i .kind) .number) (sheet (i .kind) .format .n) (i .n)
+  pub a : RegisterRange (sheetLine (i .kind) .format .a) (i .a)
+  pub b : RegisterRange (sheetLine (i .kind) .format .b) (i .b)
+  pub d : RegisterRange (sheetLine (i .kind) .format .d) (i .d)
+  pub n : Range (sheetLine (i .kind) .number) (sheetLine (i .kind) .format .n) (i .n)
 
 -- w with the bits cleared that reading ignores: NOT's bits 8..6, JALR's bits 5..0
 abbrev pub cleared : Kind → ℕ → ℕ
-cleared k w = w - placed (sheet k .format .ignored) (field (sheet k .format .ignored) w)
+cleared k w = w - placed (sheetLine k .format .ignored) (field (sheetLine k .format .ignored) w)
 
 pub record Instructions : Type 0 where
   -- Every 16-bit word reads as unassigned, just where it is,
@@ -52,5 +52,5 @@ pub record Instructions : Type 0 where
   -- It is written exactly when each part is in its range and each unused part is 0,
   pub written : (i : Instruction) → InRange i ↔ ((w : ℕ) × (writeOf i ≡ word w))
   -- and refused with 7 otherwise, and with no other number.
-  pub refused-7 : (i : Instruction) → (InRange i → ⊥) ↔ (writeOf i ≡ refused 7)
-  pub no-other : (i : Instruction) (k : ℕ) → writeOf i ≡ refused k → k ≡ 7
+  pub refused-7 : (i : Instruction) → (InRange i → ⊥) ↔ (writeOf i ≡ write-refused 7)
+  pub no-other : (i : Instruction) (k : ℕ) → writeOf i ≡ write-refused k → k ≡ 7

@@ -5,7 +5,7 @@ use mathlib.Core.Path.{_≡_}
 use mathlib.Core.List.{List, [], _++_, flatten}
 use lib.ListN.{length, take}
 use Rattle.listing.specs.declared.Line.{Line}
-use Rattle.listing.specs.File.{listing, lineAt}
+use Rattle.listing.specs.File.{listing, listedLine}
 
 -- what is written of a line
 abbrev pub bytesOf : Line → List ℕ
@@ -19,5 +19,5 @@ writtenFrom line k (suc turns) = elim (line k .there) [ true ↦ bytesOf (line k
 pub record Listings : Type 0 where
   -- where each line is what `line_at` promises, the lines of the listing are written, each once and in order, and no others
   pub whole :
-      (file : List ℕ) (line : ℕ → Line) → ((k : ℕ) → line k ≡ lineAt (listing file) k)
+      (file : List ℕ) (line : ℕ → Line) → ((k : ℕ) → line k ≡ listedLine (listing file) k)
       → (turns : ℕ) → length (listing file) ≤ turns → writtenFrom line 0 turns ≡ flatten (listing file)

@@ -11,7 +11,7 @@ use Rattle.word.specs.Fields.{Bits}
 use Rattle.word.specs.Word.{pick}
 use Rattle.kinds.specs.declared.Kind.{Kind}
 use Rattle.isa.specs.declared.Instruction.{Instruction}
-use Rattle.isa.specs.Sheet.{sheet}
+use Rattle.isa.specs.Sheet.{sheetLine}
 use Rattle.isa.specs.Instructions.{registerPart, Register, a-register, b-register, d-register, instruction, unassigned, readOf, word, writeOf}
 use Rattle.isa.specs.Masks.{Masks, inMask, readsDestination, masksOf}
 use Rattle.machine.specs.declared.State.{State}
@@ -74,8 +74,8 @@ has p = not (eqb (p .count) 0)
 
 -- the registers that the rule of a kind is said to use: Ra and Rb where its format has them, and Rd of MOVHI
 abbrev pub saidToUse : Kind → Register → Bool
-saidToUse k a-register = has (sheet k .format .a)
-saidToUse k b-register = has (sheet k .format .b)
+saidToUse k a-register = has (sheetLine k .format .a)
+saidToUse k b-register = has (sheetLine k .format .b)
 saidToUse k d-register = readsDestination k
 
 -- Rj is the part p of i, and i's rule is said to use it
@@ -85,7 +85,7 @@ isUsed i j p = saidToUse (i .kind) p && eqb (registerPart i p) j
 -- the masks have just the registers that they are said to have
 pub record Exact (masks : Masks) (i : Instruction) (j : ℕ) : Type 0 where
   pub reads : inMask (masks .reads) j ≡ (isUsed i j a-register || isUsed i j b-register || isUsed i j d-register)
-  pub writes : inMask (masks .writes) j ≡ (has (sheet (i .kind) .format .d) && eqb (i .d) j)
+  pub writes : inMask (masks .writes) j ≡ (has (sheetLine (i .kind) .format .d) && eqb (i .d) j)
 
 -- ---- The claim
 
@@ -104,4 +104,4 @@ pub record MaskLaws : Type 0 where
   pub unassigned-none : (w : ℕ) → readOf w ≡ unassigned → masksOf w ≡ record { reads = 0; writes = 0 }
   -- The masks are no larger than they need be: some instruction of each kind uses each of these registers, and writes Rd.
   pub reads-needed : (k : Kind) (p : Register) → saidToUse k p ≡ true → (i : Instruction) × (i .kind ≡ k) × Uses i (registerPart i p)
-  pub writes-needed : (k : Kind) → has (sheet k .format .d) ≡ true → (i : Instruction) × (i .kind ≡ k) × Writes i (i .d)
+  pub writes-needed : (k : Kind) → has (sheetLine k .format .d) ≡ true → (i : Instruction) × (i .kind ≡ k) × Writes i (i .d)

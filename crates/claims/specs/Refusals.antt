@@ -11,7 +11,7 @@ use Rattle.machine.specs.Run.{Stepper}
 use Rattle.panel.specs.Calls.{SetGiven, SetLeft, setLeft}
 use Rattle.image.specs.Image.{W, programOffset, C, dataOffset, LoadGiven, LoadLeft, loadLeft}
 use Rattle.usage.specs.Usage.{unused}
-use Rattle.run.specs.Runs.{Given, left, stopped, refused as run-refused, runLeft, countedLeft}
+use Rattle.run.specs.Runs.{Given, left, stopped, run-refused, runLeft, countedLeft}
 
 -- ---- The conditions, as 01's table has them
 

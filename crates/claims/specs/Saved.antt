@@ -8,7 +8,7 @@ use lib.ListN.{length, getD, take, replicate}
 use Rattle.refusal.specs.Refusals.{accepted}
 use Rattle.machine.specs.Machine.{reset, wordAt}
 use Rattle.image.specs.Image.{LoadLeft, loadLeft}
-use Rattle.save.specs.Saved.{wordsKept, bytesKept, savedFile, saved, refused, SaveGiven, SaveLeft, saveLeft}
+use Rattle.save.specs.Saved.{wordsKept, bytesKept, savedFile, saved, save-refused, SaveGiven, SaveLeft, saveLeft}
 
 -- what a load leaves that gave back P and D, with ports and registers reset
 abbrev pub givenBack : List ℕ → List ℕ → LoadLeft
@@ -31,14 +31,14 @@ abbrev pub ShortDestination : SaveGiven → Type 0
 ShortDestination g = length (g .destination) < length (savedFile (g .P) (g .D))
 
 pub record SaveRefusals (g : SaveGiven) : Type 0 where
-  pub number-1 : (saveLeft g .reply ≡ refused 1) ↔ MemoryLengths g
-  pub number-9 : (saveLeft g .reply ≡ refused 9) ↔ ((MemoryLengths g → ⊥) × ShortDestination g)
+  pub number-1 : (saveLeft g .reply ≡ save-refused 1) ↔ MemoryLengths g
+  pub number-9 : (saveLeft g .reply ≡ save-refused 9) ↔ ((MemoryLengths g → ⊥) × ShortDestination g)
   -- otherwise the reply is the file's length
   pub accepts :
       (n : ℕ) → (saveLeft g .reply ≡ saved n) ↔ ((MemoryLengths g → ⊥) × (ShortDestination g → ⊥) × (n ≡ length (savedFile (g .P) (g .D))))
-  pub no-other : (k : ℕ) → saveLeft g .reply ≡ refused k → (k ≡ 1) ⊎ (k ≡ 9)
+  pub no-other : (k : ℕ) → saveLeft g .reply ≡ save-refused k → (k ≡ 1) ⊎ (k ≡ 9)
   pub nothing-changes :
-      (k : ℕ) → saveLeft g .reply ≡ refused k → saveLeft g ≡ record { reply = refused k; P = g .P; D = g .D; destination = g .destination }
+      (k : ℕ) → saveLeft g .reply ≡ save-refused k → saveLeft g ≡ record { reply = save-refused k; P = g .P; D = g .D; destination = g .destination }
 
 -- ---- The claim
 

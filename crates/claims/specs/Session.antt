@@ -16,7 +16,7 @@ use Rattle.panel.specs.Calls.{SetGiven, SetLeft, setLeft}
 use Rattle.image.specs.Image.{LoadGiven, LoadLeft, loaded, loadLeft}
 use Rattle.report.specs.Example.{exampleFile}
 use Rattle.control.specs.Control.{byTable}
-use Rattle.run.specs.Runs.{Given, given, Left, RunReply, stopped, refused as run-refused, verdictOn, CountedLeft, CountedMeets}
+use Rattle.run.specs.Runs.{Given, given, Left, RunReply, stopped, run-refused, verdictOn, CountedLeft, CountedMeets}
 
 -- ---- The calls
 
@@ -146,7 +146,7 @@ machineReplies m (c ∷ cs) = machineSays m c ∷ machineReplies (machineCall m 
 abbrev pub machineOn : Host → List ℕ → Machine
 machineOn h L = record { state = h .state; P = h .P; D = h .D; I = h .I; O = h .O; L = L }
 
-pub record Agreed (file : List ℕ) (cs : List Call) (rs₁ rs₂ : List Reply) (h₁ h₂ : Host) : Type 0 where
+pub record Mirrors (file : List ℕ) (cs : List Call) (rs₁ rs₂ : List Reply) (h₁ h₂ : Host) : Type 0 where
   -- state (with n), P, D, I, O, and L are the machine's, started as 01 loads that file and given the same calls
   pub machine : machineOn h₁ (joined rs₁) ≡ machineCalls (loaded file) cs
   -- every reply, with its log as returned, is what that machine says of the call
@@ -167,11 +167,11 @@ pub data All (Q : Reply → Type 0) : List Reply → Type 0 where
 
 pub record Session : Type 0 where
   -- DEMAND 3
-  pub agreed :
+  pub demand-3 :
       (g : LoadGiven) (l₁ l₂ : LoadLeft) → l₁ ≡ loadLeft g → l₁ .reply ≡ accepted → l₂ ≡ loadLeft g → l₂ .reply ≡ accepted
       → (cs₁ cs₂ : List Call) → Alike cs₁ cs₂
       → (rs₁ rs₂ : List Reply) (h₁ h₂ : Host) → Calls (hostOf l₁) cs₁ rs₁ h₁ → Calls (hostOf l₂) cs₂ rs₂ h₂
-      → Agreed (g .file) cs₁ rs₁ rs₂ h₁ h₂
+      → Mirrors (g .file) cs₁ rs₁ rs₂ h₁ h₂
   -- such replies exist for every list,
   pub replies-exist : (h : Host) (cs : List Call) → (rs : List Reply) × (after : Host) × Calls h cs rs after
   -- and an accepted load exists: 01's file

@@ -9,8 +9,8 @@ use lib.ListN.{length, getD}
 use Rattle.refusal.specs.Refusals.{Verdict, accepted, refused}
 use Rattle.machine.specs.Run.{byRules, trace}
 use Rattle.usage.specs.declared.Usage.{Usage}
-use Rattle.usage.specs.Usage.{unused, usageOf, plus}
-use Rattle.run.specs.Runs.{Given, RunReply, stopped, refused as run-refused, verdictOn, machineAt, CountedLeft, CountedMeets}
+use Rattle.usage.specs.Usage.{unused, usageOf, plusUsage}
+use Rattle.run.specs.Runs.{Given, RunReply, stopped, run-refused, verdictOn, machineAt, CountedLeft, CountedMeets}
 use Rattle.sheet.specs.declared.Sheet.{Sheet}
 use Rattle.sheet.specs.Sheet.{empty, wasAccepted, feedLeft}
 use Rattle.replies.specs.declared.SisaAnswer.{SisaAnswer}
@@ -57,7 +57,7 @@ oneBy (refused k) = 0
 
 unfoldable pub countsOf : List Run → Usage
 countsOf [] = unused
-countsOf (r ∷ rs) = plus (countsBy (verdictOn (r .of)) (r .of)) (countsOf rs)
+countsOf (r ∷ rs) = plusUsage (countsBy (verdictOn (r .of)) (r .of)) (countsOf rs)
 
 -- the number of accepted ones
 unfoldable pub acceptedOf : List Run → ℕ

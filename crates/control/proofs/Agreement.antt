@@ -14,7 +14,7 @@ use Rattle.word.proofs.Computed.{all, all-at}
 use Rattle.word.proofs.Signed.{SE-is}
 use Rattle.word.proofs.Tests.{is-true}
 use Rattle.machine.specs.Machine.{Machine, R}
-use Rattle.machine.specs.Step.{PC, Ra, Rb, d11-9, write, jump, among, Rule, Row, by-f, by-f-dividing, one, by-e, none, rows, Choice, rule, division, unassigned, inRow, choice, Next, cannot, doing, stepBy, fetched, step, compute, compare, addi, ld, st, ldb, stb, jalr, bz, bnz, movi, movhi, input, output, multiply}
+use Rattle.machine.specs.Step.{PC, Ra, Rb, d11-9, write, jump, among, Rule, RuleRow, by-f, by-f-dividing, one, by-e, no-rule, ruleRows, Choice, rule, division, unassigned, ruleInRow, choice, Next, cannot, doing, stepBy, fetched, step, compute, compare, addi, ld, st, ldb, stb, jalr, bz, bnz, movi, movhi, input, output, multiplyDivide}
 use Rattle.machine.specs.Run.{isOut, byRules}
 use Rattle.control.specs.Control.{second, unit, result, next, storedData, stored, written, performed, assigned, zeroDivisor, writesPort, controlStep, table, controlIn, controlOf, byTable}
 
@@ -28,14 +28,14 @@ by-control : ℕ → Columns
 by-control c = record { does = controlStep c; port = writesPort c }
 
 -- what a row says of the words with this e, the choice by f made last
-abbrev stepRow : Row → ℕ → ℕ → Machine → Next
+abbrev stepRow : RuleRow → ℕ → ℕ → Machine → Next
 stepRow (by-f fs r) e w m = pick (among (f-of w) fs) (doing r w m) (cannot 1)
 stepRow (by-f-dividing fs gs r) e w m = pick (among (f-of w) fs) (pick (among (f-of w) gs && eqb (Rb w m) 0) (cannot 3) (doing r w m)) (cannot 1)
 stepRow (one r) e w m = doing r w m
 stepRow (by-e r₀ r₁) e w m = doing (pick (eqb e 0) r₀ r₁) w m
-stepRow none e w m = cannot 1
+stepRow no-rule e w m = cannot 1
 
-row-is : (x : Row) (e w : ℕ) (m : Machine) → stepRow x e w m ≡ stepBy (inRow x e (f-of w)) w m
+row-is : (x : RuleRow) (e w : ℕ) (m : Machine) → stepRow x e w m ≡ stepBy (ruleInRow x e (f-of w)) w m
 row-is (by-f fs r) e w m = by-test (among (f-of w) fs)
   where
     by-test : (t : Bool) → pick t (doing r w m) (cannot 1) ≡ stepBy (pick t (rule r) unassigned) w m
@@ -49,7 +49,7 @@ row-is (by-f-dividing fs gs r) e w m = by-tests (among (f-of w) fs) (among (f-of
     by-tests false s = refl
 row-is (one r) e w m = refl
 row-is (by-e r₀ r₁) e w m = refl
-row-is none e w m = refl
+row-is no-rule e w m = refl
 
 -- opcode 0 takes every f, so the table does not look at it
 any-f : (w : ℕ) → among (f-of w) (0 ∷ 1 ∷ 2 ∷ 3 ∷ 4 ∷ 5 ∷ 6 ∷ 7 ∷ []) ≡ true
@@ -59,10 +59,10 @@ any-f w = is-true _ (all-at 8 (λ f. among f (0 ∷ 1 ∷ 2 ∷ 3 ∷ 4 ∷ 5 �
     all-of-them : T (all 8 (λ f. among f (0 ∷ 1 ∷ 2 ∷ 3 ∷ 4 ∷ 5 ∷ 6 ∷ 7 ∷ [])))
     all-of-them = tt
 
-abbrev rowAt : ℕ → Row
-rowAt op = getD (one compute ∷ drop 1 rows) op none
+abbrev rowAt : ℕ → RuleRow
+rowAt op = getD (one compute ∷ drop 1 ruleRows) op no-rule
 
-rowAt-is : (op e w : ℕ) (m : Machine) → stepRow (rowAt op) e w m ≡ stepRow (getD rows op none) e w m
+rowAt-is : (op e w : ℕ) (m : Machine) → stepRow (rowAt op) e w m ≡ stepRow (getD ruleRows op no-rule) e w m
 rowAt-is zero e w m = rw (any-f w)
 rowAt-is (suc op) e w m = refl
 
@@ -103,7 +103,7 @@ from g k [] = []
 from g k (x ∷ xs) = g (k / 2) (k % 2) ∷ from g (suc k) xs
 
 test : map by-control table ≡ from by-row 0 table
-unfolding by-control by-row compute compare addi ld st ldb stb jalr movi input output multiply controlStep performed assigned zeroDivisor second unit result next storedData stored written
+unfolding by-control by-row compute compare addi ld st ldb stb jalr movi input output multiplyDivide controlStep performed assigned zeroDivisor second unit result next storedData stored written
 test = rw (bz-is, bnz-is, movhi-is)
 
 -- ---- The lemma: the test, read at the place of a word
@@ -129,7 +129,7 @@ unfolding by-control by-row choice
 agreement w m =
     ap (λ (x : Columns). x .does w m) (at w)
     ∙ rowAt-is (opcode w) (e-of w) w m
-    ∙ row-is (getD rows (opcode w) none) (e-of w) w m
+    ∙ row-is (getD ruleRows (opcode w) no-rule) (e-of w) w m
 
 pub agreement-port : (w : ℕ) → writesPort (controlOf w) ≡ isOut w
 unfolding by-control by-row
@@ -138,4 +138,4 @@ agreement-port w = ap (λ (x : Columns). x .port) (at w)
 -- by the table is by the rules
 pub same-stepper : byTable ≡ byRules
 unfolding step
-same-stepper = λ i. record { steps = λ m. agreement (fetched m) m i; writes = λ m. agreement-port (fetched m) i }
+same-stepper = λ i. record { steps = λ m. agreement (fetched m) m i; portWrite = λ m. agreement-port (fetched m) i }

@@ -119,7 +119,7 @@ pub record Local (v : Stepper) : Type 0 where
   pub keeps : (m next : Machine) → v .steps m ≡ to next → kept next ≡ kept m
   -- it does not look at L
   pub steps-shift : (l : List ℕ) (m : Machine) → v .steps (shift l m) ≡ shiftNext l (v .steps m)
-  pub writes-shift : (l : List ℕ) (m : Machine) → v .writes (shift l m) ≡ v .writes m
+  pub writes-shift : (l : List ℕ) (m : Machine) → v .portWrite (shift l m) ≡ v .portWrite m
 
 -- the step by a table's word, at a machine
 abbrev word-at : List ℕ → Machine → ℕ

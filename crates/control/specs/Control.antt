@@ -137,7 +137,7 @@ abbrev pub byControl : List ℕ → Stepper
 byControl words =
     record {
       steps = λ m. controlStep (controlIn words (fetched m)) (fetched m) m;
-      writes = λ m. writesPort (controlIn words (fetched m));
+      portWrite = λ m. writesPort (controlIn words (fetched m));
     }
 
 abbrev pub byTable : Stepper

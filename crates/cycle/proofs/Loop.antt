@@ -17,7 +17,7 @@ use Rattle.machine.specs.Held.{Held, machineOf, isFull, Ready, outcomeOf, StepM
 use Rattle.machine.proofs.Runs.{Lawful, run-none, trace-none, run-stops, trace-stops, run-goes}
 use Rattle.isa.specs.Masks.{masksOf}
 use Rattle.usage.specs.declared.Usage.{Usage}
-use Rattle.usage.specs.Usage.{wordIs, counted, unused, usageOf, plus, Countable}
+use Rattle.usage.specs.Usage.{wordIs, counted, unused, usageOf, plusUsage, Countable}
 use Rattle.usage.proofs.Sums.{counted-plus, Sized, unused-sized, counted-sized, trace-sized, plus-unused, unused-plus, AtMost, counted-most, unused-most, countable}
 use Rattle.control.specs.Control.{controlIn, controlStep, writesPort}
 use Rattle.control.proofs.Laws.{lawful-control, lawful-rules}
@@ -61,7 +61,7 @@ pub record Going (v : Stepper) (g : Given) (h : Held) (steps : ℕ) (u : Usage) 
   pub same : runFrom v (g .budget - steps) (length (g .log)) (machineOf (g .P) h) ≡ run v (g .budget) (length (g .log)) (machineAt g)
   pub few : AtMost steps u
   pub sized : Sized u
-  pub tallied : plus u (usageOf (restOf v g h (g .budget - steps))) ≡ countsOf v g
+  pub tallied : plusUsage u (usageOf (restOf v g h (g .budget - steps))) ≡ countsOf v g
 
 pub start : (v : Stepper) (g : Given) → CanRun g → Going v g (startOf g) 0 unused
 start v g c =
@@ -138,18 +138,18 @@ hereOf g h = machineOf (g .P) h
 
 -- where nothing is left to run, the counts are those of the run
 counted-out : (v : Stepper) (g : Given) (h : Held) (left : ℕ) (u : Usage) → Sized u → restOf v g h left ≡ []
-    → plus u (usageOf (restOf v g h left)) ≡ countsOf v g → u ≡ countsOf v g
+    → plusUsage u (usageOf (restOf v g h left)) ≡ countsOf v g → u ≡ countsOf v g
 unfolding usageOf
-counted-out v g h left u s e c = sym (plus-unused s) ∙ sym (ap (λ (ms : List Machine). plus u (usageOf ms)) e) ∙ c
+counted-out v g h left u s e c = sym (plus-unused s) ∙ sym (ap (λ (ms : List Machine). plusUsage u (usageOf ms)) e) ∙ c
 
 -- a step more that was counted
-turned : (m : Machine) (w : ℕ) (u : Usage) {ms rest : List Machine} {total : Usage} → fetched m ≡ w → ms ≡ m ∷ rest → plus u (usageOf ms) ≡ total
-    → plus (counted (wordIs w) (masksOf w) u) (usageOf rest) ≡ total
+turned : (m : Machine) (w : ℕ) (u : Usage) {ms rest : List Machine} {total : Usage} → fetched m ≡ w → ms ≡ m ∷ rest → plusUsage u (usageOf ms) ≡ total
+    → plusUsage (counted (wordIs w) (masksOf w) u) (usageOf rest) ≡ total
 unfolding usageOf
 turned m w u {rest = rest} f e c =
     counted-plus (wordIs w) (masksOf w) u (usageOf rest)
-    ∙ ap (λ (w : ℕ). plus u (counted (wordIs w) (masksOf w) (usageOf rest))) (sym f)
-    ∙ sym (ap (λ (ms : List Machine). plus u (usageOf ms)) e)
+    ∙ ap (λ (w : ℕ). plusUsage u (counted (wordIs w) (masksOf w) (usageOf rest))) (sym f)
+    ∙ sym (ap (λ (ms : List Machine). plusUsage u (usageOf ms)) e)
     ∙ c
 
 both-parts : (v : Stepper) (g : Given) {l : Left} {u : Usage} → l ≡ acceptedLeft v g → u ≡ countsOf v g → record { left = l; usage = u } ≡ acceptedCounted v g
@@ -190,7 +190,7 @@ module _ (t : Bool) (words : List ℕ) {g : Given} {h : Held} {steps : ℕ} {u :
     filled-after : length (machineOf (g .P) after .L) ≡ after .entries
     filled-after = entries-are (g .P) after (met .filled)
 
-    counts-here : plus u (usageOf (restOf (chosen t words) g h (suc (g .budget - (steps + 1))))) ≡ countsOf (chosen t words) g
+    counts-here : plusUsage u (usageOf (restOf (chosen t words) g h (suc (g .budget - (steps + 1))))) ≡ countsOf (chosen t words) g
     counts-here = rw one-left at (v .tallied)
 
     -- the step was not made

@@ -4,7 +4,7 @@ ghost use mathlib.Core.List.{[]};
 ghost use lib.ListN.{getD, drop};
 ghost use Rattle.refusal.specs.Refusals.{refusalNumber};
 ghost use Rattle.token.specs.Scan.{firstLine};
-ghost use Rattle.printing.specs.Text.{held};
+ghost use Rattle.printing.specs.Text.{inArray};
 ghost use Rattle.printing.specs.Writing.{Wrote};
 ghost use Rattle.assembler.specs.Text.{lines};
 ghost use Rattle.diagnostic.specs.Diagnostic.{reason, shownByte, shownLine, source, diagnosticOf};
@@ -93,7 +93,7 @@ fn with_source(written: Printed, text: &[u8], line: u32) -> Printed
 
 // For a line of the text that is refused: its number, why, and the line itself.
 pub fn diagnostic(text: &[u8], line: u32, refusal: Refusal) -> Printed
-    ensures { λ r. ⌜ r ≡ held (diagnosticOf (now (text .entry)) line (refusalNumber refusal)) ⌝ }
+    ensures { λ r. ⌜ r ≡ inArray (diagnosticOf (now (text .entry)) line (refusalNumber refusal)) ⌝ }
 {
     let number = refusal::number(refusal);
     let message = Printed::empty()

@@ -10,7 +10,7 @@ use lib.ListN.{length, getD}
 use Rattle.kinds.specs.declared.Kind.{Kind}
 use Rattle.kinds.specs.declared.Kind.the-variants.{And}
 use Rattle.kinds.specs.Kinds.{kinds}
-use Rattle.isa.specs.Instructions.{Written, writeOf}
+use Rattle.isa.specs.Instructions.{WriteReply, writeOf}
 use Rattle.expression.specs.declared.Value.{Value}
 use Rattle.encoding.specs.declared.Judged.{Judged as Outcome}
 use Rattle.statement.specs.Syntax.{Field, Parts, table, rowAt, of-row}
@@ -44,7 +44,7 @@ module _ (k a : ℕ) (p : Parts Value) where
     unfolding encoded
     odd-row h = rw (ne-eqb k (length kinds) n, ← e, h)
 
-    pub written-row : {kind : Kind} {m : ℤ} {w : Written}
+    pub written-row : {kind : Kind} {m : ℤ} {w : WriteReply}
         → odd f a (p .n .word) ≡ false
         → kind ≡ getD kinds k And
         → m ≡ numberOf f a (p .n .word)

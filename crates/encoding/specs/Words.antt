@@ -7,14 +7,14 @@ use lib.ListN.{length, getD}
 use Rattle.word.specs.Word.{pick, subtract, signed}
 use Rattle.kinds.specs.declared.Kind.the-variants.{And}
 use Rattle.kinds.specs.Kinds.{kinds}
-use Rattle.isa.specs.Instructions.{Written, word, refused, writeOf}
+use Rattle.isa.specs.Instructions.{WriteReply, word, write-refused, writeOf}
 use Rattle.token.specs.Tokens.{between}
 use Rattle.expression.specs.declared.Value.{Value}
-use Rattle.statement.specs.Syntax.{Field, number, eight-bits, target, rowAt, Parts, Statement, none, of-row}
+use Rattle.statement.specs.Syntax.{Field, number, eight-bits, target, rowAt, Parts, Statement, no-statement, of-row}
 
 -- how many words a statement gives
 unfoldable pub wordsIn : {A : Type 0} → Statement A → ℕ
-wordsIn none = 0
+wordsIn no-statement = 0
 wordsIn (of-row k p) = 1
 
 -- A branch operand is its target address: the distance from the next instruction, modulo 65,536
@@ -41,9 +41,9 @@ pub data Judged : Type 0 where
   gives : ℕ → Judged
 
 -- 12: a value its field can't hold
-unfoldable pub written : Written → Judged
+unfoldable pub written : WriteReply → Judged
 written (word w) = gives w
-written (refused r) = bad 12
+written (write-refused r) = bad 12
 
 -- the word of row k at an address: of `.word` the value itself, of an instruction what writing it gives
 unfoldable pub encoded : ℕ → ℕ → Parts Value → Judged
@@ -54,5 +54,5 @@ encoded k address p =
 
 -- 11: a name unknown
 unfoldable pub stated : ℕ → Statement Value → Judged
-stated address none = nothing
+stated address no-statement = nothing
 stated address (of-row k p) = pick (p .n .known) (encoded k address p) (bad 11)

@@ -14,7 +14,7 @@ use Rattle.machine.specs.Run.{Stepper}
 use Rattle.control.specs.Control.{table, byControl, byTable}
 use Rattle.usage.specs.declared.Usage.{Usage}
 use Rattle.usage.specs.Usage.{unused}
-use Rattle.run.specs.Runs.{Given, left, refused as run-refused-with, verdict, verdictOn, CountedLeft, acceptedCounted, countedLeft, CountedMeets}
+use Rattle.run.specs.Runs.{Given, left, run-refused, verdict, verdictOn, CountedLeft, acceptedCounted, countedLeft, CountedMeets}
 use Rattle.cycle.specs.Loops.{CanRun}
 
 -- what an accepted verdict says
@@ -39,10 +39,10 @@ accepted-fits g e =
 -- ---- The run, by its verdict
 
 module _ (v : Stepper) (g : Given) where
-  pub run-refused : {k : ℕ} {u : Usage} → refused k ≡ verdictOn g → u ≡ unused
-      → CountedMeets v g (record { left = left (run-refused-with k) (g .state) (g .P) (g .D) (g .I) (g .O) (g .log); usage = u })
+  pub refused-run : {k : ℕ} {u : Usage} → refused k ≡ verdictOn g → u ≡ unused
+      → CountedMeets v g (record { left = left (run-refused k) (g .state) (g .P) (g .D) (g .I) (g .O) (g .log); usage = u })
   unfolding countedLeft
-  run-refused e c = rw (← e, c)
+  refused-run e c = rw (← e, c)
 
   pub run-accepted : {l : CountedLeft} → accepted ≡ verdictOn g → l ≡ acceptedCounted v g → CountedMeets v g l
   unfolding countedLeft

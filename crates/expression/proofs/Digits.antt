@@ -11,7 +11,7 @@ use lib.ListN.{length, getD}
 use borrow.Author.Tests.{lt-ltb, le-ltb, ltb-true}
 use Rattle.word.specs.Word.{pick}
 use Rattle.word.proofs.Tests.{passed}
-use Rattle.token.specs.Tokens.{digit}
+use Rattle.token.specs.Tokens.{isDigit}
 use Rattle.token.specs.Scan.{part}
 use Rattle.token.proofs.Scanning.{part-cons, part-length}
 use Rattle.expression.specs.declared.Value.{Value}
@@ -82,21 +82,21 @@ module _ (s : List ℕ) (start end : ℕ) (h : start < end) (l : end ≤ length 
   hex-long e = omega (arith, ltb-true 2 (end - start) (passed (ltb 2 (end - start)) false≢true (sym hexed-part ∙ e) .0))
 
   module _ (names : List Label) where
-    pub leaf-hex : digit (getD s start 0) ≡ true → hexed (part start end s) ≡ true → numberLeaf 16 0 (part (start + 2) end s) ≡ leafOf names (part start end s)
+    pub leaf-hex : isDigit (getD s start 0) ≡ true → hexed (part start end s) ≡ true → numberLeaf 16 0 (part (start + 2) end s) ≡ leafOf names (part start end s)
     unfolding leafOf isOperand isLiteral operandValue literalWord numberLeaf
     leaf-hex d x =
         rw (first-byte s start end l h, d, x, ← reduced-is 16 0, part-two s start end l (omega (arith, hex-long x)))
 
-    pub leaf-decimal : digit (getD s start 0) ≡ true → hexed (part start end s) ≡ false → numberLeaf 10 0 (part start end s) ≡ leafOf names (part start end s)
+    pub leaf-decimal : isDigit (getD s start 0) ≡ true → hexed (part start end s) ≡ false → numberLeaf 10 0 (part start end s) ≡ leafOf names (part start end s)
     unfolding leafOf isOperand isLiteral operandValue literalWord numberLeaf
     leaf-decimal d x = rw (first-byte s start end l h, d, x, ← reduced-is 10 0)
 
     pub leaf-named :
-        digit (getD s start 0) ≡ false → isName (part start end s) ≡ true → {v : Value} → v ≡ nameValue names (part start end s)
+        isDigit (getD s start 0) ≡ false → isName (part start end s) ≡ true → {v : Value} → v ≡ nameValue names (part start end s)
         → Means v ≡ leafOf names (part start end s)
     unfolding leafOf isOperand operandValue
     leaf-named d n p = rw (first-byte s start end l h, d, n, p)
 
-    pub leaf-none : digit (getD s start 0) ≡ false → isName (part start end s) ≡ false → NoOperand ≡ leafOf names (part start end s)
+    pub leaf-none : isDigit (getD s start 0) ≡ false → isName (part start end s) ≡ false → NoOperand ≡ leafOf names (part start end s)
     unfolding leafOf isOperand
     leaf-none d n = rw (first-byte s start end l h, d, n)

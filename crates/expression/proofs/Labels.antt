@@ -11,7 +11,7 @@ use lib.ListN.{length, drop, getD, length-drop}
 use lib.Seq.{drop-cons}
 use borrow.Author.Tests.{eq-eqb}
 use Rattle.word.specs.Word.{pick}
-use Rattle.token.specs.Tokens.{Token, between, letter}
+use Rattle.token.specs.Tokens.{Token, between, isLetter}
 use Rattle.token.specs.Scan.{part, alike}
 use Rattle.token.proofs.Scanning.{part-length}
 use Rattle.expression.specs.declared.Value.{Value}
@@ -48,7 +48,7 @@ module _ (s : List ℕ) (start end : ℕ) (l : end ≤ length s) where
   pub name-part :
       start < end
       → isName (part start end s)
-      ≡ pick (letter (getD s start 0)) (pick (leb (end - start) 16) (eqb (registerOf (part start end s)) 8) false) false
+      ≡ pick (isLetter (getD s start 0)) (pick (leb (end - start) 16) (eqb (registerOf (part start end s)) 8) false) false
   unfolding isName
   name-part h = rw (first-byte s start end l h, part-length s start end l)
 

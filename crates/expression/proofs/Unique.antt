@@ -8,7 +8,7 @@ use mathlib.Core.List.{List, [], _∷_, _++_, append-assoc}
 use native.Mathlib.Omega.{arith}
 use lib.Dec.{eqb}
 use borrow.Author.Tests.{ne-eqb}
-use Rattle.token.specs.Tokens.{Token, between, digit, letter}
+use Rattle.token.specs.Tokens.{Token, between, isDigit, isLetter}
 use Rattle.token.specs.Scan.{symbolOf}
 use Rattle.token.proofs.Symbols.{one-byte}
 use Rattle.expression.specs.Operands.{isName, isOperand, Operator, operatorText, rankOf}
@@ -34,7 +34,7 @@ not-this : (w : Token) (b : ℕ) → b < 256 → isOperand (b ∷ []) ≡ false 
 not-this w b h n o e = false≢true (sym n ∙ ap isOperand (sym (one-byte w b h e)) ∙ o)
 
 operand-starts : (w : Token) → isOperand w ≡ true → (eqb (symbolOf w) 45 ≡ false) × (eqb (symbolOf w) 40 ≡ false)
-unfolding isOperand isName digit letter between
+unfolding isOperand isName isDigit isLetter between
 operand-starts w o = (ne-eqb _ _ (not-this w 45 (omega arith) refl o), ne-eqb _ _ (not-this w 40 (omega arith) refl o))
 
 -- after t, the operators of rank k that follow

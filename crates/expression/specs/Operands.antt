@@ -7,7 +7,7 @@ use lib.Dec.{eqb, ltb, leb}
 use lib.Bits.{bitAnd, bitOr}
 use Rattle.word.specs.Word.{pick, add, subtract}
 use Rattle.token.specs.Ascii.{byte, ascii}
-use Rattle.token.specs.Tokens.{Token, between, digit, letter}
+use Rattle.token.specs.Tokens.{Token, between, isDigit, isLetter}
 use Rattle.token.specs.Scan.{alike}
 use Rattle.expression.specs.declared.Value.{Value}
 
@@ -53,7 +53,7 @@ registerOf (r ∷ k ∷ b ∷ w) = 8
 -- Names have 1 to 16 letters or digits, begin with a letter, aren't R0 to R7. (A token that begins with a letter has only
 -- letters and digits.)
 unfoldable pub isName : Token → Bool
-isName w = pick (letter (getD w 0 0)) (pick (leb (length w) 16) (eqb (registerOf w) 8) false) false
+isName w = pick (isLetter (getD w 0 0)) (pick (leb (length w) 16) (eqb (registerOf w) 8) false) false
 
 -- a name that a line gave, and its address
 pub record Label : Type 0 where
@@ -68,10 +68,10 @@ nameValue (l ∷ ls) w = pick (alike w (l .name)) (record { word = l .address % 
 -- ---- Operands: a token that begins with a digit is a literal or nothing, any other a name or nothing
 
 unfoldable pub isOperand : Token → Bool
-isOperand w = pick (digit (getD w 0 0)) (isLiteral w) (isName w)
+isOperand w = pick (isDigit (getD w 0 0)) (isLiteral w) (isName w)
 
 unfoldable pub operandValue : List Label → Token → Value
-operandValue names w = pick (digit (getD w 0 0)) (record { word = literalWord w; known = true }) (nameValue names w)
+operandValue names w = pick (isDigit (getD w 0 0)) (record { word = literalWord w; known = true }) (nameValue names w)
 
 -- ---- Operators
 

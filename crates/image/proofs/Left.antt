@@ -8,7 +8,7 @@ use lib.ListN.{length, take, drop, replicate}
 use Rattle.refusal.specs.Refusals.{Verdict, accepted, refused}
 use Rattle.machine.specs.declared.State.{State}
 use Rattle.machine.specs.Machine.{reset}
-use Rattle.image.specs.Image.{W, programOffset, C, dataOffset, memoryOf, loaded, LoadLeft, LoadGiven, loadReply, leftBy, loadLeft}
+use Rattle.image.specs.Image.{W, programOffset, C, dataOffset, memoryOf, loaded, LoadLeft, LoadGiven, loadReply, loadLeftBy, loadLeft}
 use Rattle.image.specs.declared.Part.{Part}
 use Rattle.image.specs.Parts.{ReadAs}
 use Rattle.image.proofs.Fits.{PartInside}
@@ -40,9 +40,9 @@ unfolding loaded
 accepted-left file s p d i o = joined accepted s p d i o
 
 module _ (g : LoadGiven) where
-  pub left-by : {reply : Verdict} {left : LoadLeft} → reply ≡ loadReply g → left ≡ leftBy reply g → left ≡ loadLeft g
+  pub left-by : {reply : Verdict} {left : LoadLeft} → reply ≡ loadReply g → left ≡ loadLeftBy reply g → left ≡ loadLeft g
   unfolding loadLeft
-  left-by e h = h ∙ ap (λ reply. leftBy reply g) e
+  left-by e h = h ∙ ap (λ reply. loadLeftBy reply g) e
 
   pub refused-left : {k : ℕ} {state : State} → refused k ≡ loadReply g → state ≡ reset
       → _≡_ {A = LoadLeft} (record { reply = refused k; state = state; P = g .P; D = g .D; I = g .I; O = g .O }) (loadLeft g)

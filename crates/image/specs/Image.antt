@@ -96,14 +96,14 @@ unfoldable pub loadReply : LoadGiven → Verdict
 loadReply g = pick (lengthsFit (g .P) (g .D) (g .I) (g .O)) (fileReply (g .file)) (refused 1)
 
 -- A refused load changes nothing lent; the state beside its number is the reset one.
-abbrev pub leftBy : Verdict → LoadGiven → LoadLeft
-leftBy accepted g =
+abbrev pub loadLeftBy : Verdict → LoadGiven → LoadLeft
+loadLeftBy accepted g =
     let m = loaded (g .file) in
     record { reply = accepted; state = m .state; P = m .P; D = m .D; I = m .I; O = m .O }
-leftBy (refused k) g = record { reply = refused k; state = reset; P = g .P; D = g .D; I = g .I; O = g .O }
+loadLeftBy (refused k) g = record { reply = refused k; state = reset; P = g .P; D = g .D; I = g .I; O = g .O }
 
 unfoldable pub loadLeft : LoadGiven → LoadLeft
-loadLeft g = leftBy (loadReply g) g
+loadLeft g = loadLeftBy (loadReply g) g
 
 -- ---- The contract, of load's parameters in their order and what it replies
 

@@ -5,7 +5,7 @@ ghost use Prim.Native.Nat.{_+_, _-_, _<_, _≤_};
 ghost use lib.ListN.{length, take, drop, replicate};
 ghost use Rattle.refusal.specs.Refusals.{accepted};
 ghost use Rattle.image.specs.Parts.{programPart, dataPart, ReadAs};
-ghost use Rattle.image.specs.Image.{number32, partsFit, inside, partsInside, fileReply, loadReply, leftBy, shownLoading, fileLent, loadedWith, Loads};
+ghost use Rattle.image.specs.Image.{number32, partsFit, inside, partsInside, fileReply, loadReply, loadLeftBy, shownLoading, fileLent, loadedWith, Loads};
 use block::copy;
 use bus::lengths_fit;
 use machine::State;
@@ -165,7 +165,7 @@ fn accept(
     outputs: &mut [u16],
 ) -> Loaded
     requires { ⌜ accepted ≡ loadReply (record { file = now file; P = now program; D = now memory; I = now inputs; O = now outputs }) ⌝ }
-    ensures { λ r. ⌜ loadedWith program memory inputs outputs r ≡ leftBy accepted (fileLent file program memory inputs outputs) ⌝ }
+    ensures { λ r. ⌜ loadedWith program memory inputs outputs r ≡ loadLeftBy accepted (fileLent file program memory inputs outputs) ⌝ }
 {
     place(file, program_part(file), program);
     place(file, data_part(file), memory);

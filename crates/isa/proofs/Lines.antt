@@ -25,8 +25,8 @@ use Rattle.isa.specs.declared.layout.Form.the-variants.{Abd, Axd, AdSign
 use Rattle.isa.specs.declared.layout.Layout.{Layout}
 use Rattle.isa.specs.declared.parts.Low.the-variants.{Nothing, Bits}
 use Rattle.kinds.specs.Kinds.{kinds, kindNumber}
-use Rattle.isa.specs.Sheet.{Format, R3, R3-NOT, R2-ab, R2-ad, R2-JALR, R1-a, R1-d, Code, F, E, only, Number, signed-n, unsigned-n, Line, sheet}
-use Rattle.isa.specs.Instructions.{partsOf, Written, word, refused, shownWriting, inRange, wordOf, writeAs}
+use Rattle.isa.specs.Sheet.{Format, R3, R3-NOT, R2-ab, R2-ad, R2-JALR, R1-a, R1-d, Code, F, E, only, Number, signed-n, unsigned-n, Line, sheetLine}
+use Rattle.isa.specs.Instructions.{partsOf, WriteReply, word, write-refused, shownWriting, inRange, wordOf, writeAs}
 use Rattle.isa.specs.Layouts.{forms, formOf, layoutOf, wordSum, Sound, numberOf, bitsOf, fieldsOf, writeBits, writeIn}
 use Rattle.isa.proofs.Every.{listed, every}
 use Rattle.isa.proofs.Numbers.{unsigned-is, unsigned-bits, signed-bits}
@@ -48,14 +48,14 @@ lineOf (DSigned v) = lineIn R1-d v (E (v / 256 % 2)) signed-n
 lineOf (DUnsigned v) = lineIn R1-d v (E (v / 256 % 2)) unsigned-n
 
 -- the code's table is the sheet's, line by line
-table : map sheet kinds ≡ map lineOf forms
+table : map sheetLine kinds ≡ map lineOf forms
 table = refl
 
-pub line-is : (k : Kind) → sheet k ≡ lineOf (formOf k)
+pub line-is : (k : Kind) → sheetLine k ≡ lineOf (formOf k)
 line-is k =
-    ap sheet (sym (listed k .1))
-    ∙ sym (List·getD-map sheet kinds (kindNumber k) And)
-    ∙ ap (λ (ls : List Line). getD ls (kindNumber k) (sheet And)) table
+    ap sheetLine (sym (listed k .1))
+    ∙ sym (List·getD-map sheetLine kinds (kindNumber k) And)
+    ∙ ap (λ (ls : List Line). getD ls (kindNumber k) (sheetLine And)) table
     ∙ List·getD-map lineOf forms (kindNumber k) (Abd 0)
 
 -- ---- Reading
@@ -81,7 +81,7 @@ parts-in (AUnsigned v) k w = same-parts k refl (omega arith) (omega arith) (unsi
 parts-in (DSigned v) k w = same-parts k (omega arith) (omega arith) refl (signed-part 8 w)
 parts-in (DUnsigned v) k w = same-parts k (omega arith) (omega arith) refl (unsigned-part 256 w (omega arith))
 
-pub parts-are : (k : Kind) (w : ℕ) → fieldsOf (layoutOf (formOf k)) k w ≡ partsOf (sheet k) k w
+pub parts-are : (k : Kind) (w : ℕ) → fieldsOf (layoutOf (formOf k)) k w ≡ partsOf (sheetLine k) k w
 parts-are k w = parts-in (formOf k) k w ∙ ap (λ (l : Line). partsOf l k w) (sym (line-is k))
 
 -- ---- The fixed bits
@@ -167,7 +167,7 @@ sizes (DUnsigned v) = record { a = refl; b = refl; d = refl; n = refl }
 -- the code's tests one after the other are the line's
 tested : (a b d n : Bool) (m : Layout) (i : Instruction) (x v : ℕ) → (a ≡ true → b ≡ true → d ≡ true → wordSum m (i .a) (i .b) (i .d) x ≡ v)
     → shownWriting (pick a (pick b (pick d (writeBits m i (pick n (Bits x) Nothing)) (Refused InstructionPart)) (Refused InstructionPart)) (Refused InstructionPart))
-    ≡ pick (a && b && d && n) (word v) (refused 7)
+    ≡ pick (a && b && d && n) (word v) (write-refused 7)
 tested true true true true m i x v h = ap word (h refl refl refl)
 tested true true true false m i x v h = refl
 tested true true false n m i x v h = refl
@@ -182,7 +182,7 @@ write-in y g i =
     (tested (ltb (i .a) (layoutOf y .a)) (ltb (i .b) (layoutOf y .b)) (ltb (i .d) (layoutOf y .d)) _ (layoutOf y) i x _
     (λ p q r. word-in y g (i .a) (i .b) (i .d) x (ltb-true _ _ p) (ltb-true _ _ q) (ltb-true _ _ r) (rw (z .n) (low-lt (lineOf y .format .n .count) (i .n)))))
 
-pub write-is : (i : Instruction) → shownWriting (writeIn (layoutOf (formOf (i .kind))) i) ≡ writeAs (sheet (i .kind)) i
+pub write-is : (i : Instruction) → shownWriting (writeIn (layoutOf (formOf (i .kind))) i) ≡ writeAs (sheetLine (i .kind)) i
 write-is i = write-in (formOf (i .kind)) (fixed (i .kind)) i ∙ ap (λ (l : Line). writeAs l i) (sym (line-is (i .kind)))
 
 -- ---- What the code relies on

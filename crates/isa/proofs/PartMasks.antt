@@ -12,7 +12,7 @@ use Rattle.kinds.specs.declared.Kind.the-variants.{And}
 use Rattle.kinds.specs.Kinds.{kinds, kindNumber}
 use Rattle.isa.specs.declared.layout.Form.the-variants.{Abd}
 use Rattle.isa.specs.declared.layout.Layout.{Layout}
-use Rattle.isa.specs.Sheet.{sheet}
+use Rattle.isa.specs.Sheet.{sheetLine}
 use Rattle.isa.specs.Masks.{registerMask, readsDestination, readsOf, writesOf}
 use Rattle.isa.specs.Layouts.{forms, formOf, layoutOf, maskIn}
 use Rattle.isa.proofs.Every.{listed}
@@ -27,7 +27,7 @@ abbrev pub byLayout : Layout → ℕ → PartMasks
 byLayout m w = record { a = maskIn (m .a) (w / 512 % 8); b = maskIn (m .b) (w / 64 % 8); d = maskIn (m .d) (w / (m .weight) % 8) }
 
 abbrev pub bySheet : Kind → ℕ → PartMasks
-bySheet k w = record { a = registerMask (sheet k .format .a) w; b = registerMask (sheet k .format .b) w; d = registerMask (sheet k .format .d) w }
+bySheet k w = record { a = registerMask (sheetLine k .format .a) w; b = registerMask (sheetLine k .format .b) w; d = registerMask (sheetLine k .format .d) w }
 
 table : map bySheet kinds ≡ map (λ y. byLayout (layoutOf y)) forms
 table = refl

@@ -15,7 +15,7 @@ use Rattle.isa.specs.declared.Reading.{Reading}
 use Rattle.isa.specs.declared.Reading.the-variants.{Instruction as ReadInstruction, Unassigned as ReadUnassigned}
 use Rattle.isa.specs.declared.Writing.{Writing}
 use Rattle.isa.specs.declared.Writing.the-variants.{Word, Refused}
-use Rattle.isa.specs.Sheet.{Code, F, E, only, Number, signed-n, unsigned-n, Line, sheet, kindAt}
+use Rattle.isa.specs.Sheet.{Code, F, E, only, Number, signed-n, unsigned-n, Line, sheetLine, kindAt}
 
 -- ---- The registers of an instruction, each in a part of it
 
@@ -39,9 +39,9 @@ shownReading (ReadInstruction i) = instruction i
 shownReading ReadUnassigned = unassigned
 
 -- the number that x in the bits of n stands for
-abbrev pub valueOf : Number → Bits → ℕ → ℤ
-valueOf signed-n p x = signed (p .count) x
-valueOf unsigned-n p x = pos x
+abbrev pub numberIn : Number → Bits → ℕ → ℤ
+numberIn signed-n p x = signed (p .count) x
+numberIn unsigned-n p x = pos x
 
 -- each part is what stands in its bits; a part that the format lacks is 0
 abbrev pub partsOf : Line → Kind → ℕ → Instruction
@@ -51,11 +51,11 @@ partsOf l k w =
       a = field (l .format .a) w;
       b = field (l .format .b) w;
       d = field (l .format .d) w;
-      n = valueOf (l .number) (l .format .n) (field (l .format .n) w);
+      n = numberIn (l .number) (l .format .n) (field (l .format .n) w);
     }
 
 abbrev pub readAs : Entry → ℕ → Read
-readAs (Assigned k) w = instruction (partsOf (sheet k) k w)
+readAs (Assigned k) w = instruction (partsOf (sheetLine k) k w)
 readAs Unassigned w = unassigned
 
 unfoldable pub readOf : ℕ → Read
@@ -64,13 +64,13 @@ readOf w = readAs (kindAt (opcode w) (e-of w) (f-of w)) w
 -- ---- Writing
 
 -- What writing answers: the word, or the number of the refusal.
-pub data Written : Type 0 where
-  word : ℕ → Written
-  refused : ℕ → Written
+pub data WriteReply : Type 0 where
+  word : ℕ → WriteReply
+  write-refused : ℕ → WriteReply
 
-abbrev pub shownWriting : Writing → Written
+abbrev pub shownWriting : Writing → WriteReply
 shownWriting (Word w) = word w
-shownWriting (Refused r) = refused (refusalNumber r)
+shownWriting (Refused r) = write-refused (refusalNumber r)
 
 -- n is one of the numbers that its bits can stand for
 abbrev pub inRange : Number → Bits → ℤ → Bool
@@ -104,8 +104,8 @@ wordOf l a b d x =
     + placed (l .format .d) d
     + placed (l .format .n) x
 
-abbrev pub writeAs : Line → Instruction → Written
-writeAs l i = pick (fits l i) (word (wordOf l (i .a) (i .b) (i .d) (lowBits (l .format .n .count) (i .n)))) (refused 7)
+abbrev pub writeAs : Line → Instruction → WriteReply
+writeAs l i = pick (fits l i) (word (wordOf l (i .a) (i .b) (i .d) (lowBits (l .format .n .count) (i .n)))) (write-refused 7)
 
-unfoldable pub writeOf : Instruction → Written
-writeOf i = writeAs (sheet (i .kind)) i
+unfoldable pub writeOf : Instruction → WriteReply
+writeOf i = writeAs (sheetLine (i .kind)) i

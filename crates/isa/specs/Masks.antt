@@ -11,7 +11,7 @@ use Rattle.kinds.specs.Kinds.{kindNumber}
 use Rattle.isa.specs.declared.Decoded.{Decoded}
 use Rattle.isa.specs.declared.rows.Entry.{Entry}
 use Rattle.isa.specs.declared.rows.Entry.the-variants.{Unassigned, Assigned}
-use Rattle.isa.specs.Sheet.{sheet, kindAt}
+use Rattle.isa.specs.Sheet.{sheetLine, kindAt}
 use Rattle.isa.specs.Instructions.{Read, shownReading, readOf}
 
 -- the registers whose value the rule uses, and the one that it writes, if any
@@ -35,12 +35,12 @@ readsDestination k = eqb (kindNumber k) (kindNumber Movhi)
 abbrev pub readsOf : Kind → ℕ → ℕ
 readsOf k w =
     bitOr
-    (bitOr (registerMask (sheet k .format .a) w) (registerMask (sheet k .format .b) w))
-    (pick (readsDestination k) (registerMask (sheet k .format .d) w) 0)
+    (bitOr (registerMask (sheetLine k .format .a) w) (registerMask (sheetLine k .format .b) w))
+    (pick (readsDestination k) (registerMask (sheetLine k .format .d) w) 0)
 
 -- It writes Rd where its format has it: ST, STB, BZ, BNZ and OUT write none.
 abbrev pub writesOf : Kind → ℕ → ℕ
-writesOf k w = registerMask (sheet k .format .d) w
+writesOf k w = registerMask (sheetLine k .format .d) w
 
 -- unassigned words give 0 and 0
 abbrev pub masksAs : Entry → ℕ → Masks

@@ -11,7 +11,7 @@ use Rattle.kinds.specs.declared.Kind.the-variants.{And, Or, Xor, Not, Add, Sub,
 use Rattle.isa.specs.declared.rows.Entry.{Entry}
 use Rattle.isa.specs.declared.rows.Entry.the-variants.{Unassigned, Assigned}
 
--- ---- Instruction formats: where the parts a, b, d and n stand in the word. A part that a format lacks is `none`: no
+-- ---- Instruction formats: where the parts a, b, d and n stand in the word. A part that a format lacks is `no-bits`: no
 -- instruction of that format uses it. `ignored` are the bits x, which reading ignores and writing sets to 0.
 pub record Format : Type 0 where
   pub a : Bits
@@ -21,36 +21,36 @@ pub record Format : Type 0 where
   pub ignored : Bits
 
 -- no bits
-abbrev pub none : Bits
-none = record { lowest = 0; count = 0 }
+abbrev pub no-bits : Bits
+no-bits = record { lowest = 0; count = 0 }
 
 -- 3R   c c c c  a a a  b b b  d d d  f f f
 abbrev pub R3 : Format
-R3 = record { a = bits 11 9; b = bits 8 6; d = bits 5 3; n = none; ignored = none }
+R3 = record { a = bits 11 9; b = bits 8 6; d = bits 5 3; n = no-bits; ignored = no-bits }
 
 -- 3R   c c c c  a a a  x x x  d d d  f f f            NOT, which has no Rb
 abbrev pub R3-NOT : Format
-R3-NOT = record { a = bits 11 9; b = none; d = bits 5 3; n = none; ignored = bits 8 6 }
+R3-NOT = record { a = bits 11 9; b = no-bits; d = bits 5 3; n = no-bits; ignored = bits 8 6 }
 
 -- 2R   c c c c  a a a  b b b  n n n n n n             ST, STB
 abbrev pub R2-ab : Format
-R2-ab = record { a = bits 11 9; b = bits 8 6; d = none; n = bits 5 0; ignored = none }
+R2-ab = record { a = bits 11 9; b = bits 8 6; d = no-bits; n = bits 5 0; ignored = no-bits }
 
 -- 2R   c c c c  a a a  d d d  n n n n n n             ADDI, LD, LDB
 abbrev pub R2-ad : Format
-R2-ad = record { a = bits 11 9; b = none; d = bits 8 6; n = bits 5 0; ignored = none }
+R2-ad = record { a = bits 11 9; b = no-bits; d = bits 8 6; n = bits 5 0; ignored = no-bits }
 
 -- 2R   c c c c  a a a  d d d  x x x x x x             JALR, which has no N6
 abbrev pub R2-JALR : Format
-R2-JALR = record { a = bits 11 9; b = none; d = bits 8 6; n = none; ignored = bits 5 0 }
+R2-JALR = record { a = bits 11 9; b = no-bits; d = bits 8 6; n = no-bits; ignored = bits 5 0 }
 
 -- 1R   c c c c  a a a  e  n n n n n n n n             BZ, BNZ, OUT
 abbrev pub R1-a : Format
-R1-a = record { a = bits 11 9; b = none; d = none; n = bits 7 0; ignored = none }
+R1-a = record { a = bits 11 9; b = no-bits; d = no-bits; n = bits 7 0; ignored = no-bits }
 
 -- 1R   c c c c  d d d  e  n n n n n n n n             MOVI, MOVHI, IN
 abbrev pub R1-d : Format
-R1-d = record { a = none; b = none; d = bits 11 9; n = bits 7 0; ignored = none }
+R1-d = record { a = no-bits; b = no-bits; d = bits 11 9; n = bits 7 0; ignored = no-bits }
 
 -- ---- The table: the columns Format, Op. Code, e and F, and how the bits of n are read (footnote 5).
 
@@ -76,75 +76,75 @@ line-n r o c z = record { format = r; opcode = o; code = c; number = z }
 abbrev line : Format → ℕ → Code → Line
 line r o c = line-n r o c unsigned-n
 
-abbrev pub sheet : Kind → Line
+abbrev pub sheetLine : Kind → Line
 -- AND Rd, Ra, Rb      0000 aaa bbb ddd 000
-sheet And = line R3 0 (F 0)
+sheetLine And = line R3 0 (F 0)
 -- OR Rd, Ra, Rb       0000 aaa bbb ddd 001
-sheet Or = line R3 0 (F 1)
+sheetLine Or = line R3 0 (F 1)
 -- XOR Rd, Ra, Rb      0000 aaa bbb ddd 010
-sheet Xor = line R3 0 (F 2)
+sheetLine Xor = line R3 0 (F 2)
 -- NOT Rd, Ra          0000 aaa xxx ddd 011
-sheet Not = line R3-NOT 0 (F 3)
+sheetLine Not = line R3-NOT 0 (F 3)
 -- ADD Rd, Ra, Rb      0000 aaa bbb ddd 100
-sheet Add = line R3 0 (F 4)
+sheetLine Add = line R3 0 (F 4)
 -- SUB Rd, Ra, Rb      0000 aaa bbb ddd 101
-sheet Sub = line R3 0 (F 5)
+sheetLine Sub = line R3 0 (F 5)
 -- SHA Rd, Ra, Rb      0000 aaa bbb ddd 110
-sheet Sha = line R3 0 (F 6)
+sheetLine Sha = line R3 0 (F 6)
 -- SHL Rd, Ra, Rb      0000 aaa bbb ddd 111
-sheet Shl = line R3 0 (F 7)
+sheetLine Shl = line R3 0 (F 7)
 -- CMPLT Rd, Ra, Rb    0001 aaa bbb ddd 000
-sheet Cmplt = line R3 1 (F 0)
+sheetLine Cmplt = line R3 1 (F 0)
 -- CMPLE Rd, Ra, Rb    0001 aaa bbb ddd 001
-sheet Cmple = line R3 1 (F 1)
+sheetLine Cmple = line R3 1 (F 1)
 -- CMPEQ Rd, Ra, Rb    0001 aaa bbb ddd 011
-sheet Cmpeq = line R3 1 (F 3)
+sheetLine Cmpeq = line R3 1 (F 3)
 -- CMPLTU Rd, Ra, Rb   0001 aaa bbb ddd 100
-sheet Cmpltu = line R3 1 (F 4)
+sheetLine Cmpltu = line R3 1 (F 4)
 -- CMPLEU Rd, Ra, Rb   0001 aaa bbb ddd 101
-sheet Cmpleu = line R3 1 (F 5)
+sheetLine Cmpleu = line R3 1 (F 5)
 -- ADDI Rd, Ra, N6     0010 aaa ddd nnnnnn
-sheet Addi = line-n R2-ad 2 only signed-n
+sheetLine Addi = line-n R2-ad 2 only signed-n
 -- LD Rd, N6(Ra)       0011 aaa ddd nnnnnn
-sheet Ld = line-n R2-ad 3 only signed-n
+sheetLine Ld = line-n R2-ad 3 only signed-n
 -- ST N6(Ra), Rb       0100 aaa bbb nnnnnn
-sheet St = line-n R2-ab 4 only signed-n
+sheetLine St = line-n R2-ab 4 only signed-n
 -- LDB Rd, N6(Ra)      0101 aaa ddd nnnnnn
-sheet Ldb = line-n R2-ad 5 only signed-n
+sheetLine Ldb = line-n R2-ad 5 only signed-n
 -- STB N6(Ra), Rb      0110 aaa bbb nnnnnn
-sheet Stb = line-n R2-ab 6 only signed-n
+sheetLine Stb = line-n R2-ab 6 only signed-n
 -- JALR Rd, Ra         0111 aaa ddd xxxxxx
-sheet Jalr = line R2-JALR 7 only
+sheetLine Jalr = line R2-JALR 7 only
 -- BZ Ra, N8           1000 aaa 0 nnnnnnnn
-sheet Bz = line-n R1-a 8 (E 0) signed-n
+sheetLine Bz = line-n R1-a 8 (E 0) signed-n
 -- BNZ Ra, N8          1000 aaa 1 nnnnnnnn
-sheet Bnz = line-n R1-a 8 (E 1) signed-n
+sheetLine Bnz = line-n R1-a 8 (E 1) signed-n
 -- MOVI Rd, N8         1001 ddd 0 nnnnnnnn
-sheet Movi = line-n R1-d 9 (E 0) signed-n
+sheetLine Movi = line-n R1-d 9 (E 0) signed-n
 -- MOVHI Rd, N8        1001 ddd 1 nnnnnnnn
-sheet Movhi = line-n R1-d 9 (E 1) unsigned-n
+sheetLine Movhi = line-n R1-d 9 (E 1) unsigned-n
 -- IN Rd, N8           1010 ddd 0 nnnnnnnn
-sheet In = line-n R1-d 0xA (E 0) unsigned-n
+sheetLine In = line-n R1-d 0xA (E 0) unsigned-n
 -- OUT N8, Ra          1010 aaa 1 nnnnnnnn
-sheet Out = line-n R1-a 0xA (E 1) unsigned-n
+sheetLine Out = line-n R1-a 0xA (E 1) unsigned-n
 -- MUL Rd, Ra, Rb      1011 aaa bbb ddd 000
-sheet Mul = line R3 0xB (F 0)
+sheetLine Mul = line R3 0xB (F 0)
 -- MULH Rd, Ra, Rb     1011 aaa bbb ddd 001
-sheet Mulh = line R3 0xB (F 1)
+sheetLine Mulh = line R3 0xB (F 1)
 -- MULHU Rd, Ra, Rb    1011 aaa bbb ddd 010
-sheet Mulhu = line R3 0xB (F 2)
+sheetLine Mulhu = line R3 0xB (F 2)
 -- DIV Rd, Ra, Rb      1011 aaa bbb ddd 100
-sheet Div = line R3 0xB (F 4)
+sheetLine Div = line R3 0xB (F 4)
 -- DIVU Rd, Ra, Rb     1011 aaa bbb ddd 101
-sheet Divu = line R3 0xB (F 5)
+sheetLine Divu = line R3 0xB (F 5)
 
 -- ---- The opcodes: what tells the instructions of one opcode apart is f, nothing, or e; or the opcode is unassigned.
 
-pub data Row : Type 0 where
-  by-f : List Entry → Row
-  one : Kind → Row
-  by-e : Kind → Kind → Row
-  unassigned : Row
+pub data KindRow : Type 0 where
+  by-f : List Entry → KindRow
+  one : Kind → KindRow
+  by-e : Kind → Kind → KindRow
+  unassigned : KindRow
 
 -- AND, OR, XOR, NOT, ADD, SUB, SHA, SHL
 abbrev pub operationKinds : List Entry
@@ -158,8 +158,8 @@ comparisonKinds = Assigned Cmplt ∷ Assigned Cmple ∷ Unassigned ∷ Assigned 
 abbrev pub muldivKinds : List Entry
 muldivKinds = Assigned Mul ∷ Assigned Mulh ∷ Assigned Mulhu ∷ Unassigned ∷ Assigned Div ∷ Assigned Divu ∷ Unassigned ∷ Unassigned ∷ []
 
-abbrev pub rows : List Row
-rows =
+abbrev pub kindRows : List KindRow
+kindRows =
     -- 0 and 1
     by-f operationKinds
     ∷ by-f comparisonKinds
@@ -183,12 +183,12 @@ rows =
     ∷ unassigned
     ∷ []
 
-abbrev pub inRow : Row → ℕ → ℕ → Entry
-inRow (by-f entries) e f = getD entries f Unassigned
-inRow (one k) e f = Assigned k
-inRow (by-e k₀ k₁) e f = pick (eqb e 0) (Assigned k₀) (Assigned k₁)
-inRow unassigned e f = Unassigned
+abbrev pub kindInRow : KindRow → ℕ → ℕ → Entry
+kindInRow (by-f entries) e f = getD entries f Unassigned
+kindInRow (one k) e f = Assigned k
+kindInRow (by-e k₀ k₁) e f = pick (eqb e 0) (Assigned k₀) (Assigned k₁)
+kindInRow unassigned e f = Unassigned
 
 -- the kind of the words with this opcode, e and f
 unfoldable pub kindAt : ℕ → ℕ → ℕ → Entry
-kindAt op e f = inRow (getD rows op unassigned) e f
+kindAt op e f = kindInRow (getD kindRows op unassigned) e f

@@ -1,7 +1,7 @@
 // An instruction's parts out of a word, and into one.
 ghost use mathlib.Core.Path.{_≡_};
 ghost use Prim.Native.Nat.{_<_, _≤_};
-ghost use Rattle.isa.specs.Sheet.{sheet};
+ghost use Rattle.isa.specs.Sheet.{sheetLine};
 ghost use Rattle.isa.specs.Instructions.{partsOf};
 ghost use Rattle.isa.specs.Layouts.{Sound, numberOf, bitsOf, wordSum, writeIn};
 use crate::Instruction;
@@ -51,7 +51,7 @@ fn low_bits(n: i16, size: u16, negatives: u16) -> Low
 }
 
 pub fn parts_of(kind: Kind, w: u16) -> Instruction
-    ensures { λ r. ⌜ r ≡ partsOf (sheet kind) kind w ⌝ }
+    ensures { λ r. ⌜ r ≡ partsOf (sheetLine kind) kind w ⌝ }
 {
     let m = crate::layout::layout_of(kind);
     let x = w % m.size;

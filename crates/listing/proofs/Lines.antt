@@ -17,12 +17,12 @@ use Rattle.image.specs.Image.{W, memoryOf, fileReply}
 use Rattle.image.specs.Parts.{programPart, ReadAs}
 use Rattle.image.proofs.Fits.{FileFits, file-fits}
 use Rattle.printing.specs.declared.Printed.{Printed}
-use Rattle.printing.specs.Text.{held}
+use Rattle.printing.specs.Text.{inArray}
 use Rattle.printing.proofs.Writing.{count-fits}
 use Rattle.report.specs.Printed.{refusedLine}
 use Rattle.listing.specs.declared.Line.{Line}
 use Rattle.listing.specs.Listing.{lineText}
-use Rattle.listing.specs.File.{programWord, linesFrom, wordLines, listingBy, listing, lineAt}
+use Rattle.listing.specs.File.{programWord, linesFrom, wordLines, listingBy, listing, listedLine}
 
 line-is : {there there′ : Bool} {text text′ : Printed} → there ≡ there′ → text ≡ text′
     → _≡_ {A = Line} (record { there = there; text = text }) (record { there = there′; text = text′ })
@@ -31,19 +31,19 @@ line-is p q = λ j. record { there = p j; text = q j }
 -- ---- Any listing
 
 module _ (lines : List (List ℕ)) {k : ℕ} {text : Printed} where
-  line-there : {l : List ℕ} → k < length lines → getD lines k [] ≡ l → text ≡ held l → record { there = true; text = text } ≡ lineAt lines k
-  line-there h e p = line-is (sym (lt-ltb _ _ h)) (p ∙ ap held (sym e))
+  line-there : {l : List ℕ} → k < length lines → getD lines k [] ≡ l → text ≡ inArray l → record { there = true; text = text } ≡ listedLine lines k
+  line-there h e p = line-is (sym (lt-ltb _ _ h)) (p ∙ ap inArray (sym e))
 
-  past-the-end : length lines ≤ k → text ≡ held [] → record { there = false; text = text } ≡ lineAt lines k
-  past-the-end h p = line-is (sym (le-ltb _ _ h)) (p ∙ ap held (sym (List·getD-eq-default lines [] h)))
+  past-the-end : length lines ≤ k → text ≡ inArray [] → record { there = false; text = text } ≡ listedLine lines k
+  past-the-end h p = line-is (sym (le-ltb _ _ h)) (p ∙ ap inArray (sym (List·getD-eq-default lines [] h)))
 
 -- ---- A refusal's line alone
 
 module _ (l : List ℕ) {k : ℕ} {text : Printed} where
-  pub first-line : k ≡ 0 → text ≡ held l → record { there = true; text = text } ≡ lineAt (l ∷ []) k
+  pub first-line : k ≡ 0 → text ≡ inArray l → record { there = true; text = text } ≡ listedLine (l ∷ []) k
   first-line e p = rw e (line-there (l ∷ []) {k = 0} (omega arith) refl p)
 
-  pub no-other-line : (k ≡ 0 → ⊥) → text ≡ held [] → record { there = false; text = text } ≡ lineAt (l ∷ []) k
+  pub no-other-line : (k ≡ 0 → ⊥) → text ≡ inArray [] → record { there = false; text = text } ≡ listedLine (l ∷ []) k
   no-other-line n p = past-the-end (l ∷ []) {k = k} (omega arith) p
 
 -- ---- The lines of the words
@@ -81,7 +81,7 @@ module _ (file : List ℕ) (offset count : ℕ) (inside : offset + count ≤ len
 -- ---- A file that load takes
 
 module _ (file : List ℕ) {k : ℕ} {read : Part} (r : ReadAs (programPart file) read) where
-  pub no-word : {text : Printed} → read .count / 2 ≤ k → text ≡ held [] → record { there = false; text = text } ≡ lineAt (wordLines file) k
+  pub no-word : {text : Printed} → read .count / 2 ≤ k → text ≡ inArray [] → record { there = false; text = text } ≡ listedLine (wordLines file) k
   no-word h p = past-the-end (wordLines file) {k = k} (rw lines-length (omega (arith, r .count))) p
 
   module _ (f : FileFits file) (h : k < read .count / 2) where
@@ -92,22 +92,22 @@ module _ (file : List ℕ) {k : ℕ} {read : Part} (r : ReadAs (programPart file
     address-fits = omega (arith, f .program, r .count)
 
     pub word-there : {w : ℕ} {text : Printed} → w ≡ getD file (read .offset + 2 * k) 0 + 256 * getD file (read .offset + 2 * k + 1) 0
-        → text ≡ held (lineText (2 * k) w) → record { there = true; text = text } ≡ lineAt (wordLines file) k
+        → text ≡ inArray (lineText (2 * k) w) → record { there = true; text = text } ≡ listedLine (wordLines file) k
     word-there {w} e p =
         let few : k < W file = omega (arith, r .count) in
         let is : w ≡ programWord file k =
         e ∙ rw (r .offset) (word-at file _ _ (f .program .inside-file) k (omega arith) (f .program .inside-memory))
         in
-        line-there (wordLines file) {k = k} (rw lines-length few) (line-is-word file k few) (p ∙ ap (λ x. held (lineText (2 * k) x)) is)
+        line-there (wordLines file) {k = k} (rw lines-length few) (line-is-word file k few) (p ∙ ap (λ x. inArray (lineText (2 * k) x)) is)
 
 -- ---- Any file
 
 module _ (file : List ℕ) (k : ℕ) {r : Line} where
-  pub too-long : 65536 < length file → r ≡ lineAt (refusedLine 8 ∷ []) k → r ≡ lineAt (listing file) k
+  pub too-long : 65536 < length file → r ≡ listedLine (refusedLine 8 ∷ []) k → r ≡ listedLine (listing file) k
   unfolding listing
   too-long h e = rw (lt-leb (length file) 65536 h) e
 
-  pub by-reply : {x : Verdict} → length file ≤ 65536 → x ≡ fileReply file → r ≡ lineAt (listingBy x file) k → r ≡ lineAt (listing file) k
+  pub by-reply : {x : Verdict} → length file ≤ 65536 → x ≡ fileReply file → r ≡ listedLine (listingBy x file) k → r ≡ listedLine (listing file) k
   unfolding listing
   by-reply h e p = rw (le-leb (length file) 65536 h, ← e) p
 
@@ -122,7 +122,7 @@ listing-short file = go (leb (length file) 65536) (fileReply file) refl
     go true (refused q) e = omega arith
     go false x e = omega arith
 
-module _ (file : List ℕ) (k : ℕ) {r : Line} (e : r ≡ lineAt (listing file) k) where
+module _ (file : List ℕ) (k : ℕ) {r : Line} (e : r ≡ listedLine (listing file) k) where
   pub text-fits : r .text .count ≤ length (r .text .bytes)
   text-fits = count-fits (getD (listing file) k []) (ap (λ (l : Line). l .text) e)
 

@@ -17,7 +17,7 @@ use Rattle.kinds.specs.declared.Kind.{Kind}
 use Rattle.isa.specs.declared.Instruction.{Instruction}
 use Rattle.isa.specs.declared.rows.Entry.{Entry}
 use Rattle.isa.specs.declared.rows.Entry.the-variants.{Unassigned, Assigned}
-use Rattle.isa.specs.Sheet.{sheet, kindAt}
+use Rattle.isa.specs.Sheet.{sheetLine, kindAt}
 use Rattle.isa.specs.Instructions.{instruction, partsOf, readAs, readOf}
 use Rattle.isa.specs.Masks.{inMask}
 use Rattle.isa.proofs.Every.{every}
@@ -33,9 +33,9 @@ use Rattle.listing.specs.Parts.{Registers}
 few : Bits → Bool
 few p = leb (p .count) 3
 
-few-bits : (k : Kind) → T (both (few (sheet k .format .a)) (both (few (sheet k .format .b)) (few (sheet k .format .d))))
+few-bits : (k : Kind) → T (both (few (sheetLine k .format .a)) (both (few (sheetLine k .format .b)) (few (sheetLine k .format .d))))
 unfolding few all
-few-bits k = every (λ k. both (few (sheet k .format .a)) (both (few (sheet k .format .b)) (few (sheet k .format .d)))) tt k
+few-bits k = every (λ k. both (few (sheetLine k .format .a)) (both (few (sheetLine k .format .b)) (few (sheetLine k .format .d)))) tt k
 
 below-8 : (p : Bits) (w : ℕ) → T (few p) → field p w < 8
 unfolding few
@@ -47,10 +47,10 @@ below-8 p w t =
 entry-registers : (x : Entry) (w : ℕ) {i : Instruction} → instruction i ≡ readAs x w → Registers i
 entry-registers Unassigned w e = clash (cc)
 entry-registers (Assigned k) w {i} e =
-    let f = sheet k .format in
+    let f = sheetLine k .format in
     let t = both-split (few (f .a)) _ (few-bits k) in
     let u = both-split (few (f .b)) _ (t .1) in
-    let same : i ≡ partsOf (sheet k) k w = cc in
+    let same : i ≡ partsOf (sheetLine k) k w = cc in
     subst Registers (sym same) (record { a = below-8 (f .a) w (t .0); b = below-8 (f .b) w (u .0); d = below-8 (f .d) w (u .1) })
 
 pub read-registers : (w : ℕ) {i : Instruction} → instruction i ≡ readOf w → Registers i

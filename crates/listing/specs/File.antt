@@ -7,7 +7,7 @@ use Rattle.refusal.specs.Refusals.{Verdict, accepted, refused}
 use Rattle.word.specs.Word.{pick}
 use Rattle.machine.specs.Machine.{wordAt}
 use Rattle.image.specs.Image.{W, programOffset, memoryOf, fileReply}
-use Rattle.printing.specs.Text.{held}
+use Rattle.printing.specs.Text.{inArray}
 use Rattle.report.specs.Printed.{refusedLine}
 use Rattle.listing.specs.declared.Line.{Line}
 use Rattle.listing.specs.Listing.{lineText}
@@ -34,5 +34,5 @@ unfoldable pub listing : List ℕ → List (List ℕ)
 listing file = pick (leb (length file) 65536) (listingBy (fileReply file) file) (refusedLine 8 ∷ [])
 
 -- line k, from 0, or none past the end
-abbrev pub lineAt : List (List ℕ) → ℕ → Line
-lineAt lines k = record { there = ltb k (length lines); text = held (getD lines k []) }
+abbrev pub listedLine : List (List ℕ) → ℕ → Line
+listedLine lines k = record { there = ltb k (length lines); text = inArray (getD lines k []) }

@@ -10,7 +10,7 @@ use Rattle.isa.specs.declared.Instruction.{Instruction}
 use Rattle.isa.specs.Instructions.{registerPart, Read, instruction, unassigned, readOf}
 use Rattle.isa.specs.Masks.{inMask, masksOf}
 use Rattle.token.specs.Ascii.{byte, ascii}
-use Rattle.statement.specs.Syntax.{Item, register, mark, N, Field, number, eight-bits, target, Row, rowAt}
+use Rattle.statement.specs.Syntax.{Item, register, punctuation, N, Field, number, eight-bits, target, Row, rowAt}
 use Rattle.printing.specs.Text.{decimal, hex4, each}
 
 -- ---- The text of a word
@@ -38,14 +38,14 @@ operandText address number n = numberText n
 operandText address eight-bits n = numberText n
 operandText address target n = wordText (targetOf address n)
 
-abbrev pub rowOf : Instruction → Row
-rowOf i = rowAt (kindNumber (i .kind))
+abbrev pub rowFor : Instruction → Row
+rowFor i = rowAt (kindNumber (i .kind))
 
 module _ (address : ℕ) (i : Instruction) where
   -- a space after a comma
   abbrev pub itemText : Field → Item → List ℕ
   itemText f (register r) = registerText (registerPart i r)
-  itemText f (mark m) = pick (eqb m (byte ",")) (ascii ", ") (m ∷ [])
+  itemText f (punctuation m) = pick (eqb m (byte ",")) (ascii ", ") (m ∷ [])
   itemText f N = operandText address f (i .n)
 
   unfoldable pub itemsText : Field → List Item → List ℕ
@@ -53,7 +53,7 @@ module _ (address : ℕ) (i : Instruction) where
   itemsText f (t ∷ ts) = itemText f t ++ itemsText f ts
 
   unfoldable pub instructionText : List ℕ
-  instructionText = rowOf i .mnemonic ++ ascii " " ++ itemsText (rowOf i .field) (rowOf i .items)
+  instructionText = rowFor i .mnemonic ++ ascii " " ++ itemsText (rowFor i .field) (rowFor i .items)
 
 -- `.word` for an unassigned word
 abbrev pub textAs : ℕ → ℕ → Read → List ℕ

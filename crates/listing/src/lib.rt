@@ -4,7 +4,7 @@ ghost use mathlib.Core.List.{[], _∷_};
 ghost use Rattle.refusal.specs.Refusals.{refusalNumber, accepted};
 ghost use Rattle.image.specs.Image.{fileReply};
 ghost use Rattle.report.specs.Printed.{refusedLine};
-ghost use Rattle.listing.specs.File.{lineAt, wordLines, listing};
+ghost use Rattle.listing.specs.File.{listedLine, wordLines, listing};
 use image::Loading;
 use printing::Printed;
 use refusal::Refusal;
@@ -19,7 +19,7 @@ pub struct Line {
 
 // Line k of a listing that is a refusal's line alone.
 fn refusal_line(refusal: Refusal, k: usize) -> Line
-    ensures { λ r. ⌜ r ≡ lineAt (refusedLine (refusalNumber refusal) ∷ []) k ⌝ }
+    ensures { λ r. ⌜ r ≡ listedLine (refusedLine (refusalNumber refusal) ∷ []) k ⌝ }
 {
     if k == 0 {
         return Line {
@@ -36,7 +36,7 @@ fn refusal_line(refusal: Refusal, k: usize) -> Line
 // Line k of the listing of a file that load takes: that of word k of the program part.
 fn word_line(file: &[u8], k: usize) -> Line
     requires { ⌜ accepted ≡ fileReply (now file) ⌝ }
-    ensures { λ r. ⌜ r ≡ lineAt (wordLines (now (file .entry))) k ⌝ }
+    ensures { λ r. ⌜ r ≡ listedLine (wordLines (now (file .entry))) k ⌝ }
 {
     let part = image::program_part(file);
     if part.count / 2 <= k {
@@ -54,7 +54,7 @@ fn word_line(file: &[u8], k: usize) -> Line
 
 // Line k, from 0, of the listing of a file.
 pub fn line_at(file: &[u8], k: usize) -> Line
-    ensures { λ r. ⌜ r ≡ lineAt (listing (now (file .entry))) k ⌝ }
+    ensures { λ r. ⌜ r ≡ listedLine (listing (now (file .entry))) k ⌝ }
 {
     if report::FILE_BYTES < file.len() {
         return refusal_line(Refusal::LongFile, k);

@@ -5,7 +5,7 @@ ghost use lib.ListN.{length, take, drop};
 ghost use Rattle.word.specs.Word.{lowBits};
 ghost use Rattle.isa.specs.Instructions.{shownReading, readOf};
 ghost use Rattle.statement.specs.Table.{itemOf, itemsOf, fieldOf};
-ghost use Rattle.printing.specs.Text.{held};
+ghost use Rattle.printing.specs.Text.{inArray};
 ghost use Rattle.printing.specs.Writing.{Wrote};
 ghost use Rattle.listing.specs.Listing.{registerText, numberText, wordText, operandText, itemText, itemsText, instructionText, textOf, registerIn, registersText, lineText};
 ghost use Rattle.listing.specs.Parts.{Registers};
@@ -150,7 +150,7 @@ fn with_registers(text: Printed, mask: u8) -> Printed
 }
 
 pub fn line_of(address: u16, word: u16) -> Printed
-    ensures { λ r. ⌜ r ≡ held (lineText address word) ⌝ }
+    ensures { λ r. ⌜ r ≡ inArray (lineText address word) ⌝ }
 {
     let decoded = isa::read(word);
     let reading = decoded.reading;

@@ -11,7 +11,7 @@ use Rattle.machine.specs.Step.{Next, cannot, to, fetched, step}
 -- What a run goes by: what a machine steps to, and whether that step writes a port.
 pub record Stepper : Type 0 where
   pub steps : Machine → Next
-  pub writes : Machine → Bool
+  pub portWrite : Machine → Bool
 
 -- w is OUT
 abbrev pub isOut : ℕ → Bool
@@ -19,11 +19,11 @@ isOut w = eqb (opcode w) 10 && eqb (e-of w) 1
 
 -- by the rules, as the plain machine goes
 abbrev pub byRules : Stepper
-byRules = record { steps = step; writes = λ m. isOut (fetched m) }
+byRules = record { steps = step; portWrite = λ m. isOut (fetched m) }
 
 -- the step writes a port (the word is OUT), and L, which may grow to `full` entries, has no free place
 unfoldable pub noPlace : Stepper → ℕ → Machine → Bool
-noPlace v full m = v .writes m && leb full (length (m .L))
+noPlace v full m = v .portWrite m && leb full (length (m .L))
 
 -- a step that has no place for its log entry can't be made, stop 2; where the machine can't step anyway, that reason comes first
 abbrev pub unless : Bool → Next → Next

@@ -108,21 +108,21 @@ unfoldable pub output : Rule
 output w m = putO (N8 w) (Ra w m) m
 
 -- MUL, MULH, MULHU, DIV, DIVU by f
-unfoldable pub multiply : Rule
-multiply w m = write (d5-3 w) (muldiv (f-of w) (Ra w m) (Rb w m)) m
+unfoldable pub multiplyDivide : Rule
+multiplyDivide w m = write (d5-3 w) (muldiv (f-of w) (Ra w m) (Rb w m)) m
 
 -- ---- The table of opcodes: a rule for the words with one of these f; the same, where those with one of the second f divide by Rb;
 -- one rule; one by e; or none.
 
-pub data Row : Type 0 where
-  by-f : List ℕ → Rule → Row
-  by-f-dividing : List ℕ → List ℕ → Rule → Row
-  one : Rule → Row
-  by-e : Rule → Rule → Row
-  none : Row
+pub data RuleRow : Type 0 where
+  by-f : List ℕ → Rule → RuleRow
+  by-f-dividing : List ℕ → List ℕ → Rule → RuleRow
+  one : Rule → RuleRow
+  by-e : Rule → Rule → RuleRow
+  no-rule : RuleRow
 
-abbrev pub rows : List Row
-rows =
+abbrev pub ruleRows : List RuleRow
+ruleRows =
     -- 0 to 3
     by-f (0 ∷ 1 ∷ 2 ∷ 3 ∷ 4 ∷ 5 ∷ 6 ∷ 7 ∷ []) compute
     ∷ by-f (0 ∷ 1 ∷ 3 ∷ 4 ∷ 5 ∷ []) compare
@@ -138,12 +138,12 @@ rows =
     ∷ by-e movi movhi
     ∷ by-e input output
     -- 11
-    ∷ by-f-dividing (0 ∷ 1 ∷ 2 ∷ 4 ∷ 5 ∷ []) (4 ∷ 5 ∷ []) multiply
+    ∷ by-f-dividing (0 ∷ 1 ∷ 2 ∷ 4 ∷ 5 ∷ []) (4 ∷ 5 ∷ []) multiplyDivide
     -- 12 to 15 unassigned
-    ∷ none
-    ∷ none
-    ∷ none
-    ∷ none
+    ∷ no-rule
+    ∷ no-rule
+    ∷ no-rule
+    ∷ no-rule
     ∷ []
 
 -- the rule of a word; one that divides by Rb; or that the word is unassigned
@@ -156,15 +156,15 @@ abbrev pub among : ℕ → List ℕ → Bool
 among f [] = false
 among f (g ∷ gs) = eqb f g || among f gs
 
-abbrev pub inRow : Row → ℕ → ℕ → Choice
-inRow (by-f fs r) e f = pick (among f fs) (rule r) unassigned
-inRow (by-f-dividing fs gs r) e f = pick (among f fs) (pick (among f gs) (division r) (rule r)) unassigned
-inRow (one r) e f = rule r
-inRow (by-e r₀ r₁) e f = rule (pick (eqb e 0) r₀ r₁)
-inRow none e f = unassigned
+abbrev pub ruleInRow : RuleRow → ℕ → ℕ → Choice
+ruleInRow (by-f fs r) e f = pick (among f fs) (rule r) unassigned
+ruleInRow (by-f-dividing fs gs r) e f = pick (among f fs) (pick (among f gs) (division r) (rule r)) unassigned
+ruleInRow (one r) e f = rule r
+ruleInRow (by-e r₀ r₁) e f = rule (pick (eqb e 0) r₀ r₁)
+ruleInRow no-rule e f = unassigned
 
 unfoldable pub choice : ℕ → Choice
-choice w = inRow (getD rows (opcode w) none) (e-of w) (f-of w)
+choice w = ruleInRow (getD ruleRows (opcode w) no-rule) (e-of w) (f-of w)
 
 -- ---- Step
 

@@ -9,7 +9,7 @@ use lib.ListN.{length, getD, take, set, replicate, length-append}
 use lib.Seq.{take-suc, take-all, set-append-seam, append-snoc}
 use borrow.Author.Tests.{lt-leb}
 use Rattle.printing.specs.declared.Printed.{Printed}
-use Rattle.printing.specs.Text.{digit, decimal, each, held}
+use Rattle.printing.specs.Text.{digit, decimal, each, inArray}
 use Rattle.printing.specs.Writing.{put, puts, Wrote}
 use Rattle.printing.proofs.Decimal.{decimal-one, decimal-more, decimal-short}
 
@@ -100,27 +100,27 @@ bytes {l} w = record { written = rw (each-byte l) at (w .written); short = omega
 set-next : (text : List ℕ) (b k : ℕ) → set (text ++ replicate (suc k) 0) (length text) b ≡ text ++ (b ∷ []) ++ replicate k 0
 set-next text b k = set-append-seam text 0 (replicate k 0) b ∙ sym (append-snoc text b (replicate k 0))
 
-put-held : (text : List ℕ) (b : ℕ) → length text < 4096 → put b (held text) ≡ held (text ++ (b ∷ []))
-unfolding put held
+put-held : (text : List ℕ) (b : ℕ) → length text < 4096 → put b (inArray text) ≡ inArray (text ++ (b ∷ []))
+unfolding put inArray
 put-held text b h =
     let k = 4096 - (length text + 1) in
     let e : 4096 - length text ≡ suc k = omega arith in
     let n : length (text ++ (b ∷ [])) ≡ length text + 1 = length-append text (b ∷ []) in
     rw (lt-leb 4096 (length text) h, n, e, set-next text b k)
 
-puts-held : (xs text : List ℕ) → length text + length xs ≤ 4096 → puts xs (held text) ≡ held (text ++ xs)
+puts-held : (xs text : List ℕ) → length text + length xs ≤ 4096 → puts xs (inArray text) ≡ inArray (text ++ xs)
 unfolding puts
-puts-held [] text h = ap held (sym (append-nil text))
+puts-held [] text h = ap inArray (sym (append-nil text))
 puts-held (x ∷ xs) text h =
     ap (puts xs) (put-held text x (omega arith))
     ∙ puts-held xs (text ++ (x ∷ [])) (rw length-append (omega arith))
-    ∙ ap held (append-snoc text x xs)
+    ∙ ap inArray (append-snoc text x xs)
 
 -- the whole text is there where the array has room for it
-pub wrote-held : {most : ℕ} {text : List ℕ} {t r : Printed} → t ≡ held [] → Wrote most text t r → most ≤ 4096 → r ≡ held text
+pub wrote-held : {most : ℕ} {text : List ℕ} {t r : Printed} → t ≡ inArray [] → Wrote most text t r → most ≤ 4096 → r ≡ inArray text
 wrote-held {most} {text} {t} {r} e w h = w .written ∙ ap (puts text) e ∙ puts-held text [] (omega (arith, w .short))
 
 -- what a caller who lends the text's bytes needs
-pub count-fits : (text : List ℕ) {r : Printed} → r ≡ held text → r .count ≤ length (r .bytes)
-unfolding held
+pub count-fits : (text : List ℕ) {r : Printed} → r ≡ inArray text → r .count ≤ length (r .bytes)
+unfolding inArray
 count-fits text e = rw (e, length-append) (omega arith)

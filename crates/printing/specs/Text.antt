@@ -35,5 +35,5 @@ each text [] = []
 each text (x ∷ xs) = text x ++ each text xs
 
 -- the whole text, and zeros to the end of the array
-unfoldable pub held : List ℕ → Printed
-held text = record { bytes = text ++ replicate (4096 - length text) 0; count = length text }
+unfoldable pub inArray : List ℕ → Printed
+inArray text = record { bytes = text ++ replicate (4096 - length text) 0; count = length text }

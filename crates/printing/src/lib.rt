@@ -4,7 +4,7 @@ ghost use mathlib.Core.List.{[], _∷_};
 ghost use mathlib.Core.Path.{_≡_};
 ghost use Prim.Native.Nat.{_<_};
 ghost use lib.ListN.{length};
-ghost use Rattle.printing.specs.Text.{digit, decimal, hex4, held};
+ghost use Rattle.printing.specs.Text.{digit, decimal, hex4, inArray};
 ghost use Rattle.printing.specs.Writing.{Wrote};
 
 // More than the longest text of this repository has.
@@ -26,7 +26,7 @@ fn digit(d: u16) -> u8
 
 impl Printed {
     pub fn empty() -> Self
-        ensures { λ r. ⌜ r ≡ held [] ⌝ }
+        ensures { λ r. ⌜ r ≡ inArray [] ⌝ }
     {
         Printed {
             bytes: [0; CAPACITY],

@@ -8,7 +8,7 @@ use lib.ListN.{getD}
 use Rattle.kinds.specs.declared.Kind.{Kind}
 use Rattle.kinds.specs.declared.Kind.the-variants.{And}
 use Rattle.kinds.specs.Kinds.{kinds}
-use Rattle.isa.specs.Instructions.{Written, writeOf}
+use Rattle.isa.specs.Instructions.{WriteReply, writeOf}
 use Rattle.replies.specs.declared.SisaWord.{SisaWord}
 use Rattle.replies.specs.Sisa.{sisaWord, sisaWrite}
 
@@ -17,7 +17,7 @@ unfolding sisaWrite
 write-refused kind a b d n h e = rw (e, lt-leb _ _ h)
 
 -- k and m are the kind and the number as `isa::write` is handed them
-pub write-meets : (kind a b d : ℕ) (n : ℤ) (k : Kind) (m : ℤ) {written : Written} {r : SisaWord} → kind ≤ 29
+pub write-meets : (kind a b d : ℕ) (n : ℤ) (k : Kind) (m : ℤ) {written : WriteReply} {r : SisaWord} → kind ≤ 29
     → k ≡ getD kinds kind And
     → m ≡ n
     → written ≡ writeOf (record { kind = k; a = a; b = b; d = d; n = m })

@@ -14,20 +14,20 @@ use Rattle.refusal.specs.Refusals.{Verdict, accepted, refused}
 use Rattle.word.specs.Word.{pick}
 use Rattle.kinds.specs.declared.Kind.the-variants.{And}
 use Rattle.kinds.specs.Kinds.{kinds, kindNumber}
-use Rattle.isa.specs.Instructions.{Read, instruction, unassigned, Written, word, refused as write-refused, writeOf}
+use Rattle.isa.specs.Instructions.{Read, instruction, unassigned, WriteReply, word, write-refused, writeOf}
 use Rattle.isa.specs.Masks.{Masks, Decoding}
 use Rattle.machine.specs.declared.State.{State}
 use Rattle.machine.specs.Run.{Stepper}
 use Rattle.machine.specs.Slices.{Slice, before, after}
 use Rattle.panel.specs.Calls.{SetGiven, SetLeft, setLeft, windowOf}
 use Rattle.image.specs.Image.{LoadGiven, LoadLeft, loadLeft, fileLent}
-use Rattle.save.specs.Saved.{SaveReply, saved, refused as save-refused, SaveGiven, SaveLeft, saveLeft}
-use Rattle.assembler.specs.Text.{Reply, words, turned-away, AssembleLeft, assembleLeft}
+use Rattle.save.specs.Saved.{SaveReply, saved, save-refused, SaveGiven, SaveLeft, saveLeft}
+use Rattle.assembler.specs.Text.{Reply, words, text-refused, AssembleLeft, assembleLeft}
 use Rattle.control.specs.Control.{byTable}
 use Rattle.usage.specs.declared.Usage.{Usage}
 use Rattle.sheet.specs.declared.Sheet.{Sheet}
 use Rattle.sheet.specs.Sheet.{FeedLeft, feedBy}
-use Rattle.run.specs.Runs.{Given, given, RunReply, stopped, refused as run-refused, CountedLeft, countedLeft, lentTo}
+use Rattle.run.specs.Runs.{Given, given, RunReply, stopped, run-refused, CountedLeft, countedLeft, lentTo}
 use Rattle.replies.specs.declared.SisaLoad.{SisaLoad}
 use Rattle.replies.specs.declared.SisaSaved.{SisaSaved}
 use Rattle.replies.specs.declared.SisaAssembly.{SisaAssembly}
@@ -93,7 +93,7 @@ SisaSaves program memory destination r =
 
 abbrev pub sisaAssembly : Reply → SisaAssembly
 sisaAssembly (words n) = record { refusal = 0; line = 0; words = n }
-sisaAssembly (turned-away k r) = record { refusal = r; line = k; words = 0 }
+sisaAssembly (text-refused k r) = record { refusal = r; line = k; words = 0 }
 
 pub record SisaAssembleLeft : Type 0 where
   pub reply : SisaAssembly
@@ -198,7 +198,7 @@ sisaInstruction z = instructionInNumbers (z .reading) (z .masks)
 
 -- ---- sisa_write
 
-abbrev pub sisaWord : Written → SisaWord
+abbrev pub sisaWord : WriteReply → SisaWord
 sisaWord (word w) = record { refusal = 0; word = w }
 sisaWord (write-refused k) = record { refusal = k; word = 0 }
 

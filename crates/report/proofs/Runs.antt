@@ -6,20 +6,20 @@ use mathlib.Core.List.{List}
 use native.Mathlib.Omega.{arith}
 use lib.ListN.{length, take, drop, length-append}
 use lib.Seq.{length-take-le}
-use Rattle.refusal.specs.Refusals.{Verdict, accepted, refused as turned-away}
+use Rattle.refusal.specs.Refusals.{Verdict, accepted, refused}
 use Rattle.word.proofs.Tests.{clash}
 use Rattle.machine.specs.Run.{Stepper, run}
-use Rattle.run.specs.Runs.{Given, RunReply, stopped, refused, Left, machineAt, verdictOn, leftBy, runLeft}
+use Rattle.run.specs.Runs.{Given, RunReply, stopped, run-refused, Left, machineAt, verdictOn, runLeftBy, runLeft}
 use Rattle.printing.specs.declared.Printed.{Printed}
-use Rattle.printing.specs.Text.{held}
+use Rattle.printing.specs.Text.{inArray}
 use Rattle.report.specs.Printed.{refusedLine, stoppedLines, linesBy, ranLines}
 
-by-verdict : (v : Stepper) (g : Given) (x : Verdict) {stop steps entries : ℕ} → leftBy v x g .reply ≡ stopped stop steps entries → entries ≤ length (leftBy v x g .log)
+by-verdict : (v : Stepper) (g : Given) (x : Verdict) {stop steps entries : ℕ} → runLeftBy v x g .reply ≡ stopped stop steps entries → entries ≤ length (runLeftBy v x g .log)
 by-verdict v g accepted {stop} {steps} {entries} e =
     let L = run v (g .budget) (length (g .log)) (machineAt g) .after .L in
     let k : length L ≡ entries = cc in
     rw (length-append L (drop (length L) (g .log))) (omega arith)
-by-verdict v g (turned-away j) e = clash (cc)
+by-verdict v g (refused j) e = clash (cc)
 
 pub entries-fit : (v : Stepper) (g : Given) {l : Left} {stop steps entries : ℕ} → l ≡ runLeft v g → l .reply ≡ stopped stop steps entries → entries ≤ length (l .log)
 unfolding runLeft
@@ -33,13 +33,13 @@ part-fits k log h e = rw (length-take-le k log h) (omega arith)
 -- ---- What is printed, by the reply
 
 module _ (v : Stepper) (g : Given) {l : Left} (e : l ≡ runLeft v g) where
-  ran : {reply : RunReply} {r : Printed} → l .reply ≡ reply → r ≡ held (linesBy reply l) → r ≡ held (ranLines (runLeft v g))
+  ran : {reply : RunReply} {r : Printed} → l .reply ≡ reply → r ≡ inArray (linesBy reply l) → r ≡ inArray (ranLines (runLeft v g))
   unfolding ranLines
-  ran k h = h ∙ ap (λ reply. held (linesBy reply l)) (sym k) ∙ ap (λ (x : Left). held (linesBy (x .reply) x)) e
+  ran k h = h ∙ ap (λ reply. inArray (linesBy reply l)) (sym k) ∙ ap (λ (x : Left). inArray (linesBy (x .reply) x)) e
 
   pub stopped-lines : {stop steps entries : ℕ} {r : Printed} → l .reply ≡ stopped stop steps entries
-      → r ≡ held (stoppedLines stop steps entries (take entries (l .log)) (l .state)) → r ≡ held (ranLines (runLeft v g))
+      → r ≡ inArray (stoppedLines stop steps entries (take entries (l .log)) (l .state)) → r ≡ inArray (ranLines (runLeft v g))
   stopped-lines k h = ran k h
 
-  pub refused-lines : {number : ℕ} {r : Printed} → l .reply ≡ refused number → r ≡ held (refusedLine number) → r ≡ held (ranLines (runLeft v g))
+  pub refused-lines : {number : ℕ} {r : Printed} → l .reply ≡ run-refused number → r ≡ inArray (refusedLine number) → r ≡ inArray (ranLines (runLeft v g))
   refused-lines k h = ran k h

@@ -3,13 +3,13 @@ use Prim.Native.Nat.{ℕ, _/_, _%_}
 use mathlib.Core.List.{List, _++_}
 use lib.Dec.{leb}
 use lib.ListN.{length, take, replicate}
-use Rattle.refusal.specs.Refusals.{Verdict, accepted, refused as turned-away}
+use Rattle.refusal.specs.Refusals.{Verdict, accepted, refused}
 use Rattle.word.specs.Word.{pick}
 use Rattle.token.specs.Ascii.{ascii}
 use Rattle.machine.specs.declared.State.{State}
 use Rattle.image.specs.Image.{LoadLeft, loadLeft}
 use Rattle.control.specs.Control.{byTable}
-use Rattle.run.specs.Runs.{given, RunReply, stopped, refused, Left, runLeft}
+use Rattle.run.specs.Runs.{given, RunReply, stopped, run-refused, Left, runLeft}
 use Rattle.printing.specs.Text.{decimal, hex4, each}
 
 -- ---- Lines
@@ -55,7 +55,7 @@ stoppedLines stop steps entries written state =
 -- what a run prints; its entries stand in the first places of the log
 abbrev pub linesBy : RunReply → Left → List ℕ
 linesBy (stopped stop steps entries) l = stoppedLines stop steps entries (take entries (l .log)) (l .state)
-linesBy (refused number) l = refusedLine number
+linesBy (run-refused number) l = refusedLine number
 
 unfoldable pub ranLines : Left → List ℕ
 ranLines l = linesBy (l .reply) l
@@ -63,7 +63,7 @@ ranLines l = linesBy (l .reply) l
 -- what a load prints; `panelrun` runs the table engine with inputs zero, as the load left them, budget 1,000 and a 64-place log
 abbrev pub loadedBy : Verdict → LoadLeft → List ℕ
 loadedBy accepted l = ranLines (runLeft byTable (given (l .state) (l .P) (l .D) (l .I) (l .O) 1000 (replicate 64 0)))
-loadedBy (turned-away number) l = refusedLine number
+loadedBy (refused number) l = refusedLine number
 
 -- 8: the program's file exceeds 65,536 bytes. The program tests 8 before its load.
 unfoldable pub printed : List ℕ → List ℕ

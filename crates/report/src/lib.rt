@@ -4,7 +4,7 @@ ghost use lib.ListN.{replicate};
 ghost use Rattle.refusal.specs.Refusals.{refusalNumber};
 ghost use Rattle.control.specs.Control.{byTable};
 ghost use Rattle.run.specs.Runs.{given, runLeft};
-ghost use Rattle.printing.specs.Text.{held};
+ghost use Rattle.printing.specs.Text.{inArray};
 ghost use Rattle.report.specs.Printed.{refusedLine, ranLines, printed};
 use image::Loading;
 use machine::State;
@@ -23,7 +23,7 @@ const LOG_PLACES: usize = 64;
 
 // The line of a refusal.
 pub fn refused(refusal: Refusal) -> Printed
-    ensures { λ r. ⌜ r ≡ held (refusedLine (refusalNumber refusal)) ⌝ }
+    ensures { λ r. ⌜ r ≡ inArray (refusedLine (refusalNumber refusal)) ⌝ }
 {
     let number = refusal::number(refusal);
     Printed::empty()
@@ -40,7 +40,7 @@ fn run_loaded(
     inputs: &mut [u16],
     outputs: &mut [u16],
 ) -> Printed
-    ensures { λ r. ⌜ r ≡ held (ranLines (runLeft byTable (given state (now (program .entry)) (now (memory .entry)) (now (inputs .entry)) (now (outputs .entry)) 1000 (replicate 64 0)))) ⌝ }
+    ensures { λ r. ⌜ r ≡ inArray (ranLines (runLeft byTable (given state (now (program .entry)) (now (memory .entry)) (now (inputs .entry)) (now (outputs .entry)) 1000 (replicate 64 0)))) ⌝ }
 {
     let mut log = [0u64; LOG_PLACES];
     let ran = engine::run_by_table(state, program, memory, inputs, outputs, BUDGET, &mut log);
@@ -56,7 +56,7 @@ fn run_loaded(
 
 // The report of a file: the lines of its run with inputs zero, or the line of the refusal.
 pub fn report(file: &[u8]) -> Printed
-    ensures { λ r. ⌜ r ≡ held (printed (now (file .entry))) ⌝ }
+    ensures { λ r. ⌜ r ≡ inArray (printed (now (file .entry))) ⌝ }
 {
     if FILE_BYTES < file.len() {
         return refused(Refusal::LongFile);

@@ -2,7 +2,7 @@
 ghost use mathlib.Core.Path.{_≡_};
 ghost use Prim.Native.Nat.{_*_, _≤_};
 ghost use lib.ListN.{length};
-ghost use Rattle.printing.specs.Text.{each, held};
+ghost use Rattle.printing.specs.Text.{each, inArray};
 ghost use Rattle.printing.specs.Writing.{Wrote};
 ghost use Rattle.report.specs.Printed.{runLine, outLine, pcLine, register, registersLine, stoppedLines};
 use machine::State;
@@ -83,7 +83,7 @@ fn with_registers(text: Printed, state: State) -> Printed
 // The lines of a run that stopped: its report, the entries that it wrote and the state that it left.
 pub fn stopped(report: Report, log: &[u64], state: State) -> Printed
     requires { ⌜ length (now log) ≤ 64 ⌝ }
-    ensures { λ r. ⌜ r ≡ held (stoppedLines (report .stop) (report .steps) (report .entries) (now (log .entry)) state) ⌝ }
+    ensures { λ r. ⌜ r ≡ inArray (stoppedLines (report .stop) (report .steps) (report .entries) (now (log .entry)) state) ⌝ }
 {
     let run = with_run(Printed::empty(), report);
     let outs = with_outs(run, log);

@@ -13,7 +13,7 @@ use Rattle.word.specs.Fields.{opcode, e-of, f-of}
 use Rattle.word.specs.Word.{pick}
 use Rattle.word.proofs.Computed.{all, all-at}
 use Rattle.word.proofs.Tests.{same-test}
-use Rattle.machine.specs.Step.{Row, by-f, by-f-dividing, one, by-e, none, among, rows, Choice, rule, division, unassigned, inRow, choice, input, output}
+use Rattle.machine.specs.Step.{RuleRow, by-f, by-f-dividing, one, by-e, no-rule, among, ruleRows, Choice, rule, division, unassigned, ruleInRow, choice, input, output}
 use Rattle.machine.specs.Run.{isOut}
 use Rattle.rules.proofs.Values.{f-is}
 
@@ -28,13 +28,13 @@ abbrev assignedBy : ℕ → ℕ → Bool
 assignedBy op f = pick (ltb 11 op) false (pick (eqb op 1) (below6But 2 f) (pick (eqb op 11) (below6But 3 f) true))
 
 abbrev agrees : ℕ → ℕ → ℕ → Bool
-agrees e op f = Bool·beq (isAssigned (inRow (getD rows op none) e f)) (assignedBy op f)
+agrees e op f = Bool·beq (isAssigned (ruleInRow (getD ruleRows op no-rule) e f)) (assignedBy op f)
 
 test : (e : ℕ) → T (all 16 (λ op. all 8 (agrees e op)))
 unfolding all
 test e = tt
 
-assigned-is : (w : ℕ) → w < 65536 → isAssigned (inRow (getD rows (opcode w) none) (e-of w) (f-of w)) ≡ assignedBy (opcode w) (f-of w)
+assigned-is : (w : ℕ) → w < 65536 → isAssigned (ruleInRow (getD ruleRows (opcode w) no-rule) (e-of w) (f-of w)) ≡ assignedBy (opcode w) (f-of w)
 assigned-is w l =
     let row = all-at 16 (λ op. all 8 (agrees (e-of w) op)) (test (e-of w)) (opcode w) (omega arith) in
     same-test _ _ (all-at 8 (agrees (e-of w) (opcode w)) row (f-of w) (omega arith))
@@ -47,14 +47,14 @@ divisions w = same-test _ _ (all-at 8 (λ f. Bool·beq (eqb (f / 2) 2) (among f 
 -- ---- The choice
 
 -- of a row's assigned words with this e and f
-abbrev choiceIn : Row → ℕ → ℕ → Choice
+abbrev choiceIn : RuleRow → ℕ → ℕ → Choice
 choiceIn (by-f fs r) e f = rule r
 choiceIn (by-f-dividing fs gs r) e f = pick (among f gs) (division r) (rule r)
 choiceIn (one r) e f = rule r
 choiceIn (by-e r₀ r₁) e f = rule (pick (eqb e 0) r₀ r₁)
-choiceIn none e f = unassigned
+choiceIn no-rule e f = unassigned
 
-in-row : (x : Row) (e f : ℕ) → inRow x e f ≡ pick (isAssigned (inRow x e f)) (choiceIn x e f) unassigned
+in-row : (x : RuleRow) (e f : ℕ) → ruleInRow x e f ≡ pick (isAssigned (ruleInRow x e f)) (choiceIn x e f) unassigned
 in-row (by-f fs r) e f = by-test (among f fs)
   where
     by-test : (t : Bool) → pick t (rule r) unassigned ≡ pick (isAssigned (pick t (rule r) unassigned)) (rule r) unassigned
@@ -70,25 +70,25 @@ in-row (by-f-dividing fs gs r) e f = by-tests (among f fs) (among f gs)
     by-tests false s = refl
 in-row (one r) e f = refl
 in-row (by-e r₀ r₁) e f = refl
-in-row none e f = refl
+in-row no-rule e f = refl
 
 module _ (op w : ℕ) (small : w < 65536) (has : w / 4096 ≡ op) where
-  pub chosen : choice w ≡ pick (assignedBy op (f-of w)) (choiceIn (getD rows op none) (e-of w) (f-of w)) unassigned
+  pub chosen : choice w ≡ pick (assignedBy op (f-of w)) (choiceIn (getD ruleRows op no-rule) (e-of w) (f-of w)) unassigned
   unfolding choice
   chosen =
       let o : opcode w ≡ op = omega arith in
-      in-row (getD rows (opcode w) none) (e-of w) (f-of w)
-      ∙ ap₂ (λ t i. pick t (choiceIn (getD rows i none) (e-of w) (f-of w)) unassigned) (assigned-is w small ∙ ap (λ i. assignedBy i (f-of w)) o) o
+      in-row (getD ruleRows (opcode w) no-rule) (e-of w) (f-of w)
+      ∙ ap₂ (λ t i. pick t (choiceIn (getD ruleRows i no-rule) (e-of w) (f-of w)) unassigned) (assigned-is w small ∙ ap (λ i. assignedBy i (f-of w)) o) o
 
   pub past-11 : 11 < op → choice w ≡ unassigned
   past-11 l =
       chosen
-      ∙ ap (λ t. pick (pick t false (pick (eqb op 1) (below6But 2 (f-of w)) (pick (eqb op 11) (below6But 3 (f-of w)) true))) (choiceIn (getD rows op none) (e-of w) (f-of w)) unassigned)
+      ∙ ap (λ t. pick (pick t false (pick (eqb op 1) (below6But 2 (f-of w)) (pick (eqb op 11) (below6But 3 (f-of w)) true))) (choiceIn (getD ruleRows op no-rule) (e-of w) (f-of w)) unassigned)
       (lt-ltb 11 op l)
 
 -- an opcode with a gap among its f, where the code's test says t
 pub by-its-f : (op gap w : ℕ) (x : Choice) {t : Bool} → w < 65536 → w / 4096 ≡ op → below6But gap (w % 8) ≡ t
-    → pick (assignedBy op (f-of w)) (choiceIn (getD rows op none) (e-of w) (f-of w)) unassigned ≡ pick (below6But gap (f-of w)) x unassigned
+    → pick (assignedBy op (f-of w)) (choiceIn (getD ruleRows op no-rule) (e-of w) (f-of w)) unassigned ≡ pick (below6But gap (f-of w)) x unassigned
     → choice w ≡ pick t x unassigned
 by-its-f op gap w x small has e s = chosen op w small has ∙ s ∙ ap (λ t. pick t x unassigned) (ap (below6But gap) (sym (f-is w)) ∙ e)
 

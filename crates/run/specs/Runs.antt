@@ -4,7 +4,7 @@ use mathlib.Core.List.{List, [], _++_}
 use Prim.Native.Nat.{ℕ, _+_, _-_, _%_}
 use lib.Dec.{eqb, leb}
 use lib.ListN.{length, drop}
-use Rattle.refusal.specs.Refusals.{refusalNumber, Verdict, accepted, refused as turned-away}
+use Rattle.refusal.specs.Refusals.{refusalNumber, Verdict, accepted, refused}
 use Rattle.word.specs.Word.{pick}
 use Rattle.machine.specs.declared.State.{State}
 use Rattle.machine.specs.Machine.{Machine}
@@ -37,11 +37,11 @@ given state P D I O budget log = record { state = state; P = P; D = D; I = I; O 
 -- the stop reason, steps and entries written; or the number of the refusal
 pub data RunReply : Type 0 where
   stopped : ℕ → ℕ → ℕ → RunReply
-  refused : ℕ → RunReply
+  run-refused : ℕ → RunReply
 
 abbrev pub shownAnswer : Answer → RunReply
 shownAnswer (Stopped r) = stopped (r .stop) (r .steps) (r .entries)
-shownAnswer (Refused r) = refused (refusalNumber r)
+shownAnswer (Refused r) = run-refused (refusalNumber r)
 
 -- It replies with the state, stop reason, steps and entries, and leaves the memories, ports and log.
 pub record Left : Type 0 where
@@ -62,15 +62,15 @@ left reply state P D I O log = record { reply = reply; state = state; P = P; D =
 unfoldable pub verdict : ℕ → ℕ → List ℕ → List ℕ → List ℕ → List ℕ → ℕ → Verdict
 verdict pc n P D I O budget =
     pick (lengthsFit P D I O)
-    (pick (eqb (pc % 2) 0) (pick (leb (n + budget) 4294967295) accepted (turned-away 6)) (turned-away 5))
-    (turned-away 1)
+    (pick (eqb (pc % 2) 0) (pick (leb (n + budget) 4294967295) accepted (refused 6)) (refused 5))
+    (refused 1)
 
 abbrev pub verdictOn : Given → Verdict
 verdictOn g = verdict (g .state .pc) (g .state .n) (g .P) (g .D) (g .I) (g .O) (g .budget)
 
 abbrev pub shownVerdict : Check → Verdict
 shownVerdict Accepted = accepted
-shownVerdict (CheckRefused r) = turned-away (refusalNumber r)
+shownVerdict (CheckRefused r) = refused (refusalNumber r)
 
 -- ---- What is left, where v is what the run goes by
 
@@ -96,12 +96,12 @@ abbrev pub acceptedLeft : Stepper → Given → Left
 acceptedLeft v g = leftOf g (run v (g .budget) (length (g .log)) (machineAt g))
 
 -- A refused one changes nothing lent and hands back the state it got.
-abbrev pub leftBy : Stepper → Verdict → Given → Left
-leftBy v accepted g = acceptedLeft v g
-leftBy v (turned-away k) g = left (refused k) (g .state) (g .P) (g .D) (g .I) (g .O) (g .log)
+abbrev pub runLeftBy : Stepper → Verdict → Given → Left
+runLeftBy v accepted g = acceptedLeft v g
+runLeftBy v (refused k) g = left (run-refused k) (g .state) (g .P) (g .D) (g .I) (g .O) (g .log)
 
 unfoldable pub runLeft : Stepper → Given → Left
-runLeft v g = leftBy v (verdictOn g) g
+runLeft v g = runLeftBy v (verdictOn g) g
 
 -- the contract of a run: by the rules `byRules`, by a table `byControl` of it
 abbrev pub RunMeets : Stepper → Given → Left → Type 0
@@ -120,7 +120,7 @@ acceptedCounted v g = record { left = acceptedLeft v g; usage = usageOf (trace v
 -- A refused run's counts are zero.
 abbrev pub countedBy : Stepper → Verdict → Given → CountedLeft
 countedBy v accepted g = acceptedCounted v g
-countedBy v (turned-away k) g = record { left = leftBy v (turned-away k) g; usage = unused }
+countedBy v (refused k) g = record { left = runLeftBy v (refused k) g; usage = unused }
 
 unfoldable pub countedLeft : Stepper → Given → CountedLeft
 countedLeft v g = countedBy v (verdictOn g) g

@@ -14,7 +14,7 @@ use borrow.Author.Tests.{eq-eqb, ne-eqb, le-leb, lt-leb}
 use Rattle.refusal.specs.Refusals.{accepted}
 use Rattle.machine.specs.Machine.{reset, wordAt}
 use Rattle.image.specs.Image.{W, programOffset, C, dataOffset, memoryOf, loadReply, loadLeft}
-use Rattle.save.specs.Saved.{kept, wordsKept, bytesKept, savedFile, SaveReply, saved, refused, SaveGiven, saveReply, leftBy, saveLeft}
+use Rattle.save.specs.Saved.{kept, wordsKept, bytesKept, savedFile, SaveReply, saved, save-refused, SaveGiven, saveReply, saveLeftBy, saveLeft}
 use Rattle.image.proofs.Fits.{no-refusal}
 use Rattle.image.proofs.Left.{left-by, accepted-left}
 use Rattle.save.proofs.Kept.{Cut, cut, least, words-kept}
@@ -154,8 +154,8 @@ size g = length (savedFile (g .P) (g .D))
 
 -- what the tests find, and the reply to it
 pub data Found (g : SaveGiven) : SaveReply → Type 0 where
-  lengths : WrongLength g → Found g (refused 1)
-  short : RightLengths g → length (g .destination) < size g → Found g (refused 9)
+  lengths : WrongLength g → Found g (save-refused 1)
+  short : RightLengths g → length (g .destination) < size g → Found g (save-refused 9)
   room : RightLengths g → size g ≤ length (g .destination) → Found g (saved (size g))
 
 module _ (g : SaveGiven) where
@@ -182,9 +182,9 @@ module _ (g : SaveGiven) where
       ]
 
   -- the reply that stands in what is left
-  reply-of : (r : SaveReply) → leftBy r g .reply ≡ r
+  reply-of : (r : SaveReply) → saveLeftBy r g .reply ≡ r
   reply-of (saved n) = refl
-  reply-of (refused k) = refl
+  reply-of (save-refused k) = refl
 
   pub replies : {r : SaveReply} → Found g r → saveLeft g .reply ≡ r
   unfolding saveLeft
@@ -192,7 +192,7 @@ module _ (g : SaveGiven) where
 
   Why : SaveReply → Type 0
   Why (saved n) = (n ≡ size g) × RightLengths g × (size g ≤ length (g .destination))
-  Why (refused k) = ((k ≡ 1) × WrongLength g) ⊎ ((k ≡ 9) × RightLengths g × (length (g .destination) < size g))
+  Why (save-refused k) = ((k ≡ 1) × WrongLength g) ⊎ ((k ≡ 9) × RightLengths g × (length (g .destination) < size g))
 
   why-found : {r : SaveReply} → Found g r → Why r
   unfolding Why
@@ -203,11 +203,11 @@ module _ (g : SaveGiven) where
   why : {r : SaveReply} → saveLeft g .reply ≡ r → Why r
   why e = rw (sym (replies (some .1)) ∙ e) at (why-found (some .1))
 
-  pub number-1 : (saveLeft g .reply ≡ refused 1) ↔ WrongLength g
+  pub number-1 : (saveLeft g .reply ≡ save-refused 1) ↔ WrongLength g
   unfolding Why
   number-1 = (λ e. ⊎-elim (λ w. w .1) (λ w. absurd (omega (arith, w .0))) (why e), λ h. replies (lengths h))
 
-  pub number-9 : (saveLeft g .reply ≡ refused 9) ↔ (RightLengths g × (length (g .destination) < size g))
+  pub number-9 : (saveLeft g .reply ≡ save-refused 9) ↔ (RightLengths g × (length (g .destination) < size g))
   unfolding Why
   number-9 = (λ e. ⊎-elim (λ w. absurd (omega (arith, w .0))) (λ w. (w .1, w .2)) (why e), λ h. replies (short (h .0) (h .1)))
 
@@ -215,11 +215,11 @@ module _ (g : SaveGiven) where
   unfolding Why
   saves n = (λ e. why e, λ h. replies (room (h .1) (h .2)) ∙ ap saved (sym (h .0)))
 
-  pub no-other : (k : ℕ) → saveLeft g .reply ≡ refused k → (k ≡ 1) ⊎ (k ≡ 9)
+  pub no-other : (k : ℕ) → saveLeft g .reply ≡ save-refused k → (k ≡ 1) ⊎ (k ≡ 9)
   unfolding Why
   no-other k e = ⊎-elim (λ w. inl (w .0)) (λ w. inr (w .0)) (why e)
 
   -- where refused, nothing lent has changed
-  pub nothing-changes : (k : ℕ) → saveLeft g .reply ≡ refused k → saveLeft g ≡ record { reply = refused k; P = g .P; D = g .D; destination = g .destination }
+  pub nothing-changes : (k : ℕ) → saveLeft g .reply ≡ save-refused k → saveLeft g ≡ record { reply = save-refused k; P = g .P; D = g .D; destination = g .destination }
   unfolding saveLeft
-  nothing-changes k e = ap (λ r. leftBy r g) (sym (reply-of (saveReply g)) ∙ e)
+  nothing-changes k e = ap (λ r. saveLeftBy r g) (sym (reply-of (saveReply g)) ∙ e)

@@ -6,7 +6,7 @@ use mathlib.Core.List.{List, _++_}
 use native.Mathlib.Omega.{arith}
 use lib.ListN.{length, take, drop, length-append, length-take}
 use lib.Seq.{take-at, drop-at, drop-drop}
-use Rattle.save.specs.Saved.{wordsKept, bytesKept, header, fileOf, savedFile, saved, refused, SaveGiven, SaveLeft, leftBy, saveLeft}
+use Rattle.save.specs.Saved.{wordsKept, bytesKept, header, fileOf, savedFile, saved, save-refused, SaveGiven, SaveLeft, saveLeftBy, saveLeft}
 use Rattle.save.proofs.Saved.{file-length, Found, short, room, decided, replies, nothing-changes}
 
 -- the memory begins with `front`, of n bytes, and is as it was after that
@@ -35,15 +35,15 @@ module _ (P D old : List ℕ) (w c : ℕ) where
 -- ---- What is left, from what the tests found
 
 module _ (g : SaveGiven) where
-  pub refused-left : {k : ℕ} → Found g (refused k)
-      → _≡_ {A = SaveLeft} (record { reply = refused k; P = g .P; D = g .D; destination = g .destination }) (saveLeft g)
+  pub refused-left : {k : ℕ} → Found g (save-refused k)
+      → _≡_ {A = SaveLeft} (record { reply = save-refused k; P = g .P; D = g .D; destination = g .destination }) (saveLeft g)
   refused-left f = sym (nothing-changes g _ (replies g f))
 
   saved-left : {n : ℕ} {new : List ℕ} → Found g (saved n) → new ≡ savedFile (g .P) (g .D) ++ drop n (g .destination)
       → _≡_ {A = SaveLeft} (record { reply = saved n; P = g .P; D = g .D; destination = new }) (saveLeft g)
   unfolding saveLeft
   saved-left {n} f e =
-      ap (λ (d : List ℕ). record { reply = saved n; P = g .P; D = g .D; destination = d }) e ∙ ap (λ r. leftBy r g) (decided g f)
+      ap (λ (d : List ℕ). record { reply = saved n; P = g .P; D = g .D; destination = d }) e ∙ ap (λ r. saveLeftBy r g) (decided g f)
 
 -- where the memories have their lengths, with the numbers that the code computes
 
@@ -56,7 +56,7 @@ module _ (g : SaveGiven) {w c : ℕ} (p : length (g .P) ≡ 65536) (d : length (
   file = ap (λ n. fileOf n c (g .P) (g .D)) e ∙ ap (λ n. fileOf (wordsKept (g .P)) n (g .P) (g .D)) f
 
   pub short-left : length (g .destination) < 16 + 2 * w + c
-      → _≡_ {A = SaveLeft} (record { reply = refused 9; P = g .P; D = g .D; destination = g .destination }) (saveLeft g)
+      → _≡_ {A = SaveLeft} (record { reply = save-refused 9; P = g .P; D = g .D; destination = g .destination }) (saveLeft g)
   short-left h = refused-left g (short (p, d) (rw end at h))
 
   pub written-left : {new : List ℕ} → 16 + 2 * w + c ≤ length (g .destination)

@@ -48,11 +48,11 @@ savedFile P D = fileOf (wordsKept P) (bytesKept D) P D
 -- the file's length, or the number of the refusal
 pub data SaveReply : Type 0 where
   saved : ℕ → SaveReply
-  refused : ℕ → SaveReply
+  save-refused : ℕ → SaveReply
 
 abbrev pub shownSaving : Saving → SaveReply
 shownSaving (Saved n) = saved n
-shownSaving (Refused r) = refused (refusalNumber r)
+shownSaving (Refused r) = save-refused (refusalNumber r)
 
 pub record SaveGiven : Type 0 where
   pub P : List ℕ
@@ -73,17 +73,17 @@ memoriesFit P D = eqb (length P) 65536 && eqb (length D) 65536
 unfoldable pub saveReply : SaveGiven → SaveReply
 saveReply g =
     let size = length (savedFile (g .P) (g .D)) in
-    pick (memoriesFit (g .P) (g .D)) (pick (leb size (length (g .destination))) (saved size) (refused 9)) (refused 1)
+    pick (memoriesFit (g .P) (g .D)) (pick (leb size (length (g .destination))) (saved size) (save-refused 9)) (save-refused 1)
 
 -- The destination begins with the file, and its unused end keeps its bytes. Nothing else lent changes, and in a refused
 -- call nothing does.
-abbrev pub leftBy : SaveReply → SaveGiven → SaveLeft
-leftBy (saved n) g =
+abbrev pub saveLeftBy : SaveReply → SaveGiven → SaveLeft
+saveLeftBy (saved n) g =
     record { reply = saved n; P = g .P; D = g .D; destination = savedFile (g .P) (g .D) ++ drop n (g .destination) }
-leftBy (refused k) g = record { reply = refused k; P = g .P; D = g .D; destination = g .destination }
+saveLeftBy (save-refused k) g = record { reply = save-refused k; P = g .P; D = g .D; destination = g .destination }
 
 unfoldable pub saveLeft : SaveGiven → SaveLeft
-saveLeft g = leftBy (saveReply g) g
+saveLeft g = saveLeftBy (saveReply g) g
 
 -- the contract, of save's parameters in their order and what it replies
 abbrev pub Saves : Slice → Slice → Slice → Saving → Type 0

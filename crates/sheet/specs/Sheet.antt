@@ -3,18 +3,18 @@ use Prim.Native.Nat.{ℕ, _+_, _%_, _^_}
 use mathlib.Core.Bool.{Bool, true, false}
 use mathlib.Core.List.{List, [], _∷_}
 use lib.Dec.{ltb}
-use lib.ListN.{length, replicate}
+use lib.ListN.{replicate}
 use Rattle.refusal.specs.Refusals.{refusalNumber, Verdict, accepted, refused}
 use Rattle.word.specs.Word.{pick}
-use Rattle.kinds.specs.Kinds.{kinds}
+use Rattle.kinds.specs.Kinds.{kindCount}
 use Rattle.usage.specs.declared.Usage.{Usage}
-use Rattle.run.specs.Runs.{RunReply, stopped, refused as run-refused}
+use Rattle.run.specs.Runs.{RunReply, stopped, run-refused}
 use Rattle.sheet.specs.declared.Sheet.{Sheet}
 use Rattle.sheet.specs.declared.Feeding.{Feeding}
 use Rattle.sheet.specs.declared.Feeding.the-variants.{Taken, Refused}
 
 abbrev pub empty : Sheet
-empty = record { kinds = replicate (length kinds) 0; reads = replicate 8 0; writes = replicate 8 0; runs = 0 }
+empty = record { kinds = replicate kindCount 0; reads = replicate 8 0; writes = replicate 8 0; runs = 0 }
 
 -- counts added place by place, modulo 2^64
 unfoldable pub sums : List ℕ → List ℕ → List ℕ

@@ -12,7 +12,7 @@ use borrow.Author.Tests.{lt-ltb, ltb-true, eq-eqb, ne-eqb, eqb-true}
 use Rattle.word.specs.Word.{pick}
 use Rattle.word.proofs.Tests.{clash}
 use Rattle.word.proofs.Computed.{both, both-split, all, all-at}
-use Rattle.token.specs.Tokens.{Token, between, digit, letter}
+use Rattle.token.specs.Tokens.{Token, between, isDigit, isLetter}
 use Rattle.token.specs.Scan.{symbolOf, alike}
 use Rattle.token.proofs.Symbols.{one-byte, byte-symbol}
 use Rattle.token.proofs.Alike.{alike-same}
@@ -21,8 +21,8 @@ use Rattle.expression.specs.Grammar.{Tree}
 use Rattle.expression.specs.Reading.{rankBy, rank, Out, refused, read, bind, mapped, opening, startOf, leaf, prefixed, chain, ranked, parse, headRank}
 use Rattle.expression.proofs.Unique.{Stops, whole}
 use Rattle.expression.proofs.Sound.{sound as expression-sound}
-use Rattle.statement.specs.Syntax.{Item, register, mark, N, Row, table, rowAt, Parts, put, putN, blank, Written, end, a-register-there, a-mark-there, a-value-there, Statement, none, of-row, IsStatement, empty, written, Line, line, IsLine, plain, labelled}
-use Rattle.statement.specs.Reading.{ReadLine, outside, reads, rowFrom, rowOf, aRegister, aMark, finished, readItem, readItems, statementOf, lineBy, lineOf}
+use Rattle.statement.specs.Syntax.{Item, register, punctuation, N, Row, table, rowAt, Parts, put, putN, blank, Written, end, a-register-there, punctuation-there, a-value-there, Statement, no-statement, of-row, IsStatement, empty, written, Line, line, IsLine, plain, labelled}
+use Rattle.statement.specs.Reading.{ReadLine, outside, reads, rowFrom, rowOf, aRegister, aPunctuation, finished, readItem, readItems, statementOf, lineBy, lineOf}
 
 -- the reading of operands
 abbrev operands : List Item → Parts Tree → List Token → Out (Parts Tree)
@@ -43,18 +43,18 @@ chosen Q false p q = q refl
 abbrev ending : List Item → Bool
 ending [] = true
 ending (register r ∷ is) = false
-ending (mark m ∷ is) = eqb (rank (m ∷ [])) 0
+ending (punctuation m ∷ is) = eqb (rank (m ∷ [])) 0
 ending (N ∷ is) = false
 
 -- each expression ends before the items after it, and each mark is a byte below `:`
 abbrev ordered : List Item → Bool
 ordered [] = true
 ordered (register r ∷ is) = ordered is
-ordered (mark m ∷ is) = both (ltb m 58) (ordered is)
+ordered (punctuation m ∷ is) = both (ltb m 58) (ordered is)
 ordered (N ∷ is) = both (ending is) (ordered is)
 
 -- what that says of a mark and of the items after it
-after-mark : (m : ℕ) (is : List Item) → T (ordered (mark m ∷ is)) → (m < 58) × T (ordered is)
+after-mark : (m : ℕ) (is : List Item) → T (ordered (punctuation m ∷ is)) → (m < 58) × T (ordered is)
 after-mark m is o =
     let (h, l) = both-split (ltb m 58) (ordered is) o in
     (ltb→lt m 58 h, l)
@@ -84,15 +84,15 @@ ends : {is : List Item} {ts : List Token} {p q : Parts Tree} → Written is ts p
 unfolding headRank
 ends end e = inl refl
 ends (a-register-there h w) e = absurd e
-ends (a-mark-there w) e = inl (eqb→eq _ _ e)
+ends (punctuation-there w) e = inl (eqb→eq _ _ e)
 ends (a-value-there x w) e = absurd e
 
 -- what is written as a row's operands is read, and no token is left
 read-operands : {is : List Item} {ts : List Token} {p q : Parts Tree} → Written is ts p q → T (ordered is) → operands is p ts ≡ read q []
-unfolding readItems readItem aRegister aMark bind mapped
+unfolding readItems readItem aRegister aPunctuation bind mapped
 read-operands end o = refl
 read-operands (a-register-there {t = t} h w) o = rw (lt-ltb (registerOf t) 8 h) (read-operands w o)
-read-operands (a-mark-there {m = m} {is = is} w) o =
+read-operands (punctuation-there {m = m} {is = is} w) o =
     let (h, l) = after-mark m is o in
     rw (byte-symbol m (omega arith), eq-eqb m m refl) (read-operands w l)
 read-operands (a-value-there {is = is} {ts = ts} x w) o =
@@ -107,10 +107,10 @@ read-statement (written k h w) l = rw (placed k h, lt-ltb k (length table) h, re
 
 -- operands do not begin with `:`
 no-colon : (is : List Item) (p q : Parts Tree) (ts : List Token) → T (ordered is) → operands is p ((58 ∷ []) ∷ ts) ≡ read q [] → ⊥
-unfolding readItems readItem aRegister aMark bind mapped symbolOf registerOf parse ranked chain prefixed opening startOf leaf isOperand isName digit letter between
+unfolding readItems readItem aRegister aPunctuation bind mapped symbolOf registerOf parse ranked chain prefixed opening startOf leaf isOperand isName isDigit isLetter between
 no-colon [] p q ts o e = clash (cc)
 no-colon (register r ∷ is) p q ts o e = clash (cc)
-no-colon (mark m ∷ is) p q ts o e = clash (cc (ne-eqb 58 m (λ f. omega (arith, after-mark m is o .0))))
+no-colon (punctuation m ∷ is) p q ts o e = clash (cc (ne-eqb 58 m (λ f. omega (arith, after-mark m is o .0))))
 no-colon (N ∷ is) p q ts o e = clash (cc)
 
 -- so a line that is a statement gives no name
@@ -144,18 +144,18 @@ past false is p q ts e = clash (cc)
 
 -- the operands that are read, with no token left, are written there
 there : (is : List Item) → T (ordered is) → (p q : Parts Tree) (ts : List Token) → operands is p ts ≡ read q [] → Written is ts p q
-unfolding readItems readItem aRegister aMark bind mapped
+unfolding readItems readItem aRegister aPunctuation bind mapped
 there [] o p q [] e = let f : q ≡ p = cc in rw f end
 there [] o p q (t ∷ ts) e = clash (cc)
 there (register r ∷ is) o p q [] e = clash (cc)
 there (register r ∷ is) o p q (t ∷ ts) e =
     let (f, g) = past (ltb (registerOf t) 8) is (put r (registerOf t) p) q ts e in
     a-register-there (ltb-true _ _ f) (there is o _ q ts g)
-there (mark m ∷ is) o p q [] e = clash (cc)
-there (mark m ∷ is) o p q (t ∷ ts) e =
+there (punctuation m ∷ is) o p q [] e = clash (cc)
+there (punctuation m ∷ is) o p q (t ∷ ts) e =
     let (h, l) = after-mark m is o in
     let (f, g) = past (eqb (symbolOf t) m) is p q ts e in
-    rw (one-byte t m (omega arith) (eqb-true _ _ f)) (a-mark-there (there is l p q ts g))
+    rw (one-byte t m (omega arith) (eqb-true _ _ f)) (punctuation-there (there is l p q ts g))
 there (N ∷ is) o p q ts e = go (parse 16 5 ts) refl e (there is (both-split (ending is) (ordered is) o .1))
   where
     go : (x : Out Tree) → parse 16 5 ts ≡ x → bind (mapped (λ t. putN t p) x) (operands is) ≡ read q []
@@ -187,7 +187,7 @@ row-there m p ts h e =
 -- us is a whole line: one that gives the name l, if ts is a statement
 right-statement : (us l ts : List Token) → ((s : Statement Tree) → IsStatement ts s → IsLine us (line l s)) → Right us (statement l ts)
 unfolding statementOf
-right-statement us l [] h = h none empty
+right-statement us l [] h = h no-statement empty
 right-statement us l (m ∷ ts) h =
     chosen (Right us) (ltb (rowOf m) (length table))
     (λ e. right-finished us (rowOf m) l _ (λ p f. h _ (row-there m p ts (ltb-true _ _ e) f)))

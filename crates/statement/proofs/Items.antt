@@ -24,8 +24,8 @@ use Rattle.expression.proofs.Parts.{part-none}
 use Rattle.statement.specs.declared.operands.Parts.{Parts as Held}
 use Rattle.statement.specs.declared.operands.Operands.{Operands}
 use Rattle.statement.specs.declared.operands.Operands.the-variants.{Refused, Read}
-use Rattle.statement.specs.Syntax.{register, mark, N, Parts, put, putN}
-use Rattle.statement.specs.Reading.{aRegister, aMark, readItem, readItems}
+use Rattle.statement.specs.Syntax.{register, punctuation, N, Parts, put, putN}
+use Rattle.statement.specs.Reading.{aRegister, aPunctuation, readItem, readItems}
 use Rattle.statement.specs.Table.{itemOf, itemsOf}
 use Rattle.statement.specs.Parts.{shownParts, blankValue, toldParts, registerAt}
 
@@ -49,12 +49,12 @@ module _ {s : List ℕ} {at symbol start end : ℕ} (h : At s at symbol start en
     unfolding aRegister
     no-register l = rw (h .split, ← e, le-ltb k 8 l)
 
-  pub mark-there : {m : ℕ} → symbol ≡ m → read p (tokensAt s end) ≡ aMark m p (tokensAt s at)
-  unfolding aMark
+  pub mark-there : {m : ℕ} → symbol ≡ m → read p (tokensAt s end) ≡ aPunctuation m p (tokensAt s at)
+  unfolding aPunctuation
   mark-there e = rw (h .split, ← h .number, eq-eqb symbol _ e)
 
-  pub other-mark : {m : ℕ} → (symbol ≡ m → ⊥) → refused ≡ aMark m p (tokensAt s at)
-  unfolding aMark
+  pub other-mark : {m : ℕ} → (symbol ≡ m → ⊥) → refused ≡ aPunctuation m p (tokensAt s at)
+  unfolding aPunctuation
   other-mark n = rw (h .split, ← h .number, ne-eqb symbol _ n)
 
 module _ (s : List ℕ) {a : Answer} {o : Out Value} (t : told s a ≡ o) (p : Parts Value) where
@@ -73,7 +73,7 @@ register-item c n = go (eqb c 97) (eqb c 98) (eqb c 100) refl refl refl
   where
     go :
         (x y z : Bool) → eqb c 97 ≡ x → eqb c 98 ≡ y → eqb c 100 ≡ z
-        → pick x (register a-register) (pick y (register b-register) (pick z (register d-register) (pick (eqb c 110) N (mark c))))
+        → pick x (register a-register) (pick y (register b-register) (pick z (register d-register) (pick (eqb c 110) N (punctuation c))))
         ≡ register (pick x a-register (pick y b-register d-register))
     go true y z f g h = refl
     go false true z f g h = refl
@@ -81,7 +81,7 @@ register-item c n = go (eqb c 97) (eqb c 98) (eqb c 100) refl refl refl
     go false false false f g h = absurd (n (eqb-false _ _ f) (eqb-false _ _ g) (eqb-false _ _ h))
 
 -- any other byte but `n` stands for itself
-pub mark-item : (c : ℕ) → (97 ≤ c → c < 99 → ⊥) → (c ≡ 100 → ⊥) → (c ≡ 110 → ⊥) → itemOf c ≡ mark c
+pub mark-item : (c : ℕ) → (97 ≤ c → c < 99 → ⊥) → (c ≡ 100 → ⊥) → (c ≡ 110 → ⊥) → itemOf c ≡ punctuation c
 unfolding itemOf
 mark-item c x y n =
     rw (ne-eqb c 97 (λ e. x (omega arith) (omega arith)), ne-eqb c 98 (λ e. x (omega arith) (omega arith)), ne-eqb c 100 y, ne-eqb c 110 n)

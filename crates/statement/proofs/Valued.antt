@@ -7,14 +7,14 @@ use lib.Dec.{eqb, ltb}
 use lib.ListN.{length}
 use Rattle.word.specs.Word.{pick}
 use Rattle.isa.specs.Instructions.{Register, a-register, b-register, d-register}
-use Rattle.token.specs.Tokens.{Token, between, digit}
+use Rattle.token.specs.Tokens.{Token, between, isDigit}
 use Rattle.token.specs.Scan.{symbolOf}
 use Rattle.expression.specs.declared.Value.{Value}
 use Rattle.expression.specs.Operands.{Label, registerOf, isName, operandValue, literalWord, hexed, numeral, digitOf}
 use Rattle.expression.specs.Grammar.{Tree, valueOf}
 use Rattle.expression.specs.Reading.{Out, refused, read, bind, mapped, parse, labels}
-use Rattle.statement.specs.Syntax.{Item, register, mark, N, rowAt, table, Parts, put, putN, blank, line}
-use Rattle.statement.specs.Reading.{outside, rowOf, aRegister, aMark, finished, readItem, readItems, statementOf, lineBy, lineOf, valuedParts, valuedStatement, valued}
+use Rattle.statement.specs.Syntax.{Item, register, punctuation, N, rowAt, table, Parts, put, putN, blank, line}
+use Rattle.statement.specs.Reading.{outside, rowOf, aRegister, aPunctuation, finished, readItem, readItems, statementOf, lineBy, lineOf, valuedParts, valuedStatement, valued}
 use Rattle.statement.specs.Parts.{expressionOf, blankValue}
 
 module _ (v : Tree → Value) (expression : List Token → Out Tree) where
@@ -39,8 +39,8 @@ module _ (v : Tree → Value) (expression : List Token → Out Tree) where
       go true = ap (λ (q : Parts Value). read q ts) (put-valued r (registerOf t) p)
       go false = refl
 
-  a-mark-valued : (m : ℕ) (p : Parts Tree) (ts : List Token) → aMark m (valuedParts v p) ts ≡ with-values (aMark m p ts)
-  unfolding aMark mapped
+  a-mark-valued : (m : ℕ) (p : Parts Tree) (ts : List Token) → aPunctuation m (valuedParts v p) ts ≡ with-values (aPunctuation m p ts)
+  unfolding aPunctuation mapped
   a-mark-valued m p [] = refl
   a-mark-valued m p (t ∷ ts) = go (eqb (symbolOf t) m)
     where
@@ -56,7 +56,7 @@ module _ (v : Tree → Value) (expression : List Token → Out Tree) where
   item-valued : (i : Item) (p : Parts Tree) (ts : List Token) → readItem values i (valuedParts v p) ts ≡ with-values (readItem expression i p ts)
   unfolding readItem
   item-valued (register r) p ts = a-register-valued r p ts
-  item-valued (mark m) p ts = a-mark-valued m p ts
+  item-valued (punctuation m) p ts = a-mark-valued m p ts
   item-valued N p ts = n-valued p (expression ts)
 
   items-valued : (is : List Item) (p : Parts Tree) (ts : List Token) → readItems values is (valuedParts v p) ts ≡ with-values (readItems expression is p ts)
@@ -105,7 +105,7 @@ module _ (v : Tree → Value) (expression : List Token → Out Tree) where
 
 -- a part that does not stand there is 0, whatever the names
 blank-valued : (names : List Label) → valuedParts (valueOf (operandValue names)) blank ≡ blankValue
-unfolding valuedParts valueOf operandValue digit between literalWord hexed numeral digitOf
+unfolding valuedParts valueOf operandValue isDigit between literalWord hexed numeral digitOf
 blank-valued names = refl
 
 pub read-valued : (text names : List ℕ) (ts : List Token)

@@ -20,7 +20,7 @@ use Rattle.statement.specs.declared.operands.Operands.the-variants.{Refu
 use Rattle.statement.specs.declared.line.Line.{Line as Found}
 use Rattle.statement.specs.declared.line.Line.the-variants.{Outside, Reads}
 use Rattle.statement.specs.declared.line.Content.{Content}
-use Rattle.statement.specs.Syntax.{Parts, Statement, none, of-row, line, table}
+use Rattle.statement.specs.Syntax.{Parts, Statement, no-statement, of-row, line, table}
 use Rattle.statement.specs.Reading.{ReadLine, outside, reads}
 
 abbrev pub shownParts : Held → Parts Value
@@ -50,7 +50,7 @@ labelOf text start end = pick (ltb start end) (part start end text ∷ []) []
 
 -- row k; where the table has no such row, no statement
 unfoldable pub shownStatement : ℕ → Parts Value → Statement Value
-shownStatement k p = pick (ltb k (length table)) (of-row k p) none
+shownStatement k p = pick (ltb k (length table)) (of-row k p) no-statement
 
 unfoldable pub shownContent : List ℕ → Content → ReadLine Value
 shownContent text c = reads (line (labelOf text (c .label) (c .until)) (shownStatement (c .row) (shownParts (c .parts))))

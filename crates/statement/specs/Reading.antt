@@ -13,7 +13,7 @@ use Rattle.expression.specs.declared.Value.{Value}
 use Rattle.expression.specs.Operands.{registerOf, isName}
 use Rattle.expression.specs.Grammar.{Tree}
 use Rattle.expression.specs.Reading.{Out, refused, read, bind, mapped, parse}
-use Rattle.statement.specs.Syntax.{Item, register, mark, N, Row, table, rowAt, Parts, put, putN, blank, Statement, none, of-row, Line, line}
+use Rattle.statement.specs.Syntax.{Item, register, punctuation, N, Row, table, rowAt, Parts, put, putN, blank, Statement, no-statement, of-row, Line, line}
 
 -- a line's reading, if it has one
 pub data ReadLine (A : Type 0) : Type 0 where
@@ -33,9 +33,9 @@ module _ {A : Type 0} where
   aRegister r p [] = refused
   aRegister r p (t ∷ ts) = pick (ltb (registerOf t) 8) (read (put r (registerOf t) p) ts) refused
 
-  unfoldable pub aMark : ℕ → Parts A → List Token → Out (Parts A)
-  aMark m p [] = refused
-  aMark m p (t ∷ ts) = pick (eqb (symbolOf t) m) (read p ts) refused
+  unfoldable pub aPunctuation : ℕ → Parts A → List Token → Out (Parts A)
+  aPunctuation m p [] = refused
+  aPunctuation m p (t ∷ ts) = pick (eqb (symbolOf t) m) (read p ts) refused
 
   -- nothing may follow the operands of row k; l is the name that the line gives, if any
   unfoldable pub finished : ℕ → List Token → Out (Parts A) → ReadLine A
@@ -47,7 +47,7 @@ module _ {A : Type 0} where
 module _ {A : Type 0} (expression : List Token → Out A) where
   unfoldable pub readItem : Item → Parts A → List Token → Out (Parts A)
   readItem (register r) p ts = aRegister r p ts
-  readItem (mark m) p ts = aMark m p ts
+  readItem (punctuation m) p ts = aPunctuation m p ts
   readItem N p ts = mapped (λ e. putN e p) (expression ts)
 
   unfoldable pub readItems : List Item → Parts A → List Token → Out (Parts A)
@@ -56,7 +56,7 @@ module _ {A : Type 0} (expression : List Token → Out A) where
 
   -- the statement of a line; `empty` are the parts where nothing stands
   unfoldable pub statementOf : Parts A → List Token → List Token → ReadLine A
-  statementOf empty l [] = reads (line l none)
+  statementOf empty l [] = reads (line l no-statement)
   statementOf empty l (m ∷ ts) =
       pick (ltb (rowOf m) (length table)) (finished (rowOf m) l (readItems (rowAt (rowOf m) .items) empty ts)) outside
 
@@ -75,7 +75,7 @@ unfoldable pub valuedParts : (Tree → Value) → Parts Tree → Parts Value
 valuedParts v p = record { a = p .a; b = p .b; d = p .d; n = v (p .n) }
 
 unfoldable pub valuedStatement : (Tree → Value) → Statement Tree → Statement Value
-valuedStatement v none = none
+valuedStatement v no-statement = no-statement
 valuedStatement v (of-row k p) = of-row k (valuedParts v p)
 
 unfoldable pub valued : (Tree → Value) → ReadLine Tree → ReadLine Value

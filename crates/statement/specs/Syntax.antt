@@ -16,7 +16,7 @@ use Rattle.expression.specs.Grammar.{Tree, operand, Expression}
 pub data Item : Type 0 where
   register : Register → Item
   -- a comma or a parenthesis
-  mark : ℕ → Item
+  punctuation : ℕ → Item
   -- N6 or N8: an expression
   N : Item
 
@@ -30,13 +30,13 @@ abbrev Rd : Item
 Rd = register d-register
 
 abbrev comma : Item
-comma = mark (byte ",")
+comma = punctuation (byte ",")
 
 abbrev opening : Item
-opening = mark (byte "(")
+opening = punctuation (byte "(")
 
 abbrev closing : Item
-closing = mark (byte ")")
+closing = punctuation (byte ")")
 
 -- how the value of N becomes the instruction's number n
 pub data Field : Type 0 where
@@ -157,19 +157,19 @@ pub data Written : List Item → List Token → Parts Tree → Parts Tree → Ty
   -- R0 to R7
   a-register-there : {r : Register} {is : List Item} {t : Token} {ts : List Token} {p q : Parts Tree}
       → registerOf t < 8 → Written is ts (put r (registerOf t) p) q → Written (register r ∷ is) (t ∷ ts) p q
-  a-mark-there : {m : ℕ} {is : List Item} {ts : List Token} {p q : Parts Tree}
-      → Written is ts p q → Written (mark m ∷ is) ((m ∷ []) ∷ ts) p q
+  punctuation-there : {m : ℕ} {is : List Item} {ts : List Token} {p q : Parts Tree}
+      → Written is ts p q → Written (punctuation m ∷ is) ((m ∷ []) ∷ ts) p q
   -- parentheses nest to depth 16
   a-value-there : {is : List Item} {us ts : List Token} {e : Tree} {p q : Parts Tree}
       → Expression 16 5 us e → Written is ts (putN e p) q → Written (N ∷ is) (us ++ ts) p q
 
 -- what a line says: nothing, or row k of the table with its parts
 pub data Statement (A : Type 0) : Type 0 where
-  none : Statement A
+  no-statement : Statement A
   of-row : ℕ → Parts A → Statement A
 
 pub data IsStatement : List Token → Statement Tree → Type 0 where
-  empty : IsStatement [] none
+  empty : IsStatement [] no-statement
   written : (k : ℕ) {ts : List Token} {p : Parts Tree}
       → k < length table → Written (rowAt k .items) ts blank p → IsStatement (rowAt k .mnemonic ∷ ts) (of-row k p)
 

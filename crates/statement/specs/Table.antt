@@ -8,7 +8,7 @@ use lib.ListN.{take, drop}
 use Rattle.word.specs.Word.{pick}
 use Rattle.isa.specs.Instructions.{a-register, b-register, d-register}
 use Rattle.token.specs.Ascii.{byte, ascii}
-use Rattle.statement.specs.Syntax.{Item, register, mark, N, Field, number, eight-bits, target}
+use Rattle.statement.specs.Syntax.{Item, register, punctuation, N, Field, number, eight-bits, target}
 
 abbrev pub rowText : List ℕ
 rowText = ascii "AND   d,a,b OR    d,a,b XOR   d,a,b NOT   d,a   ADD   d,a,b SUB   d,a,b SHA   d,a,b SHL   d,a,b CMPLT d,a,b CMPLE d,a,b CMPEQ d,a,b CMPLTUd,a,b CMPLEUd,a,b ADDI  d,a,n LD    d,n(a)ST    n(a),bLDB   d,n(a)STB   n(a),bJALR  d,a   BZ    a,n   BNZ   a,n   MOVI  d,n   MOVHI d,n   IN    d,n   OUT   n,a   MUL   d,a,b MULH  d,a,b MULHU d,a,b DIV   d,a,b DIVU  d,a,b .word n     "
@@ -22,7 +22,7 @@ itemOf c =
     pick (eqb c (byte "a")) (register a-register)
     (pick (eqb c (byte "b")) (register b-register)
     (pick (eqb c (byte "d")) (register d-register)
-    (pick (eqb c (byte "n")) N (mark c))))
+    (pick (eqb c (byte "n")) N (punctuation c))))
 
 -- the items of a row's operands, up to the first space
 unfoldable pub itemsOf : List ℕ → List Item

@@ -5,7 +5,7 @@ ghost use Prim.Native.Nat.{_+_, _<_, _≤_};
 ghost use lib.ListN.{length, take, drop};
 ghost use Rattle.token.specs.Scan.{tokensAt};
 ghost use Rattle.statement.specs.Syntax.{put, putN};
-ghost use Rattle.statement.specs.Reading.{aRegister, aMark, readItem, readItems};
+ghost use Rattle.statement.specs.Reading.{aRegister, aPunctuation, readItem, readItems};
 ghost use Rattle.statement.specs.Table.{itemOf, itemsOf};
 ghost use Rattle.statement.specs.Parts.{shownParts, toldParts, expressionOf, blankValue, registerAt};
 use expression::Answer;
@@ -106,7 +106,7 @@ fn register_at(text: &[u8], letter: u8, parts: Parts, at: usize) -> Operands
 }
 
 fn mark_at(text: &[u8], mark: u8, parts: Parts, at: usize) -> Operands
-    ensures { λ r. ⌜ toldParts (now (text .entry)) r ≡ aMark mark (shownParts parts) (tokensAt (now (text .entry)) at) ⌝ }
+    ensures { λ r. ⌜ toldParts (now (text .entry)) r ≡ aPunctuation mark (shownParts parts) (tokensAt (now (text .entry)) at) ⌝ }
 {
     let t = token::token_at(text, at);
     let Token::Here {

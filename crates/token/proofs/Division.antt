@@ -10,40 +10,40 @@ use lib.ListN.{length}
 use borrow.Author.Tests.{ne-eqb, eqb-true, eqb-false}
 use Rattle.word.specs.Word.{pick}
 use Rattle.word.proofs.Tests.{clash, never, either}
-use Rattle.token.specs.Tokens.{Token, between, digit, letter, letterOrDigit}
-use Rattle.token.specs.Tokens.{Row, last, then, IsToken, row, pointed, shift, single, Longest, Divided, end, space, token}
+use Rattle.token.specs.Tokens.{Token, between, isDigit, isLetter, isLetterOrDigit}
+use Rattle.token.specs.Tokens.{Alphanumeric, last, then, IsToken, alphanumeric, pointed, shift, single, Longest, Divided, end, space, token}
 use Rattle.token.specs.Scan.{goesOn, joins, ended, begun, scan, tokens}
 use Rattle.token.proofs.Scanning.{Over, over}
 
 -- ---- When a byte goes on a token
 
 -- a letter or digit is another byte than one that is neither
-other-than : (k c : ℕ) → letterOrDigit k ≡ false → letterOrDigit c ≡ true → eqb c k ≡ false
+other-than : (k c : ℕ) → isLetterOrDigit k ≡ false → isLetterOrDigit c ≡ true → eqb c k ≡ false
 other-than k c n h = go (eqb c k) refl
   where
     go : (t : Bool) → eqb c k ≡ t → t ≡ false
-    go true e = never (sym n ∙ ap letterOrDigit (sym (eqb-true c k e)) ∙ h)
+    go true e = never (sym n ∙ ap isLetterOrDigit (sym (eqb-true c k e)) ∙ h)
     go false e = refl
 
 -- a row goes on with letters and digits only
-row-on : (c : ℕ) (t : Token) (b : ℕ) → eqb c 60 ≡ false → joins (c ∷ t) b ≡ true → letterOrDigit b ≡ true
+row-on : (c : ℕ) (t : Token) (b : ℕ) → eqb c 60 ≡ false → joins (c ∷ t) b ≡ true → isLetterOrDigit b ≡ true
 unfolding joins goesOn
-row-on c t b e j = go (letterOrDigit b) refl
+row-on c t b e j = go (isLetterOrDigit b) refl
   where
-    go : (x : Bool) → letterOrDigit b ≡ x → x ≡ true
+    go : (x : Bool) → isLetterOrDigit b ≡ x → x ≡ true
     go true f = refl
     go false f = never (sym (rw (f, e) (either (λ x. x ≡ false) (eqb b 60) refl refl)) ∙ j)
 
-row-snoc : {t : Token} (b : ℕ) → Row t → letterOrDigit b ≡ true → Row (t ++ (b ∷ []))
+row-snoc : {t : Token} (b : ℕ) → Alphanumeric t → isLetterOrDigit b ≡ true → Alphanumeric (t ++ (b ∷ []))
 row-snoc b (last h) k = then h (last k)
 row-snoc b (then h r) k = then h (row-snoc b r k)
 
-single-on : (c b : ℕ) → letterOrDigit c ≡ false → goesOn c 1 b ≡ true → IsToken (c ∷ b ∷ [])
+single-on : (c b : ℕ) → isLetterOrDigit c ≡ false → goesOn c 1 b ≡ true → IsToken (c ∷ b ∷ [])
 unfolding goesOn
-single-on c b h j = go (letterOrDigit b) refl (eqb c 46) refl (eqb b 60) refl (eqb c 60) refl (rw h at j)
+single-on c b h j = go (isLetterOrDigit b) refl (eqb c 46) refl (eqb b 60) refl (eqb c 60) refl (rw h at j)
   where
     go :
-        (x : Bool) → letterOrDigit b ≡ x → (y : Bool) → eqb c 46 ≡ y
+        (x : Bool) → isLetterOrDigit b ≡ x → (y : Bool) → eqb c 46 ≡ y
         → (z : Bool) → eqb b 60 ≡ z → (w : Bool) → eqb c 60 ≡ w
         → pick x y (pick z (pick w true false) false) ≡ true → IsToken (c ∷ b ∷ [])
     go true f true e z p w q j = rw (eqb-true c 46 e) (pointed (last f))
@@ -53,23 +53,23 @@ single-on c b h j = go (letterOrDigit b) refl (eqb c 46) refl (eqb b 60) refl (e
     go false f y e false p w q j = never j
 
 joined : {t : Token} (b : ℕ) → IsToken t → joins t b ≡ true → IsToken (t ++ (b ∷ []))
-unfolding joins goesOn letterOrDigit digit letter between
-joined b (row (last {b = c} h)) j = row (row-snoc b (last h) (row-on c [] b (other-than 60 c refl h) j))
-joined b (row (then {b = c} {t} h r)) j = row (row-snoc b (then h r) (row-on c t b (other-than 60 c refl h) j))
+unfolding joins goesOn isLetterOrDigit isDigit isLetter between
+joined b (alphanumeric (last {b = c} h)) j = alphanumeric (row-snoc b (last h) (row-on c [] b (other-than 60 c refl h) j))
+joined b (alphanumeric (then {b = c} {t} h r)) j = alphanumeric (row-snoc b (then h r) (row-on c t b (other-than 60 c refl h) j))
 joined b (pointed {t} r) j = pointed (row-snoc b r (row-on 46 t b refl j))
 joined b shift j =
-    never (sym (either (λ x. x ≡ false) (letterOrDigit b) refl (either (λ x. x ≡ false) (eqb b 60) refl refl)) ∙ j)
+    never (sym (either (λ x. x ≡ false) (isLetterOrDigit b) refl (either (λ x. x ≡ false) (eqb b 60) refl refl)) ∙ j)
 joined b (single {b = c} h n) j = single-on c b h j
 
 no-snoc : {A : Type 0} (w : List ℕ) (b : ℕ) → [] ≡ w ++ (b ∷ []) → A
 no-snoc [] b e = clash (cc)
 no-snoc (x ∷ w) b e = clash (cc)
 
-row-first : {u : Token} {c : ℕ} {w : List ℕ} → Row u → u ≡ c ∷ w → letterOrDigit c ≡ true
-row-first {c} (last {b = x} h) e = let q : c ≡ x = cc in ap letterOrDigit q ∙ h
-row-first {c} (then {b = x} h r) e = let q : c ≡ x = cc in ap letterOrDigit q ∙ h
+row-first : {u : Token} {c : ℕ} {w : List ℕ} → Alphanumeric u → u ≡ c ∷ w → isLetterOrDigit c ≡ true
+row-first {c} (last {b = x} h) e = let q : c ≡ x = cc in ap isLetterOrDigit q ∙ h
+row-first {c} (then {b = x} h r) e = let q : c ≡ x = cc in ap isLetterOrDigit q ∙ h
 
-row-last : {u : Token} → Row u → (w : List ℕ) (b : ℕ) → u ≡ w ++ (b ∷ []) → letterOrDigit b ≡ true
+row-last : {u : Token} → Alphanumeric u → (w : List ℕ) (b : ℕ) → u ≡ w ++ (b ∷ []) → isLetterOrDigit b ≡ true
 row-last (last h) [] b e = row-first (last h) e
 row-last (last h) (y ∷ w) b e = no-snoc w b (cc)
 row-last (then h r) [] b e = row-first (then h r) e
@@ -77,18 +77,18 @@ row-last (then h r) (y ∷ w) b e = row-last r w b (cc)
 
 -- a row may follow c: a letter, a digit or a point
 abbrev Opens : ℕ → Type 0
-Opens c = pick (letterOrDigit c) true (eqb c 46) ≡ true
+Opens c = pick (isLetterOrDigit c) true (eqb c 46) ≡ true
 
-opens-row : (c : ℕ) → letterOrDigit c ≡ true → Opens c
+opens-row : (c : ℕ) → isLetterOrDigit c ≡ true → Opens c
 opens-row c h = rw h
 
-row-joins : (c : ℕ) (t : Token) (b : ℕ) → Opens c → letterOrDigit b ≡ true → joins (c ∷ t) b ≡ true
+row-joins : (c : ℕ) (t : Token) (b : ℕ) → Opens c → isLetterOrDigit b ≡ true → joins (c ∷ t) b ≡ true
 unfolding joins goesOn
 row-joins c t b o h = rw h o
 
 joins-on : {u : Token} → IsToken u → (c : ℕ) (w : List ℕ) (b : ℕ) → u ≡ c ∷ (w ++ (b ∷ [])) → joins (c ∷ w) b ≡ true
-unfolding joins goesOn letterOrDigit digit letter between
-joins-on (row r) c w b e = row-joins c w b (opens-row c (row-first r e)) (row-last r (c ∷ w) b e)
+unfolding joins goesOn isLetterOrDigit isDigit isLetter between
+joins-on (alphanumeric r) c w b e = row-joins c w b (opens-row c (row-first r e)) (row-last r (c ∷ w) b e)
 joins-on (pointed r) c w b e =
     let q : c ≡ 46 = cc in
     rw q (row-joins 46 w b refl (row-last r w b (cc)))
@@ -102,8 +102,8 @@ joins-on (single h n) c w b e = no-snoc w b (cc)
 -- ---- Where a token ends
 
 pub some-byte : {t : Token} → IsToken t → 0 < length t
-some-byte (row (last h)) = omega arith
-some-byte (row (then h r)) = omega arith
+some-byte (alphanumeric (last h)) = omega arith
+some-byte (alphanumeric (then h r)) = omega arith
 some-byte (pointed r) = omega arith
 some-byte shift = omega arith
 some-byte (single h n) = omega arith
@@ -124,10 +124,10 @@ over-longest (c ∷ t) (b ∷ s) n o = λ i. never (sym o ∙ joins-on i c t b r
 -- ---- `tokens` divides
 
 byte : (b : ℕ) → (b ≡ 32 → ⊥) → IsToken (b ∷ [])
-byte b n = go (letterOrDigit b) refl
+byte b n = go (isLetterOrDigit b) refl
   where
-    go : (x : Bool) → letterOrDigit b ≡ x → IsToken (b ∷ [])
-    go true h = row (last h)
+    go : (x : Bool) → isLetterOrDigit b ≡ x → IsToken (b ∷ [])
+    go true h = alphanumeric (last h)
     go false h = single h n
 
 close : (t s : List ℕ) → IsToken t → Over t s → Divided s (tokens s) → Divided (t ++ s) (scan t s)
@@ -166,20 +166,20 @@ divided s = both s .0
 
 -- ---- A division is what `tokens` gives
 
-row-read : (c : ℕ) (t : Token) {w : Token} (s : List ℕ) → Opens c → Row w → scan (c ∷ t) (w ++ s) ≡ scan (c ∷ (t ++ w)) s
+row-read : (c : ℕ) (t : Token) {w : Token} (s : List ℕ) → Opens c → Alphanumeric w → scan (c ∷ t) (w ++ s) ≡ scan (c ∷ (t ++ w)) s
 unfolding scan
 row-read c t s o (last {b} h) = rw (row-joins c t b o h)
 row-read c t s o (then {b} {t = w} h r) =
     rw (row-joins c t b o h) (row-read c (t ++ (b ∷ [])) s o r ∙ rw (append-assoc t (b ∷ []) w))
 
-solid : (c : ℕ) → letterOrDigit c ≡ true → eqb c 32 ≡ false
-unfolding letterOrDigit digit letter between
+solid : (c : ℕ) → isLetterOrDigit c ≡ true → eqb c 32 ≡ false
+unfolding isLetterOrDigit isDigit isLetter between
 solid c h = other-than 32 c refl h
 
 read : {t : Token} (s : List ℕ) → IsToken t → tokens (t ++ s) ≡ scan t s
-unfolding tokens scan joins ended begun goesOn letterOrDigit digit letter between
-read s (row (last {b} h)) = rw (solid b h)
-read s (row (then {b} h r)) = rw (solid b h) (row-read b [] s (opens-row b h) r)
+unfolding tokens scan joins ended begun goesOn isLetterOrDigit isDigit isLetter between
+read s (alphanumeric (last {b} h)) = rw (solid b h)
+read s (alphanumeric (then {b} h r)) = rw (solid b h) (row-read b [] s (opens-row b h) r)
 read s (pointed r) = row-read 46 [] s refl r
 read s shift = refl
 read s (single {b} h n) = rw (ne-eqb b 32 n)

@@ -13,7 +13,7 @@ use lib.Seq.{drop-cons, take-suc, getD-drop}
 use borrow.Author.Tests.{eq-eqb, ne-eqb, eqb-true, ltb-true, ltb-false}
 use Rattle.word.specs.Word.{pick}
 use Rattle.word.proofs.Tests.{never, either}
-use Rattle.token.specs.Tokens.{Token, between, digit, letter, letterOrDigit}
+use Rattle.token.specs.Tokens.{Token, between, isDigit, isLetter, isLetterOrDigit}
 use Rattle.token.specs.Scan.{goesOn, joins, ended, begun, scan, tokens, firstLine, tokensAt, part, Ended}
 
 -- ---- Lists of bytes
@@ -35,7 +35,7 @@ line-over t [] o = tt
 line-over t (b ∷ s) o = either (Over t) (eqb b 10) tt o
 
 no-newline : (c n b : ℕ) → goesOn c n b ≡ true → eqb b 10 ≡ false
-unfolding goesOn letterOrDigit digit letter between
+unfolding goesOn isLetterOrDigit isDigit isLetter between
 no-newline c n b e = go (eqb b 10) refl
   where
     go : (t : Bool) → eqb b 10 ≡ t → t ≡ false
@@ -142,42 +142,42 @@ module _ {s : List ℕ} {start i : ℕ} (r : Reading s start i) where
 
 -- a letter, a digit or a point
 abbrev pub RowStart : ℕ → Type 0
-RowStart c = (letterOrDigit c ≡ true) ⊎ (c ≡ 46)
+RowStart c = (isLetterOrDigit c ≡ true) ⊎ (c ≡ 46)
 
-row-start-not : (c k : ℕ) → RowStart c → letterOrDigit k ≡ false → eqb k 46 ≡ false → c ≡ k → ⊥
-row-start-not c k (inl e) n m q = never (sym n ∙ ap letterOrDigit (sym q) ∙ e)
+row-start-not : (c k : ℕ) → RowStart c → isLetterOrDigit k ≡ false → eqb k 46 ≡ false → c ≡ k → ⊥
+row-start-not c k (inl e) n m q = never (sym n ∙ ap isLetterOrDigit (sym q) ∙ e)
 row-start-not c k (inr e) n m q = never (sym m ∙ eq-eqb k 46 (sym q ∙ e))
 
 module _ (c : ℕ) (r : RowStart c) where
   no-less : c ≡ 60 → ⊥
-  unfolding letterOrDigit digit letter between
+  unfolding isLetterOrDigit isDigit isLetter between
   no-less = row-start-not c 60 r refl refl
 
   no-space : c ≡ 32 → ⊥
-  unfolding letterOrDigit digit letter between
+  unfolding isLetterOrDigit isDigit isLetter between
   no-space = row-start-not c 32 r refl refl
 
   no-line-end : c ≡ 10 → ⊥
-  unfolding letterOrDigit digit letter between
+  unfolding isLetterOrDigit isDigit isLetter between
   no-line-end = row-start-not c 10 r refl refl
 
   -- is gone on by letters and digits alone
-  pub row-on : (n b : ℕ) → goesOn c n b ≡ letterOrDigit b
+  pub row-on : (n b : ℕ) → goesOn c n b ≡ isLetterOrDigit b
   unfolding goesOn
-  row-on n b = go (letterOrDigit b) r
+  row-on n b = go (isLetterOrDigit b) r
     where
-      go : (t : Bool) → RowStart c → pick t (pick (letterOrDigit c) true (eqb c 46)) (pick (eqb b 60) (pick (eqb c 60) (eqb n 1) false) false) ≡ t
+      go : (t : Bool) → RowStart c → pick t (pick (isLetterOrDigit c) true (eqb c 46)) (pick (eqb b 60) (pick (eqb c 60) (eqb n 1) false) false) ≡ t
       go true (inl e) = rw e
-      go true (inr e) = either (λ (x : Bool). x ≡ true) (letterOrDigit c) refl (eq-eqb c 46 e)
+      go true (inr e) = either (λ (x : Bool). x ≡ true) (isLetterOrDigit c) refl (eq-eqb c 46 e)
       go false s = rw (ne-eqb c 60 no-less) (either (λ (x : Bool). x ≡ false) (eqb b 60) refl refl)
 
 pub row-begin : {s : List ℕ} {i : ℕ} → i < length s → RowStart (getD s i 0) → Reading s i (i + 1)
 row-begin h r = begin h (no-space _ r) (no-line-end _ r)
 
 -- any other byte is a token of its own, but `<` before another
-pub alone : (c n b : ℕ) → letterOrDigit c ≡ false → (c ≡ 46 → ⊥) → (c ≡ 60 → ⊥) ⊎ ((b ≡ 60 → ⊥) ⊎ (n ≡ 1 → ⊥)) → goesOn c n b ≡ false
+pub alone : (c n b : ℕ) → isLetterOrDigit c ≡ false → (c ≡ 46 → ⊥) → (c ≡ 60 → ⊥) ⊎ ((b ≡ 60 → ⊥) ⊎ (n ≡ 1 → ⊥)) → goesOn c n b ≡ false
 unfolding goesOn
-alone c n b e f g = rw (e, ne-eqb c 46 f) (either Off (letterOrDigit b) refl (go g))
+alone c n b e f g = rw (e, ne-eqb c 46 f) (either Off (isLetterOrDigit b) refl (go g))
   where
     Off : Bool → Type 0
     Off x = x ≡ false
@@ -188,7 +188,7 @@ alone c n b e f g = rw (e, ne-eqb c 46 f) (either Off (letterOrDigit b) refl (go
     go (inr (inr h)) = rw (ne-eqb n 1 h) (either Off (eqb b 60) (either Off (eqb c 60) refl refl) refl)
 
 pub shift-on : (c n b : ℕ) → c ≡ 60 → n ≡ 1 → b ≡ 60 → goesOn c n b ≡ true
-unfolding goesOn letterOrDigit digit letter between
+unfolding goesOn isLetterOrDigit isDigit isLetter between
 shift-on c n b e f g = rw (e, f, g)
 
 -- a token that no byte goes on ends
@@ -200,7 +200,7 @@ stop {s} {start} {i} r f = go (ltb i (length s)) refl
     go false e = past r (ltb-false _ _ e)
 
 module _ {s : List ℕ} {start : ℕ} (h : start < length s) (no-space : getD s start 0 ≡ 32 → ⊥) (no-newline : getD s start 0 ≡ 10 → ⊥)
-    (e : letterOrDigit (getD s start 0) ≡ false) (f : getD s start 0 ≡ 46 → ⊥) where
+    (e : isLetterOrDigit (getD s start 0) ≡ false) (f : getD s start 0 ≡ 46 → ⊥) where
   begun-there : Reading s start (start + 1)
   begun-there = begin h no-space no-newline
 

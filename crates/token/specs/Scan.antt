@@ -10,12 +10,12 @@ use Rattle.word.specs.Word.{pick}
 use Rattle.token.specs.declared.Token.{Token as Found}
 use Rattle.token.specs.declared.Token.the-variants.{End, Here}
 use Rattle.token.specs.Ascii.{byte}
-use Rattle.token.specs.Tokens.{Token, letterOrDigit}
+use Rattle.token.specs.Tokens.{Token, isLetterOrDigit}
 
 -- whether b goes on the token that begins with the byte c and has n bytes so far
 unfoldable pub goesOn : ℕ → ℕ → ℕ → Bool
 goesOn c n b =
-    pick (letterOrDigit b) (pick (letterOrDigit c) true (eqb c (byte ".")))
+    pick (isLetterOrDigit b) (pick (isLetterOrDigit c) true (eqb c (byte ".")))
     (pick (eqb b (byte "<")) (pick (eqb c (byte "<")) (eqb n 1) false) false)
 
 unfoldable pub joins : Token → ℕ → Bool

@@ -14,30 +14,30 @@ Token = List ℕ
 unfoldable pub between : ℕ → ℕ → ℕ → Bool
 between low high b = pick (leb low b) (leb b high) false
 
-unfoldable pub digit : ℕ → Bool
-digit b = between (byte "0") (byte "9") b
+unfoldable pub isDigit : ℕ → Bool
+isDigit b = between (byte "0") (byte "9") b
 
-unfoldable pub letter : ℕ → Bool
-letter b = pick (between (byte "A") (byte "Z") b) true (between (byte "a") (byte "z") b)
+unfoldable pub isLetter : ℕ → Bool
+isLetter b = pick (between (byte "A") (byte "Z") b) true (between (byte "a") (byte "z") b)
 
-unfoldable pub letterOrDigit : ℕ → Bool
-letterOrDigit b = pick (digit b) true (letter b)
+unfoldable pub isLetterOrDigit : ℕ → Bool
+isLetterOrDigit b = pick (isDigit b) true (isLetter b)
 
 -- letters and digits in a row
-pub data Row : Token → Type 0 where
-  last : {b : ℕ} → letterOrDigit b ≡ true → Row (b ∷ [])
-  then : {b : ℕ} {t : Token} → letterOrDigit b ≡ true → Row t → Row (b ∷ t)
+pub data Alphanumeric : Token → Type 0 where
+  last : {b : ℕ} → isLetterOrDigit b ≡ true → Alphanumeric (b ∷ [])
+  then : {b : ℕ} {t : Token} → isLetterOrDigit b ≡ true → Alphanumeric t → Alphanumeric (b ∷ t)
 
 -- What a token is.
 pub data IsToken : Token → Type 0 where
   -- letters and digits in a row are one token,
-  row : {t : Token} → Row t → IsToken t
+  alphanumeric : {t : Token} → Alphanumeric t → IsToken t
   -- and so they are with a point before;
-  pointed : {t : Token} → Row t → IsToken (byte "." ∷ t)
+  pointed : {t : Token} → Alphanumeric t → IsToken (byte "." ∷ t)
   -- so is `<<`;
   shift : IsToken (ascii "<<")
   -- any other byte but the space is a token of its own.
-  single : {b : ℕ} → letterOrDigit b ≡ false → (b ≡ byte " " → ⊥) → IsToken (b ∷ [])
+  single : {b : ℕ} → isLetterOrDigit b ≡ false → (b ≡ byte " " → ⊥) → IsToken (b ∷ [])
 
 -- the token t is the longest that begins there: the byte that follows would not make it a longer one
 abbrev pub Longest : Token → List ℕ → Type 0

@@ -4,7 +4,7 @@ ghost use mathlib.Core.Bool.{true};
 ghost use mathlib.Core.Logic.{_⊎_};
 ghost use Prim.Native.Nat.{_<_, _≤_, min};
 ghost use lib.ListN.{length, getD};
-ghost use Rattle.token.specs.Tokens.{between, digit, letter, letterOrDigit};
+ghost use Rattle.token.specs.Tokens.{between, isDigit, isLetter, isLetterOrDigit};
 ghost use Rattle.token.specs.Scan.{symbolOf, part, alike, Skipped, Ended, TokenAt};
 
 // The token at or after a position, if its line has one: its symbol is its byte, if it has one byte only, 256 if it is `<<`, and
@@ -28,13 +28,13 @@ fn between(low: u8, high: u8, b: u8) -> bool
 }
 
 pub fn is_digit(b: u8) -> bool
-    ensures { λ r. ⌜ r ≡ digit b ⌝ }
+    ensures { λ r. ⌜ r ≡ isDigit b ⌝ }
 {
     between(b'0', b'9', b)
 }
 
 pub fn is_letter(b: u8) -> bool
-    ensures { λ r. ⌜ r ≡ letter b ⌝ }
+    ensures { λ r. ⌜ r ≡ isLetter b ⌝ }
 {
     if between(b'A', b'Z', b) {
         return true;
@@ -43,7 +43,7 @@ pub fn is_letter(b: u8) -> bool
 }
 
 fn letter_or_digit(b: u8) -> bool
-    ensures { λ r. ⌜ r ≡ letterOrDigit b ⌝ }
+    ensures { λ r. ⌜ r ≡ isLetterOrDigit b ⌝ }
 {
     if is_digit(b) {
         return true;
@@ -66,7 +66,7 @@ fn after_spaces(text: &[u8], at: usize) -> usize
 
 // The end of the token that begins at start with a letter, a digit or a point: after the letters and digits that follow.
 fn row_end(text: &[u8], start: usize) -> usize
-    requires { ⌜ (start < length (now text)) × ((letterOrDigit (getD (now text) start 0) ≡ true) ⊎ (getD (now text) start 0 ≡ 46)) ⌝ }
+    requires { ⌜ (start < length (now text)) × ((isLetterOrDigit (getD (now text) start 0) ≡ true) ⊎ (getD (now text) start 0 ≡ 46)) ⌝ }
     ensures { λ r. ⌜ Ended (now (text .entry)) start r ⌝ }
 {
     let mut i = start + 1;

@@ -7,9 +7,9 @@ use native.Mathlib.Omega.{arith}
 use lib.ListN.{length, replicate}
 use Rattle.printing.specs.declared.Printed.{Printed}
 use Rattle.printing.proofs.Writing.{count-fits}
-use Rattle.save.specs.Saved.{SaveReply, saved, refused, SaveGiven, SaveLeft, saveLeft}
+use Rattle.save.specs.Saved.{SaveReply, saved, save-refused, SaveGiven, SaveLeft, saveLeft}
 use Rattle.save.proofs.Saved.{saves}
-use Rattle.assembler.specs.Text.{Reply, words, turned-away, AssembleLeft, assembleLeft}
+use Rattle.assembler.specs.Text.{Reply, words, text-refused, AssembleLeft, assembleLeft}
 use Rattle.diagnostic.specs.Diagnostic.{diagnosticOf}
 use Rattle.trimfile.specs.declared.Trim.{Trim}
 use Rattle.trimfile.specs.TrimFile.{FileLeft, turnedAway, savedBy, savedLeft, assembledBy, fileLeft}
@@ -56,7 +56,7 @@ save-fits text P destination = go (saveLeft (givenBy P destination) .reply) refl
     go (saved n) e =
         let found = saves (givenBy P destination) n .0 e in
         record { file = omega (arith, found .0, found .2); diagnostic = count-fits [] refl }
-    go (refused number) e = no-file text destination 0 number
+    go (save-refused number) e = no-file text destination 0 number
 
 pub fits : (text destination : List ℕ) {t : Trim} {d : List ℕ} → record { trim = t; destination = d } ≡ fileLeft text destination → Fits destination t
 unfolding fileLeft
@@ -64,4 +64,4 @@ fits text destination {t} e = subst (Fits destination) (sym (ap (λ (l : FileLef
   where
     go : (x : Reply) (P : List ℕ) → Fits destination (assembledBy text x P destination .trim)
     go (words n) P = save-fits text P destination
-    go (turned-away line number) P = no-file text destination line number
+    go (text-refused line number) P = no-file text destination line number

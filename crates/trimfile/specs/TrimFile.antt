@@ -2,9 +2,9 @@
 use Prim.Native.Nat.{ℕ}
 use mathlib.Core.List.{List, []}
 use lib.ListN.{replicate}
-use Rattle.printing.specs.Text.{held}
-use Rattle.save.specs.Saved.{SaveReply, saved, refused, saveLeft}
-use Rattle.assembler.specs.Text.{Reply, words, turned-away, assembleLeft}
+use Rattle.printing.specs.Text.{inArray}
+use Rattle.save.specs.Saved.{SaveReply, saved, save-refused, saveLeft}
+use Rattle.assembler.specs.Text.{Reply, words, text-refused, assembleLeft}
 use Rattle.diagnostic.specs.Diagnostic.{diagnosticOf}
 use Rattle.trimfile.specs.declared.Trim.{Trim}
 
@@ -15,12 +15,12 @@ pub record FileLeft : Type 0 where
 
 -- no file, and the diagnostic
 abbrev pub turnedAway : List ℕ → ℕ → ℕ → Trim
-turnedAway text line number = record { length = 0; diagnostic = held (diagnosticOf text line number) }
+turnedAway text line number = record { length = 0; diagnostic = inArray (diagnosticOf text line number) }
 
 -- a save has no line: the diagnostic says 0
 abbrev pub savedBy : List ℕ → SaveReply → Trim
-savedBy text (saved n) = record { length = n; diagnostic = held [] }
-savedBy text (refused number) = turnedAway text 0 number
+savedBy text (saved n) = record { length = n; diagnostic = inArray [] }
+savedBy text (save-refused number) = turnedAway text 0 number
 
 -- the program is saved with a data memory of zeros
 unfoldable pub savedLeft : List ℕ → List ℕ → List ℕ → FileLeft
@@ -30,7 +30,7 @@ savedLeft text program destination =
 
 abbrev pub assembledBy : List ℕ → Reply → List ℕ → List ℕ → FileLeft
 assembledBy text (words n) program destination = savedLeft text program destination
-assembledBy text (turned-away line number) program destination = record { trim = turnedAway text line number; destination = destination }
+assembledBy text (text-refused line number) program destination = record { trim = turnedAway text line number; destination = destination }
 
 -- the text is assembled into a program memory of zeros
 unfoldable pub fileLeft : List ℕ → List ℕ → FileLeft

@@ -12,7 +12,7 @@ use Rattle.kinds.specs.Kinds.{kinds}
 use Rattle.isa.specs.Masks.{Masks, inMask}
 use Rattle.machine.specs.Machine.{Machine}
 use Rattle.usage.specs.declared.Usage.{Usage}
-use Rattle.usage.specs.Usage.{addedFrom, counted, unused, usageOf, plusCounts, plus, held, Countable}
+use Rattle.usage.specs.Usage.{addedFrom, counted, unused, usageOf, plusCounts, plusUsage, counters, Countable}
 use Rattle.usage.proofs.Added.{added-length}
 
 -- ---- Sums
@@ -24,8 +24,8 @@ counts-comm [] (y ∷ ys) = refl
 counts-comm (x ∷ xs) [] = refl
 counts-comm (x ∷ xs) (y ∷ ys) = λ i. add-comm x y i ∷ counts-comm xs ys i
 
-pub plus-comm : (u v : Usage) → plus u v ≡ plus v u
-plus-comm u v = λ i. held (counts-comm (u .kinds) (v .kinds) i) (counts-comm (u .reads) (v .reads) i) (counts-comm (u .writes) (v .writes) i)
+pub plus-comm : (u v : Usage) → plusUsage u v ≡ plusUsage v u
+plus-comm u v = λ i. counters (counts-comm (u .kinds) (v .kinds) i) (counts-comm (u .reads) (v .reads) i) (counts-comm (u .writes) (v .writes) i)
 
 counts-added : (n : ℕ) (t : ℕ → Bool) (xs ys : List ℕ) → plusCounts xs (addedFrom n t ys) ≡ addedFrom n t (plusCounts xs ys)
 unfolding plusCounts addedFrom
@@ -34,15 +34,15 @@ counts-added n t (x ∷ xs) [] = refl
 counts-added n t (x ∷ xs) (y ∷ ys) = let e : x + (y + flag (t n)) ≡ (x + y) + flag (t n) = omega arith in λ i. e i ∷ counts-added (suc n) t xs ys i
 
 module _ (kind : ℕ → Bool) (masks : Masks) (u x : Usage) where
-  pub plus-counted : plus u (counted kind masks x) ≡ counted kind masks (plus u x)
+  pub plus-counted : plusUsage u (counted kind masks x) ≡ counted kind masks (plusUsage u x)
   plus-counted =
       λ i.
-      held (counts-added 0 kind (u .kinds) (x .kinds) i)
+      counters (counts-added 0 kind (u .kinds) (x .kinds) i)
       (counts-added 0 (inMask (masks .reads)) (u .reads) (x .reads) i)
       (counts-added 0 (inMask (masks .writes)) (u .writes) (x .writes) i)
 
 -- a step counted on either side
-pub counted-plus : (kind : ℕ → Bool) (masks : Masks) (u x : Usage) → plus (counted kind masks u) x ≡ plus u (counted kind masks x)
+pub counted-plus : (kind : ℕ → Bool) (masks : Masks) (u x : Usage) → plusUsage (counted kind masks u) x ≡ plusUsage u (counted kind masks x)
 counted-plus kind masks u x =
     plus-comm (counted kind masks u) x ∙ plus-counted kind masks x u ∙ ap (counted kind masks) (plus-comm x u) ∙ sym (plus-counted kind masks u x)
 
@@ -71,10 +71,10 @@ counts-none n [] e = refl
 counts-none zero (x ∷ xs) e = absurd (omega arith)
 counts-none (suc n) (x ∷ xs) e = λ i. add-zero x i ∷ counts-none n xs (omega arith) i
 
-pub plus-unused : {u : Usage} → Sized u → plus u unused ≡ u
-plus-unused {u} s = λ i. held (counts-none _ (u .kinds) (s .kinds) i) (counts-none _ (u .reads) (s .reads) i) (counts-none _ (u .writes) (s .writes) i)
+pub plus-unused : {u : Usage} → Sized u → plusUsage u unused ≡ u
+plus-unused {u} s = λ i. counters (counts-none _ (u .kinds) (s .kinds) i) (counts-none _ (u .reads) (s .reads) i) (counts-none _ (u .writes) (s .writes) i)
 
-pub unused-plus : {u : Usage} → Sized u → plus unused u ≡ u
+pub unused-plus : {u : Usage} → Sized u → plusUsage unused u ≡ u
 unused-plus {u} s = plus-comm unused u ∙ plus-unused s
 
 -- ---- A bound

@@ -17,11 +17,11 @@ use Rattle.kinds.specs.Kinds.{kinds, kindNumber}
 use Rattle.isa.specs.declared.rows.Entry.{Entry}
 use Rattle.isa.specs.declared.rows.Entry.the-variants.{Unassigned, Assigned}
 use Rattle.isa.specs.Layouts.{entryNumber}
-use Rattle.isa.specs.Sheet.{sheet, kindAt}
+use Rattle.isa.specs.Sheet.{sheetLine, kindAt}
 use Rattle.isa.specs.Masks.{inMask, registerMask, readsDestination, readsOf, masksAs, masksOf}
 use Rattle.isa.proofs.Every.{entry-few}
 use Rattle.usage.specs.declared.Usage.{Usage}
-use Rattle.usage.specs.Usage.{isKind, wordIs, added, countedBy, counted, held, countedThree}
+use Rattle.usage.specs.Usage.{isKind, wordIs, added, countedBy, counted, counters, countedThree}
 use Rattle.usage.proofs.Added.{added-nowhere}
 use Rattle.usage.proofs.InMasks.{in-none, in-one, in-or}
 use Rattle.usage.proofs.Functions.{table, at}
@@ -43,12 +43,12 @@ in-part p w j = go (eqb (p .count) 0)
 -- Rj is read: as a or b, or as d where that is read too
 abbrev isRead : Kind → ℕ → ℕ → Bool
 isRead k w j =
-    let ab = pick (isPart (sheet k .format .b) w j) true (isPart (sheet k .format .a) w j) in
-    pick (readsDestination k) (pick ab true (isPart (sheet k .format .d) w j)) ab
+    let ab = pick (isPart (sheetLine k .format .b) w j) true (isPart (sheetLine k .format .a) w j) in
+    pick (readsDestination k) (pick ab true (isPart (sheetLine k .format .d) w j)) ab
 
 in-reads : (k : Kind) (w j : ℕ) → inMask (readsOf k w) j ≡ isRead k w j
 in-reads k w j =
-    in-or (bitOr (registerMask (sheet k .format .a) w) (registerMask (sheet k .format .b) w)) _ j
+    in-or (bitOr (registerMask (sheetLine k .format .a) w) (registerMask (sheetLine k .format .b) w)) _ j
     ∙ simp (in-or, in-part) (go (readsDestination k) _)
   where
     other : (s t : Bool) → pick s true t ≡ pick t true s
@@ -57,24 +57,24 @@ in-reads k w j =
     other false true = refl
     other false false = refl
 
-    go : (t s : Bool) → pick (inMask (pick t (registerMask (sheet k .format .d) w) 0) j) true s ≡ pick t (pick s true (isPart (sheet k .format .d) w j)) s
+    go : (t s : Bool) → pick (inMask (pick t (registerMask (sheetLine k .format .d) w) 0) j) true s ≡ pick t (pick s true (isPart (sheetLine k .format .d) w j)) s
     go true s = rw in-part (other _ s)
     go false s = rw (in-none j)
 
 -- ---- One step more
 
 abbrev pub after : Entry → ℕ → Usage → Usage
-after (Assigned k) w u = countedBy (eqb (kindNumber k)) (isRead k w) (isPart (sheet k .format .d) w) u
+after (Assigned k) w u = countedBy (eqb (kindNumber k)) (isRead k w) (isPart (sheetLine k .format .d) w) u
 after Unassigned w u = u
 
 none : (xs : List ℕ) → added nowhere xs ≡ xs
 none xs = added-nowhere 0 nowhere xs (λ j l. refl)
 
 uncounted : (u : Usage) → countedBy nowhere nowhere nowhere u ≡ u
-uncounted u = λ i. held (none (u .kinds) i) (none (u .reads) i) (none (u .writes) i)
+uncounted u = λ i. counters (none (u .kinds) i) (none (u .reads) i) (none (u .writes) i)
 
 after-is : (x : Entry) (w : ℕ) (u : Usage) → after x w u ≡ counted (isKind x) (masksAs x w) u
-after-is (Assigned k) w u = sym (λ i. countedBy (eqb (kindNumber k)) (λ j. in-reads k w j i) (λ j. in-part (sheet k .format .d) w j i) u)
+after-is (Assigned k) w u = sym (λ i. countedBy (eqb (kindNumber k)) (λ j. in-reads k w j i) (λ j. in-part (sheetLine k .format .d) w j i) u)
 after-is Unassigned w u = sym ((λ i. countedBy nowhere (λ j. in-none j i) (λ j. in-none j i) u) ∙ uncounted u)
 
 -- at the opcode, e and f of w
@@ -84,11 +84,11 @@ of-word w op e f u p q r = sym (λ i. after (kindAt (p i) (q i) (r i)) w u) ∙ 
 
 -- registers of one sort alone
 module _ {K' X' : List ℕ} (K X Y : List ℕ) (s t : ℕ → Bool) (e : (K' ≡ added s K) × (X' ≡ added t X)) where
-  pub reading : held K' X' Y ≡ countedBy s t nowhere (held K X Y)
-  reading = λ i. held (e .0 i) (e .1 i) (sym (none Y) i)
+  pub reading : counters K' X' Y ≡ countedBy s t nowhere (counters K X Y)
+  reading = λ i. counters (e .0 i) (e .1 i) (sym (none Y) i)
 
-  pub writing : held K' Y X' ≡ countedBy s nowhere t (held K Y X)
-  writing = λ i. held (e .0 i) (sym (none Y) i) (e .1 i)
+  pub writing : counters K' Y X' ≡ countedBy s nowhere t (counters K Y X)
+  writing = λ i. counters (e .0 i) (sym (none Y) i) (e .1 i)
 
 -- ---- What the code counts at an opcode, where e or f choose by number
 

@@ -4,10 +4,10 @@ use Prim.Native.Nat.{ℕ, suc, _+_, _<_}
 use mathlib.Core.Bool.{Bool, true, false}
 use mathlib.Core.List.{List, [], _∷_}
 use lib.Dec.{eqb}
-use lib.ListN.{length, getD, replicate}
+use lib.ListN.{getD, replicate}
 use Rattle.word.specs.Fields.{opcode, e-of, f-of}
 use Rattle.word.specs.Word.{pick, flag}
-use Rattle.kinds.specs.Kinds.{kinds, kindNumber}
+use Rattle.kinds.specs.Kinds.{kindCount, kindNumber}
 use Rattle.isa.specs.declared.rows.Entry.{Entry}
 use Rattle.isa.specs.declared.rows.Entry.the-variants.{Unassigned, Assigned}
 use Rattle.isa.specs.Sheet.{kindAt}
@@ -53,7 +53,7 @@ abbrev pub counted : (ℕ → Bool) → Masks → Usage → Usage
 counted kind masks u = countedBy kind (inMask (masks .reads)) (inMask (masks .writes)) u
 
 abbrev pub unused : Usage
-unused = record { kinds = replicate (length kinds) 0; reads = replicate 8 0; writes = replicate 8 0 }
+unused = record { kinds = replicate kindCount 0; reads = replicate 8 0; writes = replicate 8 0 }
 
 -- the counts of a trace
 unfoldable pub usageOf : List Machine → Usage
@@ -68,8 +68,8 @@ plusCounts [] ys = []
 plusCounts (x ∷ xs) [] = []
 plusCounts (x ∷ xs) (y ∷ ys) = (x + y) ∷ plusCounts xs ys
 
-abbrev pub plus : Usage → Usage → Usage
-plus u v =
+abbrev pub plusUsage : Usage → Usage → Usage
+plusUsage u v =
     record {
       kinds = plusCounts (u .kinds) (v .kinds);
       reads = plusCounts (u .reads) (v .reads);
@@ -79,8 +79,8 @@ plus u v =
 -- ---- Counting in place
 
 -- what the three lists of counters hold
-abbrev pub held : List ℕ → List ℕ → List ℕ → Usage
-held kinds reads writes = record { kinds = kinds; reads = reads; writes = writes }
+abbrev pub counters : List ℕ → List ℕ → List ℕ → Usage
+counters kinds reads writes = record { kinds = kinds; reads = reads; writes = writes }
 
 -- one step more fits each counter
 abbrev pub Below : List ℕ → Type 0
@@ -97,4 +97,4 @@ eitherOf a b j = pick (eqb b j) true (eqb a j)
 
 -- one step of the kind with number k, which reads a and b and writes d; none where k is past the kinds
 abbrev pub countedThree : ℕ → ℕ → ℕ → ℕ → Usage → Usage
-countedThree k a b d u = pick (eqb k (length kinds)) u (countedBy (eqb k) (eitherOf a b) (eqb d) u)
+countedThree k a b d u = pick (eqb k kindCount) u (countedBy (eqb k) (eitherOf a b) (eqb d) u)

@@ -5,7 +5,7 @@ ghost use lib.Dec.{eqb};
 ghost use lib.ListN.{length, getD};
 ghost use Rattle.kinds.specs.Kinds.{kindCount};
 ghost use Rattle.isa.specs.Masks.{masksOf};
-ghost use Rattle.usage.specs.Usage.{wordIs, added, countedBy, counted, unused, held, Below, Countable, eitherOf, countedThree};
+ghost use Rattle.usage.specs.Usage.{wordIs, added, countedBy, counted, unused, counters, Below, Countable, eitherOf, countedThree};
 
 #[repr(C)]
 pub struct Usage {
@@ -73,8 +73,8 @@ fn ad(
     writes: &mut [u64; 8],
 )
     requires { ⌜ (k < kindCount) × (a < 8) × (d < 8) ⌝ }
-    requires { ⌜ Countable (held (now kinds) (now reads) (now writes)) ⌝ }
-    ensures { λ r. ⌜ held (now (kinds .exit)) (now (reads .exit)) (now (writes .exit)) ≡ countedBy (eqb k) (eqb a) (eqb d) (held (now (kinds .entry)) (now (reads .entry)) (now (writes .entry))) ⌝ }
+    requires { ⌜ Countable (counters (now kinds) (now reads) (now writes)) ⌝ }
+    ensures { λ r. ⌜ counters (now (kinds .exit)) (now (reads .exit)) (now (writes .exit)) ≡ countedBy (eqb k) (eqb a) (eqb d) (counters (now (kinds .entry)) (now (reads .entry)) (now (writes .entry))) ⌝ }
 {
     one(k, a, kinds, reads);
     add(writes, d);
@@ -91,8 +91,8 @@ fn abd(
     writes: &mut [u64; 8],
 )
     requires { ⌜ (k ≤ kindCount) × (a < 8) × (b < 8) × (d < 8) ⌝ }
-    requires { ⌜ Countable (held (now kinds) (now reads) (now writes)) ⌝ }
-    ensures { λ r. ⌜ held (now (kinds .exit)) (now (reads .exit)) (now (writes .exit)) ≡ countedThree k a b d (held (now (kinds .entry)) (now (reads .entry)) (now (writes .entry))) ⌝ }
+    requires { ⌜ Countable (counters (now kinds) (now reads) (now writes)) ⌝ }
+    ensures { λ r. ⌜ counters (now (kinds .exit)) (now (reads .exit)) (now (writes .exit)) ≡ countedThree k a b d (counters (now (kinds .entry)) (now (reads .entry)) (now (writes .entry))) ⌝ }
 {
     if k != NO as usize {
         two(k, a, b, kinds, reads);
@@ -102,8 +102,8 @@ fn abd(
 
 // One step more, of the word w.
 pub fn tally(w: u16, kinds: &mut [u64; kinds::COUNT], reads: &mut [u64; 8], writes: &mut [u64; 8])
-    requires { ⌜ Countable (held (now kinds) (now reads) (now writes)) ⌝ }
-    ensures { λ r. ⌜ held (now (kinds .exit)) (now (reads .exit)) (now (writes .exit)) ≡ counted (wordIs w) (masksOf w) (held (now (kinds .entry)) (now (reads .entry)) (now (writes .entry))) ⌝ }
+    requires { ⌜ Countable (counters (now kinds) (now reads) (now writes)) ⌝ }
+    ensures { λ r. ⌜ counters (now (kinds .exit)) (now (reads .exit)) (now (writes .exit)) ≡ counted (wordIs w) (masksOf w) (counters (now (kinds .entry)) (now (reads .entry)) (now (writes .entry))) ⌝ }
 {
     let a = (w / 512 % 8) as usize;
     let b = (w / 64 % 8) as usize;

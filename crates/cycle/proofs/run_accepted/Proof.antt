@@ -3,7 +3,7 @@
 use mathlib.Core.Path.{_∙_}
 use Prim.Native.Nat.{_-_}
 use native.Mathlib.Omega.{arith}
-use Rattle.usage.specs.Usage.{held}
+use Rattle.usage.specs.Usage.{counters}
 use Rattle.cycle.specs.Loops.{chosen}
 use Rattle.cycle.proofs.Loop.{Going, start, ends-budget, room, ready, ends-stopped, turns}
 use Rattle.cycle.proofs.run_accepted.Statement.{statement}
@@ -15,7 +15,7 @@ Inv-loop by-table words program memory₀ inputs₀ outputs₀ budget log₀ sta
     (record { state = state₀; P = program; D = memory₀; I = inputs₀; O = outputs₀; budget = budget; log = log₀ })
     (record { state = state; D = memory; I = inputs; O = outputs; log = log; entries = entries })
     steps
-    (held kinds reads writes)
+    (counters kinds reads writes)
 
 abbrev μ-loop : tie.MeasureT-loop
 μ-loop by-table words program memory₀ inputs₀ outputs₀ budget log₀ state₀ steps₀ entries₀ kinds₀ reads₀ writes₀ memory inputs outputs log state steps entries kinds reads writes =

@@ -3,7 +3,7 @@
 use mathlib.Core.Path.{_≡_, sym, _∙_, ap}
 use borrow.Author.Needs.{needs}
 use Rattle.run.specs.Runs.{shownVerdict}
-use Rattle.engine.proofs.Refusals.{accepted-fits, run-refused, run-accepted}
+use Rattle.engine.proofs.Refusals.{accepted-fits, refused-run, run-accepted}
 use Rattle.engine.proofs.run.Statement.{statement}
 use Rattle.engine.proofs.run.Tie as tie
 
@@ -20,7 +20,7 @@ returns c =
 
 returns-2 : tie.Need-returns-2
 returns-2 c =
-    run-refused _ _ (sym (ap shownVerdict (c .before .before .refusal .given .1)) ∙ c .before .before .before .before .checked .ensures) (c .none .ensures)
+    refused-run _ _ (sym (ap shownVerdict (c .before .before .refusal .given .1)) ∙ c .before .before .before .before .checked .ensures) (c .none .ensures)
 
 pub run-spec : {M : Type 1} → statement M
 run-spec =

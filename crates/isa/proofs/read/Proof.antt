@@ -7,7 +7,7 @@ use Rattle.kinds.specs.declared.Kind.{Kind}
 use Rattle.isa.specs.declared.Instruction.{Instruction}
 use Rattle.isa.specs.declared.rows.Entry.{Entry}
 use Rattle.isa.specs.declared.rows.Entry.the-variants.{Assigned}
-use Rattle.isa.specs.Sheet.{sheet}
+use Rattle.isa.specs.Sheet.{sheetLine}
 use Rattle.isa.specs.Instructions.{partsOf, instruction, readAs, readOf}
 use Rattle.isa.specs.Masks.{readsOf, writesOf, masksAs, masksOf, Decoding}
 use Rattle.isa.proofs.read.Statement.{statement}
@@ -17,7 +17,7 @@ abbrev decodedAs : Entry → ℕ → Decoding
 decodedAs x w = record { reading = readAs x w; masks = masksAs x w }
 
 -- what the code makes of a kind
-assigned : (k : Kind) (w : ℕ) {i : Instruction} {reads writes : ℕ} → i ≡ partsOf (sheet k) k w → reads ≡ readsOf k w → writes ≡ writesOf k w
+assigned : (k : Kind) (w : ℕ) {i : Instruction} {reads writes : ℕ} → i ≡ partsOf (sheetLine k) k w → reads ≡ readsOf k w → writes ≡ writesOf k w
     → record { reading = instruction i; masks = record { reads = reads; writes = writes } } ≡ decodedAs (Assigned k) w
 assigned k w p q r = λ j. record { reading = instruction (p j); masks = record { reads = q j; writes = r j } }
 

@@ -5,7 +5,7 @@ use mathlib.Core.Bool.{Bool, true, false, _&&_}
 use borrow.Author.Needs.{needs}
 use Rattle.word.specs.Fields.{f-of}
 use Rattle.muldiv.specs.Muldiv.{muldiv}
-use Rattle.machine.specs.Step.{d5-3, multiply}
+use Rattle.machine.specs.Step.{d5-3, multiplyDivide}
 use Rattle.rules.specs.Parts.{isDivision, raOf, rbOf}
 use Rattle.rules.proofs.Choices.{by-its-f}
 use Rattle.rules.proofs.Effects.{stopped, divided-by-zero, divided}
@@ -17,16 +17,16 @@ returns c = λ D.
     let zero = c .before in
     let arm = zero .before .before in
     let start = arm .before .before in
-    divided-by-zero multiply (isDivision (start .args .w)) (by-its-f 11 3 _ _ (start .fits .w .fits) (start .pre .opcode) (sym (arm .before .is-below-6-but .ensures) ∙ arm .if1 .taken) refl)
+    divided-by-zero multiplyDivide (isDivision (start .args .w)) (by-its-f 11 3 _ _ (start .fits .w .fits) (start .pre .opcode) (sym (arm .before .is-below-6-but .ensures) ∙ arm .if1 .taken) refl)
     (sym (zero .before .divides-by-zero .ensures) ∙ zero .if2 .taken) (c .stopped .ensures)
 
 returns-2 : tie.Need-returns-2
-unfolding multiply
+unfolding multiplyDivide
 returns-2 c = λ D.
     let zero = c .before .before in
     let arm = zero .before .before in
     let start = arm .before .before in
-    divided multiply (isDivision (start .args .w)) (by-its-f 11 3 _ _ (start .fits .w .fits) (start .pre .opcode) (sym (arm .before .is-below-6-but .ensures) ∙ arm .if1 .taken) refl)
+    divided multiplyDivide (isDivision (start .args .w)) (by-its-f 11 3 _ _ (start .fits .w .fits) (start .pre .opcode) (sym (arm .before .is-below-6-but .ensures) ∙ arm .if1 .taken) refl)
     (sym (zero .before .divides-by-zero .ensures) ∙ zero .if2 .left) (start .pre .advanced)
     (d5-3 (start .args .w)) (λ s D. muldiv (f-of (start .args .w)) (raOf (start .args .w) s) (rbOf (start .args .w) s)) (λ m. refl) (c .before .multiplied .ensures) (c .done .ensures)
 

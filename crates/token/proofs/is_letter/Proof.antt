@@ -2,12 +2,12 @@
 -- Assumes nothing.
 use mathlib.Core.Path.{sym, _∙_}
 use borrow.Author.Needs.{needs}
-use Rattle.token.specs.Tokens.{letter}
+use Rattle.token.specs.Tokens.{isLetter}
 use Rattle.token.proofs.is_letter.Statement.{statement}
 use Rattle.token.proofs.is_letter.Tie as tie
 
 pub is-letter-spec : {M : Type 1} → statement M
-unfolding letter
+unfolding isLetter
 is-letter-spec =
     tie.close
     (tie.spec

@@ -2,12 +2,12 @@
 -- Assumes nothing.
 use mathlib.Core.Path.{sym, _∙_}
 use borrow.Author.Needs.{needs}
-use Rattle.token.specs.Tokens.{letterOrDigit}
+use Rattle.token.specs.Tokens.{isLetterOrDigit}
 use Rattle.token.proofs.letter_or_digit.Statement.{statement}
 use Rattle.token.proofs.letter_or_digit.Tie as tie
 
 pub letter-or-digit-spec : {M : Type 1} → statement M
-unfolding letterOrDigit
+unfolding isLetterOrDigit
 letter-or-digit-spec =
     tie.close
     (tie.spec

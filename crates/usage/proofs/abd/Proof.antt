@@ -4,7 +4,7 @@ use native.Mathlib.Omega.{arith}
 use borrow.Author.Needs.{needs}
 use borrow.Author.Tests.{eq-eqb, ne-eqb}
 use Rattle.kinds.specs.Kinds.{kindCount}
-use Rattle.usage.specs.Usage.{held}
+use Rattle.usage.specs.Usage.{counters}
 use Rattle.usage.proofs.abd.Statement.{statement}
 use Rattle.usage.proofs.abd.Tie as tie
 
@@ -14,7 +14,7 @@ add-requires c κs = (omega arith, c .before .before .before .before .before .pr
 returns : tie.Need-returns
 returns c =
     rw (ne-eqb _ kindCount (c .before .before .before .before .before .if1 .taken))
-    (λ i. held (c .before .before .two .ensures .0 i) (c .before .before .two .ensures .1 i) (c .add .ensures i))
+    (λ i. counters (c .before .before .two .ensures .0 i) (c .before .before .two .ensures .1 i) (c .add .ensures i))
 
 returns-2 : tie.Need-returns-2
 returns-2 c = rw (eq-eqb _ kindCount (c .if1 .left))

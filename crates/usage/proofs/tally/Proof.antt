@@ -7,7 +7,7 @@ use borrow.Author.Needs.{needs}
 use borrow.Author.Tests.{eq-eqb, ne-eqb}
 use Rattle.word.proofs.Tables.{past}
 use Rattle.isa.specs.Sheet.{comparisonKinds, muldivKinds, kindAt}
-use Rattle.usage.specs.Usage.{held}
+use Rattle.usage.specs.Usage.{counters}
 use Rattle.usage.proofs.Functions.{table}
 use Rattle.usage.proofs.Words.{of-word, reading, writing, number-few, operation, by-f, branch, move, past-11}
 use Rattle.usage.proofs.tally.Statement.{statement}
@@ -68,7 +68,7 @@ returns-10 c = reading _ _ _ _ _ (c .one .ensures) ∙ branch _ _ (omega arith)
 
 returns-11 : tie.Need-returns-11
 returns-11 c =
-    (λ i. held (c .before .before .before .one2 .ensures .0 i) (c .add .ensures i) (c .before .before .before .one2 .ensures .1 i))
+    (λ i. counters (c .before .before .before .one2 .ensures .0 i) (c .add .ensures i) (c .before .before .before .one2 .ensures .1 i))
     ∙ move _ _ (omega arith) (rw (eq-eqb _ 1 (c .before .before .if2 .taken)))
 
 returns-12 : tie.Need-returns-12

@@ -12,7 +12,7 @@ use Rattle.word.specs.Fields.{opcode, e-of, f-of}
 use Rattle.word.specs.Word.{pick}
 use Rattle.word.proofs.Computed.{all}
 use Rattle.kinds.specs.Kinds.{kinds}
-use Rattle.isa.specs.Sheet.{Row, operationKinds, comparisonKinds, muldivKinds, rows, inRow, kindAt}
+use Rattle.isa.specs.Sheet.{KindRow, operationKinds, comparisonKinds, muldivKinds, kindRows, kindInRow, kindAt}
 use Rattle.isa.specs.Layouts.{entryNumber}
 use Rattle.isa.proofs.Every.{at-word, kind-same}
 use Rattle.isa.proofs.rows.number_of.Statement.{statement}
@@ -24,7 +24,7 @@ numberAt op e f =
     pick (ltb op 2)
     (getD (map entryNumber (operationKinds ++ comparisonKinds)) (op * 8 + f) 0)
     (pick (eqb op 11) (getD (map entryNumber muldivKinds) f 0)
-    (pick (ltb 11 op) (length kinds) (getD (map (λ (r : Row). entryNumber (inRow r e 0)) (take 9 (drop 2 rows))) (op - 2) 0)))
+    (pick (ltb 11 op) (length kinds) (getD (map (λ (r : KindRow). entryNumber (kindInRow r e 0)) (take 9 (drop 2 kindRows))) (op - 2) 0)))
 
 tested : T (all 16 (λ op. all 2 (λ e. all 8 (λ f. eqb (numberAt op e f) (entryNumber (kindAt op e f))))))
 unfolding all kindAt

@@ -2,15 +2,15 @@
 -- Assumes nothing.
 use mathlib.Core.Path.{sym, ap}
 use borrow.Author.Needs.{needs}
-use Rattle.statement.specs.Reading.{aMark}
+use Rattle.statement.specs.Reading.{aPunctuation}
 use Rattle.statement.specs.Parts.{toldParts}
 use Rattle.statement.proofs.Items.{nothing, there, mark-there, other-mark}
 use Rattle.statement.proofs.operands.mark_at.Statement.{statement}
 use Rattle.statement.proofs.operands.mark_at.Tie as tie
 
 returns : tie.Need-returns
-unfolding toldParts aMark
-returns c = sym (ap (aMark _ _) (nothing _ _ (c .before .before .token-at .ensures) (c .enum-told .given .1)))
+unfolding toldParts aPunctuation
+returns c = sym (ap (aPunctuation _ _) (nothing _ _ (c .before .before .token-at .ensures) (c .enum-told .given .1)))
 
 returns-2 : tie.Need-returns-2
 unfolding toldParts
