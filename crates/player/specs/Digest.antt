@@ -17,11 +17,12 @@ unfoldable pub halves : List ℕ → List ℕ
 halves [] = []
 halves (x ∷ xs) = x % 4294967296 ∷ x / 4294967296 ∷ halves xs
 
--- what the digest of what is left takes in: R0 to R7, PC, n
+-- R0 to R7, PC, n
 abbrev pub stateNumbers : State → List ℕ
 stateNumbers state = state .r ++ state .pc ∷ state .n ∷ []
 
--- every byte of program, then of memory; every word of inputs, then of outputs; the log
+-- The digest of what is left takes in, in this order: R0 to R7, PC, n; every byte of program, then of memory; every word of inputs, then of
+-- outputs; of every place of the log its halves.
 unfoldable pub digestOfLeft : State → List ℕ → List ℕ → List ℕ → List ℕ → List ℕ → ℕ
 digestOfLeft state program memory inputs outputs log =
     digestFrom 0 (stateNumbers state ++ program ++ memory ++ inputs ++ outputs ++ halves log)

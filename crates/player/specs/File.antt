@@ -41,13 +41,15 @@ bytesOf x = x % 256 ∷ x / 256 ∷ []
 unfoldable pub byteOf : ℕ → ℕ → ℕ
 byteOf x k = getD (bytesOf x) k 0
 
--- Byte `at` of the file: of the header, four bytes a number; of the program, two a word; data byte j is number(c, 3,000 + j) mod 256. The rest
--- of the file buffer is zero.
+-- Byte `at` of the file: of the header, four bytes a number; byte i of the program, two a word; data byte j is number(c, 3,000 + j) mod 256.
+-- The rest of the file buffer is zero.
 unfoldable pub fileByte : ℕ → ℕ → ℕ → ℕ
 fileByte c damage at =
+    let i = at - 16 in
+    let j = i - 2 * W c in
     pick (ltb at 16) (byteOf (getD (header c damage) (at / 4) 0) (at % 4))
-    (let at = at - 16 in pick (ltb at (2 * W c)) (byteOf (programWord c (at / 2)) (at % 2))
-    (let at = at - 2 * W c in pick (ltb at (C c)) (numberOf c (3000 + at) % 256) 0))
+    (pick (ltb i (2 * W c)) (byteOf (programWord c (i / 2)) (i % 2))
+    (pick (ltb j (C c)) (numberOf c (3000 + j) % 256) 0))
 
 -- the file buffer of 65,537 bytes
 abbrev pub fileOf : ℕ → ℕ → List ℕ

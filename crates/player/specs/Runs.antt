@@ -1,6 +1,6 @@
 -- What a run is handed and lent, and what the host keeps (docs/CONFORMANCE.md, "the calls of case c").
 use Prim.Native.Nat.{ℕ, _+_, _*_, _%_}
-use mathlib.Core.Bool.{Bool, _||_}
+use mathlib.Core.Bool.{_||_}
 use mathlib.Core.List.{List, [], _∷_}
 use lib.Dec.{eqb}
 use lib.ListN.{getD}
@@ -16,11 +16,12 @@ use Rattle.player.specs.Lent.{allBut}
 unfoldable pub ofCall : ℕ → ℕ → ℕ → ℕ
 ofCall c i k = numberOf c (5000 + 16 * (i % 16) + k % 16)
 
--- n becomes a number
+-- n becomes another
 abbrev pub putN : ℕ → State → State
 putN n s = record { r = s .r; pc = s .pc; n = n }
 
--- The state handed is the one kept, but where the change is 0, PC handed is (the kept one + 1) mod 65,536; 1, n handed is another.
+-- The state handed is the one kept, but where the change is 0, PC handed is (the kept one + 1) mod 65,536; 1, n handed is the one that
+-- the program gives.
 abbrev pub changed : ℕ → State → List State
 changed n kept = putPC (add (kept .pc) 1) kept ∷ putN n kept ∷ []
 
@@ -28,7 +29,7 @@ unfoldable pub handedOf : ℕ → ℕ → State → State
 handedOf change n kept = getD (changed n kept) change kept
 
 -- The change is number(c, q + 3) mod 16: where it is 2, the memory lent is all but a byte; 3, the outputs lent are all but a word. The
--- budget of a run is number(c, q + 1) mod 2,000.
+-- budget of a run is number(c, q + 1) mod 2,000. How many places of the log are lent the program says.
 unfoldable pub requestOf : ℕ → ℕ → State → ℕ → ℕ → Request
 requestOf c i kept n places =
     let change = ofCall c i 3 % 16 in

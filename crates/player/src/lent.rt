@@ -13,7 +13,6 @@ pub type Ports = [u16; State::PORTS];
 
 pub type Log = [u64; 64];
 
-// What is not zero at the start.
 fn fill_program(program: &mut [u8])
     requires { ⌜ length (now program) ≡ 65536 ⌝ }
     ensures { λ _. ⌜ now (program .exit) ≡ firstProgram ⌝ }
@@ -41,6 +40,7 @@ fn fill_log(log: &mut [u64])
     }
 }
 
+// What is not zero at the start.
 pub fn fill(program: &mut Memory, inputs: &mut Ports, log: &mut Log)
     ensures { λ _. ⌜ (now (program .exit) ≡ firstProgram) × (now (inputs .exit) ≡ firstInputs) × (now (log .exit) ≡ firstLog) ⌝ }
 {

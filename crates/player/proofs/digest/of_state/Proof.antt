@@ -1,6 +1,5 @@
 -- R0 to R7, PC and n, one after the other.
 -- Assumes nothing.
-use mathlib.Core.Path.{_∙_}
 use borrow.Author.Needs.{needs}
 use Rattle.player.proofs.Digests.{state-digest}
 use Rattle.player.proofs.digest.of_state.Statement.{statement}

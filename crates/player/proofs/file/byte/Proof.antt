@@ -1,6 +1,5 @@
 -- By the part of the file that the byte is in.
 -- Assumes nothing.
-use native.Mathlib.Omega.{arith}
 use borrow.Author.Needs.{needs}
 use borrow.Author.Tests.{lt-ltb, le-ltb}
 use Rattle.player.specs.File.{fileByte}

@@ -1,7 +1,6 @@
 -- By the number that decides it.
 -- Assumes nothing.
 use borrow.Author.Needs.{needs}
-use native.Mathlib.Omega.{arith}
 use borrow.Author.Tests.{eq-eqb, ne-eqb}
 use Rattle.player.specs.File.{programWord}
 use Rattle.player.proofs.file.program_word.Statement.{statement}

@@ -1,6 +1,5 @@
 -- Each part is what its function answers.
 -- Assumes nothing.
-use mathlib.Core.Path.{_∙_}
 use borrow.Author.Needs.{needs}
 use Rattle.player.specs.Runs.{requestOf}
 use Rattle.player.proofs.runs.request_of.Statement.{statement}
