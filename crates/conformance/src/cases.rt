@@ -1,7 +1,8 @@
 // A case: its load, its calls and its saves.
+use crate::calls;
+use crate::calls::Kept;
 use crate::saves;
-use calls::Kept;
-use calls::sheets;
+use crate::sheets;
 use machine::State;
 use numbers::number;
 use player::file;

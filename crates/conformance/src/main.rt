@@ -1,9 +1,14 @@
 // Plays pseudo-random calls on pseudo-random files, and prints what docs/CONFORMANCE.md says.
 use machine::State;
 
+mod calls;
 mod cases;
+mod host;
+mod instructions;
 mod printed;
+mod runs;
 mod saves;
+mod sheets;
 
 fn main() {
     let mut program = [0u8; State::MEMORY_BYTES];

@@ -1,4 +1,5 @@
 // The saves of a case, and the load of a saved file.
+use crate::calls;
 use crate::cases;
 use player::digest;
 use player::lent::Log;

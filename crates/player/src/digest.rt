@@ -1,22 +1,33 @@
 // Digests.
+ghost use mathlib.Core.Path.{_≡_};
+ghost use Prim.Native.Nat.{_/_, _%_};
+ghost use Rattle.player.specs.Digest.{takenIn, digestFrom, halves, stateNumbers, digestOfLeft};
 use crate::lent::Log;
 use crate::lent::Memory;
 use crate::lent::Ports;
 use machine::State;
 
-pub fn taken(digest: u32, x: u32) -> u32 {
+fn taken(digest: u32, x: u32) -> u32
+    ensures { λ r. ⌜ r ≡ takenIn digest x ⌝ }
+{
     ((digest as u64 * 16777619 + x as u64 + 1) % 4294967296) as u32
 }
 
-fn byte(x: u8) -> u32 {
+fn byte(x: u8) -> u32
+    ensures { λ r. ⌜ r ≡ x ⌝ }
+{
     x as u32
 }
 
-fn word(x: u16) -> u32 {
+fn word(x: u16) -> u32
+    ensures { λ r. ⌜ r ≡ x ⌝ }
+{
     x as u32
 }
 
-pub fn bytes(digest: u32, part: &[u8]) -> u32 {
+pub fn bytes(digest: u32, part: &[u8]) -> u32
+    ensures { λ r. ⌜ r ≡ digestFrom digest (now (part .entry)) ⌝ }
+{
     let mut after = digest;
     for i in 0..part.len() {
         after = taken(after, byte(part[i]));
@@ -24,7 +35,9 @@ pub fn bytes(digest: u32, part: &[u8]) -> u32 {
     after
 }
 
-fn words(digest: u32, part: &[u16]) -> u32 {
+fn words(digest: u32, part: &[u16]) -> u32
+    ensures { λ r. ⌜ r ≡ digestFrom digest (now (part .entry)) ⌝ }
+{
     let mut after = digest;
     for i in 0..part.len() {
         after = taken(after, word(part[i]));
@@ -32,13 +45,17 @@ fn words(digest: u32, part: &[u16]) -> u32 {
     after
 }
 
-fn place(digest: u32, x: u64) -> u32 {
+fn place(digest: u32, x: u64) -> u32
+    ensures { λ r. ⌜ r ≡ takenIn (takenIn digest (x % 4294967296)) (x / 4294967296) ⌝ }
+{
     let low = (x % 4294967296) as u32;
     let high = (x / 4294967296) as u32;
     taken(taken(digest, low), high)
 }
 
-pub fn places(digest: u32, log: &[u64]) -> u32 {
+pub fn places(digest: u32, log: &[u64]) -> u32
+    ensures { λ r. ⌜ r ≡ digestFrom digest (halves (now (log .entry))) ⌝ }
+{
     let mut after = digest;
     for i in 0..log.len() {
         after = place(after, log[i]);
@@ -46,7 +63,9 @@ pub fn places(digest: u32, log: &[u64]) -> u32 {
     after
 }
 
-fn of_state(state: State) -> u32 {
+fn of_state(state: State) -> u32
+    ensures { λ r. ⌜ r ≡ digestFrom 0 (stateNumbers state) ⌝ }
+{
     let r = state.r;
     let after = words(0, &r);
     taken(taken(after, word(state.pc)), state.n)
@@ -60,7 +79,9 @@ pub fn of_all(
     inputs: &Ports,
     outputs: &Ports,
     log: &Log,
-) -> u32 {
+) -> u32
+    ensures { λ r. ⌜ r ≡ digestOfLeft state (now (program .entry)) (now (memory .entry)) (now (inputs .entry)) (now (outputs .entry)) (now (log .entry)) ⌝ }
+{
     let after = bytes(of_state(state), program);
     let after = bytes(after, memory);
     let after = words(after, inputs);

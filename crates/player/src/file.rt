@@ -1,5 +1,10 @@
 // The file of a case.
+ghost use mathlib.Core.Path.{_≡_};
 ghost use Prim.Native.Nat.{_<_};
+ghost use lib.Dec.{eqb};
+ghost use lib.ListN.{getD};
+ghost use Rattle.word.specs.Word.{flag};
+ghost use Rattle.player.specs.File.{W, C, damageOf, lengthOf, header, programWord, byteOf, fileByte, fileOf};
 use crate::lent::File;
 use numbers::number;
 
@@ -7,45 +12,53 @@ use numbers::number;
 pub const NO_DAMAGE: u16 = 16;
 
 // How the file of case c is damaged.
-pub fn damage(c: u16) -> u16 {
+pub fn damage(c: u16) -> u16
+    ensures { λ r. ⌜ r ≡ damageOf c ⌝ }
+{
     number(c, 2) % 16
 }
 
 // W of the page.
 fn words(c: u16) -> u16
-    ensures { λ r. ⌜ r < 201 ⌝ }
+    ensures { λ r. ⌜ (r ≡ W c) × (r < 201) ⌝ }
 {
     1 + number(c, 0) % 200
 }
 
 // C of the page.
 fn bytes(c: u16) -> u16
-    ensures { λ r. ⌜ r < 300 ⌝ }
+    ensures { λ r. ⌜ (r ≡ C c) × (r < 300) ⌝ }
 {
     number(c, 1) % 300
 }
 
 // 1 where x is y, else 0.
 fn equal(x: u16, y: u16) -> u16
-    ensures { λ r. ⌜ r < 2 ⌝ }
+    ensures { λ r. ⌜ (r ≡ flag (eqb x y)) × (r < 2) ⌝ }
 {
-    if x == y { 1 } else { 0 }
+    (x == y) as u16
 }
 
 // Number i of the header.
-fn header(c: u16, damage: u16, i: u16) -> u16 {
+fn header(c: u16, damage: u16, i: usize) -> u16
+    ensures { λ r. ⌜ r ≡ getD (header c damage) i 0 ⌝ }
+{
     match i {
         0 => words(c) + 32768 * equal(damage, 1),
         1 => 16 - equal(damage, 2),
         2 => bytes(c),
-        _ => 16 + 2 * words(c) + equal(damage, 3),
+        3 => 16 + 2 * words(c) + equal(damage, 3),
+        _ => 0,
     }
 }
 
-// Word j of the program. (The remainders of j change nothing.)
-fn program_word(c: u16, j: u16) -> u16 {
-    let x = number(c, 1000 + j % 200);
-    if number(c, 2000 + j % 200) % 16 == 0 {
+// Word j of the program.
+fn program_word(c: u16, j: u16) -> u16
+    requires { ⌜ j < 200 ⌝ }
+    ensures { λ r. ⌜ r ≡ programWord c j ⌝ }
+{
+    let x = number(c, 1000 + j);
+    if number(c, 2000 + j) % 16 == 0 {
         x
     } else {
         x / 4096 % 12 * 4096 + x % 4096
@@ -53,7 +66,9 @@ fn program_word(c: u16, j: u16) -> u16 {
 }
 
 // Byte i of a number.
-fn part(x: u16, i: u16) -> u8 {
+fn part(x: u16, i: usize) -> u8
+    ensures { λ r. ⌜ r ≡ byteOf x i ⌝ }
+{
     match i {
         0 => (x % 256) as u8,
         1 => (x / 256) as u8,
@@ -62,32 +77,38 @@ fn part(x: u16, i: u16) -> u8 {
 }
 
 // Byte `at` of the file, zero after its end.
-fn byte(c: u16, damage: u16, at: u16) -> u8 {
+fn byte(c: u16, damage: u16, at: usize) -> u8
+    ensures { λ r. ⌜ r ≡ fileByte c damage at ⌝ }
+{
     if at < 16 {
         return part(header(c, damage, at / 4), at % 4);
     }
     let at = at - 16;
-    let program_bytes = 2 * words(c);
+    let program_bytes = 2 * words(c) as usize;
     if at < program_bytes {
-        return part(program_word(c, at / 2), at % 2);
+        return part(program_word(c, (at / 2) as u16), at % 2);
     }
     let at = at - program_bytes;
-    if at < bytes(c) {
-        return part(number(c, 3000 + at), 0);
+    if at < bytes(c) as usize {
+        return (number(c, 3000 + at as u16) % 256) as u8;
     }
     0
 }
 
 // The file of case c with a damage, and zeros after it.
-pub fn make(c: u16, damage: u16) -> File {
+pub fn make(c: u16, damage: u16) -> File
+    ensures { λ r. ⌜ r ≡ fileOf c damage ⌝ }
+{
     let mut file = [0; 65537];
-    for at in 0..65536 {
-        file[at] = byte(c, damage, at as u16);
+    for at in 0..65537 {
+        file[at] = byte(c, damage, at);
     }
     file
 }
 
-pub fn length(c: u16, damage: u16) -> u16 {
+pub fn length(c: u16, damage: u16) -> u16
+    ensures { λ r. ⌜ r ≡ lengthOf c damage ⌝ }
+{
     let whole = 16 + 2 * words(c) + bytes(c);
     if damage == 0 {
         number(c, 3) % whole

@@ -1,5 +1,4 @@
-// What the programs `conformance` and `conformance_tables` share (docs/CONFORMANCE.md). This crate serves those two: its
-// contracts only bound what the programs need.
+// What the conformance programs share (docs/CONFORMANCE.md). A function without a contract only prints.
 pub mod digest;
 pub mod file;
 pub mod lent;

@@ -1,4 +1,6 @@
 // The runs of both programs: what is handed and lent, what is printed, and what the host keeps.
+ghost use mathlib.Core.Path.{_≡_};
+ghost use Rattle.player.specs.Runs.{ofCall, handedOf, requestOf, keptAfter};
 use crate::lent::Log;
 use crate::lent::Memory;
 use crate::lent::Ports;
@@ -27,23 +29,30 @@ pub struct Reply {
 }
 
 // Number q + k of case c, for its call i. (The remainders change nothing.)
-pub fn of_call(c: u16, i: u16, k: u16) -> u16 {
+pub fn of_call(c: u16, i: u16, k: u16) -> u16
+    ensures { λ r. ⌜ r ≡ ofCall c i k ⌝ }
+{
     number(c, 5000 + 16 * (i % 16) + k % 16)
 }
 
 // The state handed. Where its n is exchanged it becomes n.
-fn handed(kept: State, change: u16, n: u32) -> State {
-    let mut state = kept;
-    if change == 0 {
-        state.pc = wrapping_add_u16(kept.pc, 1);
+fn handed(kept: State, change: u16, n: u32) -> State
+    ensures { λ r. ⌜ r ≡ handedOf change n kept ⌝ }
+{
+    match change {
+        0 => kept.with_pc(wrapping_add_u16(kept.pc, 1)),
+        1 => {
+            let mut state = kept;
+            state.n = n;
+            state
+        }
+        _ => kept,
     }
-    if change == 1 {
-        state.n = n;
-    }
-    state
 }
 
-pub fn request_of(c: u16, i: u16, kept: State, n: u32, places: usize) -> Request {
+pub fn request_of(c: u16, i: u16, kept: State, n: u32, places: usize) -> Request
+    ensures { λ r. ⌜ r ≡ requestOf c i kept n places ⌝ }
+{
     let change = of_call(c, i, 3) % 16;
     Request {
         state: handed(kept, change, n),
@@ -55,13 +64,15 @@ pub fn request_of(c: u16, i: u16, kept: State, n: u32, places: usize) -> Request
 }
 
 // The state that the host keeps.
-pub fn kept_after(kept: State, reply: Reply) -> State {
+pub fn kept_after(kept: State, reply: Reply) -> State
+    ensures { λ r. ⌜ r ≡ keptAfter kept reply ⌝ }
+{
     if reply.refusal != 0 {
         return kept;
     }
-    let mut state = reply.state;
+    let state = reply.state;
     if (reply.stop == 1) | (reply.stop == 3) {
-        state.pc = wrapping_add_u16(state.pc, 2);
+        return state.with_pc(wrapping_add_u16(state.pc, 2));
     }
     state
 }
@@ -87,7 +98,9 @@ pub fn finish(
     inputs: &Ports,
     outputs: &Ports,
     log: &Log,
-) -> State {
+) -> State
+    ensures { λ r. ⌜ r ≡ keptAfter kept reply ⌝ }
+{
     print_reply(c, i, reply);
     print::left(reply.state, program, memory, inputs, outputs, log);
     kept_after(kept, reply)
