@@ -15,9 +15,9 @@ use Rattle.isa.specs.Instructions.{writeOf}
 use Rattle.token.specs.Ascii.{ascii}
 use Rattle.token.specs.Tokens.{between, isDigit, isLetter, isLetterOrDigit}
 use Rattle.token.specs.Scan.{goesOn, joins, ended, begun, scan, tokens, symbolOf, alike}
-use Rattle.expression.specs.Operands.{digitOf, allDigits, numeral, hexed, isLiteral, literalWord, registerOf, isName, nameValue, isOperand, operandValue, rankOf, rank, shiftLeft, operatedOf, operated, negated}
+use Rattle.expression.specs.Operands.{digitOf, allDigits, numeral, hexed, isLiteral, literalWord, registerOf, isName, nameValue, isOperand, operandValue, rankOf, shiftLeft, operatedOf, operated, negated}
 use Rattle.expression.specs.Grammar.{valueOf}
-use Rattle.expression.specs.Reading.{bind, mapped, closed, opening, startOf, leaf, prefixed, rest, follow, chain, ranked, inside, parse}
+use Rattle.expression.specs.Reading.{operatorBy, rankBy, operatorOf, rank, bind, mapped, closed, opening, startOf, leaf, prefixed, rest, follow, chain, ranked, inside, parse}
 use Rattle.statement.specs.Reading.{rowFrom, rowOf, aRegister, aPunctuation, finished, readItem, readItems, statementOf, lineBy, lineOf, valuedParts, valuedStatement, valued}
 use Rattle.encoding.specs.Words.{wordsIn, distance, odd, numberOf, Judged, bad, nothing, gives, written, encoded, stated}
 use Rattle.assembler.specs.Text.{longer, lines, readings, textLines, given, crowded, admitted, newLabels, after, namesFrom, repeated, judged, verdicts, textVerdicts, wordsOf, words, replyFrom, assembleLeftBy, assembleLeft}
@@ -78,7 +78,8 @@ each (x ∷ xs) t =
 
 tested : T (both (tests sheetRows) (both (tests valueRows) (tests nameRows)))
 unfolding tests come-to signed lowBits writeOf between isDigit isLetter isLetterOrDigit goesOn joins ended begun scan tokens symbolOf alike
-    digitOf allDigits numeral hexed isLiteral literalWord registerOf isName nameValue isOperand operandValue rankOf rank shiftLeft operatedOf operated negated
+    digitOf allDigits numeral hexed isLiteral literalWord registerOf isName nameValue isOperand operandValue rankOf shiftLeft operatedOf operated negated
+    operatorBy rankBy operatorOf rank
     valueOf bind mapped closed opening startOf leaf prefixed rest follow chain ranked inside parse
     rowFrom rowOf aRegister aPunctuation finished readItem readItems statementOf lineBy lineOf valuedParts valuedStatement valued
     wordsIn distance odd numberOf written encoded stated
