@@ -1,6 +1,6 @@
 -- A choice by a field of the control word: the field by its bits, and past the end of a list; and tests of f.
 -- Assumes nothing.
-use mathlib.Core.Path.{_≡_, sym}
+use mathlib.Core.Path.{_≡_, sym, _∙_}
 use mathlib.Core.Bool.{Bool·beq}
 use mathlib.Core.List.{List}
 use Prim.Native.Nat.{ℕ, _+_, _*_, _/_, _%_, _<_, _≤_}
@@ -8,6 +8,7 @@ use native.Mathlib.Nat.{div-div-eq-div-mul}
 use native.Mathlib.Omega.{arith}
 use lib.Dec.{T, eqb}
 use lib.ListN.{getD, length, List·getD-eq-default}
+use Rattle.word.specs.Fields.{f-of}
 use Rattle.word.specs.Codes.{below6But}
 use Rattle.word.proofs.Computed.{all, all-at}
 use Rattle.word.proofs.Tests.{same-test}
@@ -22,6 +23,15 @@ three-bits c weight = rw (← div-div-eq-div-mul c weight 4) (omega arith)
 
 pub past-end : (xs : List ℕ) (k : ℕ) → length xs ≤ k → 0 ≡ getD xs k 0
 past-end xs k h = sym (List·getD-eq-default xs 0 h)
+
+-- ---- f as the code reads it
+
+pub f-is : (w : ℕ) → w % 8 ≡ f-of w
+f-is w = omega arith
+
+-- what goes by f, of Ra and Rb as they were read
+pub by-f : (g : ℕ → ℕ → ℕ → ℕ) (w : ℕ) {x y a b v : ℕ} → v ≡ g (w % 8) x y → (x ≡ a) × (y ≡ b) → v ≡ g (f-of w) a b
+by-f g w e p = e ∙ (λ i. g (f-is w i) (p .0 i) (p .1 i))
 
 -- ---- The tests of f, by the eight values that it can have
 

@@ -7,20 +7,19 @@ use Prim.Native.Nat.{ℕ, _+_, _*_, _<_, _≤_}
 use native.Mathlib.Omega.{arith}
 use borrow.Author.Tests.{leb-false, lt-leb, eqb-true}
 use lib.Dec.{leb}
-use lib.ListN.{length, set, take, drop, length-set}
+use lib.ListN.{length, set, length-set}
 use Rattle.word.specs.Fields.{a-of, N8}
-use Rattle.word.specs.Word.{pick}
-use Rattle.word.proofs.Tests.{clash, never}
+use Rattle.word.specs.Word.{pick, add}
 use Rattle.machine.specs.declared.State.{State}
 use Rattle.machine.specs.declared.Stepped.{Stepped}
-use Rattle.machine.specs.Machine.{Machine, R, putO, putD, onState}
-use Rattle.machine.specs.Step.{Next, cannot, to, Ra, Rb, PC}
+use Rattle.machine.specs.Machine.{R}
+use Rattle.machine.specs.Step.{cannot, to}
 use Rattle.machine.specs.Run.{Outcome, unless}
 use Rattle.machine.specs.Held.{Held, held, machineOf, isFull, outcomeOf, StepMeets}
 use Rattle.machine.proofs.Answers.{answered}
 use Rattle.machine.proofs.Log.{put-take, put-drop}
-use Rattle.control.specs.Control.{storeField, writesPort, storedData, stored, performed, assigned, zeroDivisor, controlStep}
-use Rattle.datapath.specs.Parts.{stateAfter, dataAfter, isZeroDivisor, stopOf, resultAnswer}
+use Rattle.control.specs.Control.{result, next, storeField, writesPort, storedData, stored, performed, assigned, controlStep}
+use Rattle.datapath.specs.Parts.{unitOf, stateAfter, dataAfter, isZeroDivisor, stopOf, doneWith, resultAnswer}
 
 module _ (c w : ℕ) (h : Held) where
   abbrev Meets : ℕ → Held → Type 0
@@ -112,22 +111,23 @@ module _ (c w : ℕ) (h : Held) where
       by-tests true a false ez false ep f ef go e =
           rw (e .0, e .1, e .2) (data-done a ez filled ep es eD)
 
--- the answer where nothing is stored
+-- the answer where nothing is stored, with PC+2
 pub result-done : (c w : ℕ) (h : Held) → h .entries ≤ length (h .log) → writesPort c ≡ false → dataAfter c w (h .state) (h .D) ≡ h .D
+    → next c w (R (h .state) (a-of w)) (h .state .pc) ≡ add (h .state .pc) 2
     → (r : Stepped)
     → r ≡ resultAnswer c w (h .state) (h .D) (h .I) (h .entries)
     → StepMeets (controlStep c w) (writesPort c) h (r .stop) (held (r .state) (h .D) (h .I) (h .O) (h .log) (r .entries))
-result-done c w h filled no-port no-store r = by-tests (assigned c w) refl (isZeroDivisor c w (h .state)) refl
+result-done c w h filled no-port no-store on r = by-tests (assigned c w) refl (isZeroDivisor c w (h .state)) refl
   where
     by-tests : (a : Bool) → assigned c w ≡ a → (z : Bool) → isZeroDivisor c w (h .state) ≡ z
         → r ≡ pick a
         (pick z
         (record { stop = 3; state = h .state; entries = h .entries })
-        (record { stop = 0; state = stateAfter c w (h .state) (h .D) (h .I); entries = h .entries }))
+        (doneWith c w (result c w (unitOf c w (h .state)) (h .state .pc) (h .D) (h .I)) (h .state) (h .entries)))
         (record { stop = 1; state = h .state; entries = h .entries })
         → StepMeets (controlStep c w) (writesPort c) h (r .stop) (held (r .state) (h .D) (h .I) (h .O) (h .log) (r .entries))
     by-tests true e true z a = answered r _ a (stopped c w h 3 filled (rw (e, z)) (λ z. omega arith))
-    by-tests true e false z a = answered r _ a (data-done c w h e z filled no-port refl (sym no-store))
+    by-tests true e false z a = answered r _ a (data-done c w h e z filled no-port (rw on) (sym no-store))
     by-tests false e t z a = answered r _ a (stopped c w h 1 filled (rw e) (λ z. omega arith))
 
 -- a port's step has a free place where nothing stops it

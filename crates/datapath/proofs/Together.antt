@@ -1,28 +1,25 @@
 -- What the fields come to in each group.
 -- Assumes nothing.
-use mathlib.Core.Path.{_≡_, ap₂, _∙_}
-use mathlib.Core.Bool.{Bool, true, false, _&&_, not, and-eq-true-iff}
+use mathlib.Core.Path.{_≡_, refl, sym, ap, _∙_}
+use mathlib.Core.Bool.{true, false, _&&_, and-eq-true-iff}
 use mathlib.Core.List.{List}
-use Prim.Native.Nat.{ℕ, _/_, _%_}
-use native.Mathlib.Nat.{div-one, div-div-eq-div-mul}
+use Prim.Native.Nat.{ℕ, _/_, _%_, _<_}
+use native.Mathlib.Nat.{div-div-eq-div-mul}
 use native.Mathlib.Omega.{arith}
-use borrow.Author.Tests.{eqb-true, eqb-false, ne-eqb, not-true}
+use borrow.Author.Tests.{eqb-true, ltb-true, ne-eqb}
 use lib.Arith.{mod-mul}
-use lib.Dec.{eqb}
-use Rattle.word.specs.Fields.{a-of, b-of, N6}
-use Rattle.word.specs.Word.{add, SE, operation}
+use lib.Dec.{eqb, ltb}
+use Rattle.word.specs.Fields.{a-of, b-of, f-of, N6}
+use Rattle.word.specs.Word.{add, clear0, SE, operation, comparison}
+use Rattle.word.proofs.Computed.{all}
 use Rattle.machine.specs.declared.State.{State}
 use Rattle.machine.specs.Machine.{R, putPC, count}
+use Rattle.word.specs.Codes.{below6But}
 use Rattle.control.specs.Control.{second, unit, result, next, writesPort, storedData, written, assigned, zeroDivisor}
-use Rattle.datapath.specs.Parts.{unitOf, stateAfter, dataAfter, isZeroDivisor, addressOf, isResult, isStore, isJump}
+use Rattle.datapath.specs.Parts.{unitOf, stateAfter, dataAfter, isZeroDivisor, doneWith, resultAnswer, addressOf, isResult, isOperation, isComparison, isSum, isStore, isJump, isLink}
+use Rattle.datapath.proofs.Choice.{takes-f}
 
 -- ---- Bits of a field that is known as part of a wider one
-
-next-of : (y : ℕ) → y % 8 ≡ 4 → y % 4 ≡ 0
-next-of y e = omega arith
-
-assigned-of : (c : ℕ) → c / 4096 % 8 ≡ 4 → c / 16384 % 2 ≡ 1
-assigned-of c e = omega (arith, mod-mul (c / 4096) {m = 2} {c = 4} (omega arith) (omega arith), div-div-eq-div-mul c 4096 4)
 
 unit-of : (c : ℕ) → c % 4096 ≡ 0 → c / 32 % 8 ≡ 0
 unit-of c e = let m : c / 32 % 128 ≡ 0 = omega (arith, mod-mul c {m = 128} {c = 32} (omega arith) (omega arith)) in omega (arith, m)
@@ -30,7 +27,23 @@ unit-of c e = let m : c / 32 % 128 ≡ 0 = omega (arith, mod-mul c {m = 128} {c 
 store-of : (c : ℕ) → c % 4096 ≡ 0 → c / 1024 % 4 ≡ 0
 store-of c e = omega (arith, mod-mul c {m = 4} {c = 1024} (omega arith) (omega arith))
 
--- ---- The groups
+-- bits 14..10: assigned, next and store
+upper : (c : ℕ) {v : ℕ} → c / 1024 % 32 ≡ v → (c / 16384 % 2 ≡ v / 16) × (c / 4096 % 4 ≡ v / 4 % 4) × (c / 1024 % 4 ≡ v % 4)
+upper c e = (rw (← div-div-eq-div-mul c 1024 16) (omega arith), rw (← div-div-eq-div-mul c 1024 4) (omega arith), omega arith)
+
+-- 16 to 18 in them: assigned, PC+2, and no port
+no-port-of : (v : ℕ) → 15 < v → v < 19 → (v / 16 ≡ 1) × (v / 4 % 4 ≡ 0) × (v % 4 ≡ 3 → ⊥)
+no-port-of v l h = (omega arith, omega arith, λ e. omega arith)
+
+-- bits 7..2: unit and result
+lower : (c : ℕ) {v : ℕ} → c / 4 % 64 ≡ v → (c / 32 % 8 ≡ v / 8) × (c / 4 % 8 ≡ v % 8)
+lower c e = (rw (← div-div-eq-div-mul c 4 8) (omega arith), omega arith)
+
+-- bits 9..2: the second operand before them
+middle : (c : ℕ) {v : ℕ} → c / 4 % 256 ≡ v → (c / 256 % 4 ≡ v / 64) × (c / 4 % 64 ≡ v % 64)
+middle c e = (rw (← div-div-eq-div-mul c 4 64) (omega arith), omega arith)
+
+-- ---- The unit's result
 
 -- bits 9..5 are 10: Ra+SE(N6)
 pub sums : (c w x y : ℕ) → c / 32 % 32 ≡ 10 → unit c w x y ≡ add x (SE 6 (N6 w))
@@ -40,15 +53,14 @@ sums c w x y e =
     let z : c / 256 % 4 ≡ 1 = omega arith in
     rw (u, z)
 
--- bits 9..5 are 0: an operation on Ra and Rb
-pub operates : (c w : ℕ) {x y v a b : ℕ} → c / 32 % 32 ≡ 0 → v ≡ operation (w % 8) x y → x ≡ a → y ≡ b → v ≡ unit c w a b
-unfolding unit second
-operates c w e ev ex ey =
-    let u : c / 32 % 8 ≡ 0 = omega arith in
-    let z : c / 256 % 4 ≡ 0 = omega arith in
-    rw (u, z, div-one) (ev ∙ ap₂ (operation (w % 8)) ex ey)
+-- Ra+SE(N6), of Ra as it was read
+pub address-is : (w : ℕ) (s : State) {x v : ℕ} → v ≡ add x (SE 6 (N6 w)) → x ≡ R s (a-of w) → v ≡ addressOf w s
+address-is w s e ex = e ∙ ap (λ y. add y (SE 6 (N6 w))) ex
+
+-- ---- The groups
 
 module _ (c w : ℕ) (s : State) where
+  -- no store, PC+2, assigned
   pub record Result : Type 0 where
     pub no-port : writesPort c ≡ false
     pub on : next c w (R s (a-of w)) (s .pc) ≡ add (s .pc) 2
@@ -57,10 +69,32 @@ module _ (c w : ℕ) (s : State) where
   pub result-group : isResult c ≡ true → Result
   unfolding next storedData
   result-group e =
-      let b : c / 1024 % 16 ≡ 0 = eqb-true _ _ e in
-      let st : c / 1024 % 4 ≡ 0 = omega arith in
-      let n : c / 4096 % 4 ≡ 0 = omega arith in
-      record { no-port = rw st; on = rw n; no-store = λ D. rw st }
+      let h = upper c (eqb-true _ 16 e) in
+      record { no-port = rw (h .2); on = rw (h .1); no-store = λ D. rw (h .2) }
+
+  -- its own groups, each with its result
+  module _ (D I : List ℕ) (k : ℕ) (e : isResult c ≡ true) where
+    pub operation-group : isOperation c ≡ true → resultAnswer c w s D I k ≡ doneWith c w (operation (f-of w) (R s (a-of w)) (R s (b-of w))) s k
+    unfolding assigned zeroDivisor result unit second
+    operation-group g =
+        let m = middle c (eqb-true _ 0 g) in
+        let l = lower c (m .1) in
+        rw (upper c (eqb-true _ 16 e) .0, m .0, l .0, l .1)
+
+    pub comparison-group : isComparison c w ≡ true → resultAnswer c w s D I k ≡ doneWith c w (comparison (f-of w) (R s (a-of w)) (R s (b-of w))) s k
+    unfolding assigned zeroDivisor result unit second all
+    comparison-group g =
+        let p = and-eq-true-iff (eqb (c / 4 % 256) 8) (below6But 2 (f-of w)) .0 g in
+        let m = middle c (eqb-true _ 8 (p .0)) in
+        let l = lower c (m .1) in
+        rw (upper c (eqb-true _ 16 e) .0, m .0, l .0, l .1, sym (takes-f 1 2 tt (f-of w) (omega arith)) ∙ p .1)
+
+    pub sum-group : isSum c ≡ true → resultAnswer c w s D I k ≡ doneWith c w (result c w (addressOf w s) (s .pc) D I) s k
+    unfolding assigned zeroDivisor
+    sum-group g =
+        let bits : c / 32 % 32 ≡ 10 = eqb-true _ _ g in
+        let u : c / 32 % 8 ≡ 2 = omega arith in
+        rw (upper c (eqb-true _ 16 e) .0, u, sums c w (R s (a-of w)) (R s (b-of w)) bits)
 
   pub record Store : Type 0 where
     pub is-assigned : assigned c w ≡ true
@@ -72,34 +106,33 @@ module _ (c w : ℕ) (s : State) where
   pub store-group : isStore c ≡ true → Store
   unfolding assigned zeroDivisor next written
   store-group e =
-      let p = and-eq-true-iff (eqb (c % 1024) 320 && eqb (c / 4096 % 8) 4) (not (eqb (c / 1024 % 4) 3)) .0 e in
-      let q = and-eq-true-iff (eqb (c % 1024) 320) (eqb (c / 4096 % 8) 4) .0 (p .0) in
-      let low : c % 1024 ≡ 320 = eqb-true _ _ (q .0) in
-      let high : c / 4096 % 8 ≡ 4 = eqb-true _ _ (q .1) in
+      let p = and-eq-true-iff (eqb (c % 1024) 320 && ltb 15 (c / 1024 % 32)) (ltb (c / 1024 % 32) 19) .0 e in
+      let q = and-eq-true-iff (eqb (c % 1024) 320) (ltb 15 (c / 1024 % 32)) .0 (p .0) in
+      let l : c % 1024 ≡ 320 = eqb-true _ _ (q .0) in
+      let h = upper c refl in
+      let t = no-port-of (c / 1024 % 32) (ltb-true _ _ (q .1)) (ltb-true _ _ (p .1)) in
       let u : c / 32 % 8 ≡ 2 = omega arith in
       let bits : c / 32 % 32 ≡ 10 = omega arith in
       let d : c / 1 % 4 ≡ 0 = omega arith in
-      let n : c / 4096 % 4 ≡ 0 = next-of (c / 4096) high in
-      let a : c / 16384 % 2 ≡ 1 = assigned-of c high in
+      let n : c / 4096 % 4 ≡ 0 = h .1 ∙ t .1 in
+      let a : c / 16384 % 2 ≡ 1 = h .0 ∙ t .0 in
       record {
         is-assigned = rw (a, u);
         no-zero = rw u;
-        no-port = no-3 (p .1);
+        no-port = ne-eqb _ 3 (λ e. t .2 (sym (h .2) ∙ e));
         address = sums c w _ _ bits;
         state = λ D I. rw (d, n);
       }
-    where
-      no-3 : {t : Bool} → not t ≡ true → t ≡ false
-      no-3 {t} e = not-true t e
 
-  pub record Jump : Type 0 where
+  -- no store, and this state after the step
+  pub record Moved (after : State) : Type 0 where
     pub is-assigned : assigned c w ≡ true
     pub no-zero : isZeroDivisor c w s ≡ false
     pub no-port : writesPort c ≡ false
-    pub state : (D I : List ℕ) → stateAfter c w s D I ≡ putPC (next c w (R s (a-of w)) (s .pc)) (count s)
+    pub state : (D I : List ℕ) → stateAfter c w s D I ≡ after
     pub no-store : (D : List ℕ) → dataAfter c w s D ≡ D
 
-  pub jump-group : isJump c ≡ true → Jump
+  pub jump-group : isJump c ≡ true → Moved (putPC (next c w (R s (a-of w)) (s .pc)) (count s))
   unfolding assigned zeroDivisor storedData written
   jump-group e =
       let q = and-eq-true-iff (eqb (c % 4096) 0) (eqb (c / 16384 % 2) 1) .0 e in
@@ -109,3 +142,11 @@ module _ (c w : ℕ) (s : State) where
       let d : c / 1 % 4 ≡ 0 = omega arith in
       let st : c / 1024 % 4 ≡ 0 = store-of c low in
       record { is-assigned = rw (a, u); no-zero = rw u; no-port = rw st; state = λ D I. rw d; no-store = λ D. rw st }
+
+  pub link-group : isLink c ≡ true → Moved (written c w (add (s .pc) 2) (putPC (clear0 (R s (a-of w))) (count s)))
+  unfolding assigned zeroDivisor storedData result next
+  link-group e =
+      let q = and-eq-true-iff (eqb (c / 1024 % 32) 28) (eqb (c / 4 % 64) 3) .0 e in
+      let h = upper c (eqb-true _ 28 (q .0)) in
+      let l = lower c (eqb-true _ 3 (q .1)) in
+      record { is-assigned = rw (h .0, l .0); no-zero = rw (l .0); no-port = rw (h .2); state = λ D I. rw (l .1, h .1); no-store = λ D. rw (h .2) }

@@ -1,11 +1,12 @@
 -- What the private functions of a step promise. Nothing here is promised to a caller.
 use Prim.Native.Nat.{ℕ, _<_, _/_, _%_}
-use mathlib.Core.Bool.{Bool, _&&_, not}
+use mathlib.Core.Bool.{Bool, _&&_}
 use mathlib.Core.List.{List}
 use mathlib.Core.Path.{_≡_}
-use lib.Dec.{eqb}
+use lib.Dec.{eqb, ltb}
 use lib.ListN.{length}
-use Rattle.word.specs.Fields.{a-of, b-of, N6}
+use Rattle.word.specs.Fields.{a-of, b-of, f-of, N6}
+use Rattle.word.specs.Codes.{below6But}
 use Rattle.word.specs.Word.{pick, add, SE}
 use Rattle.machine.specs.declared.State.{State}
 use Rattle.machine.specs.declared.Stepped.{Stepped}
@@ -37,13 +38,17 @@ isZeroDivisor c w s = zeroDivisor c w (R s (b-of w))
 abbrev pub stopOf : ℕ → ℕ → State → Bool → ℕ
 stopOf c w s full = pick (assigned c w) (pick (isZeroDivisor c w s) 3 (pick (writesPort c && full) 2 0)) 1
 
--- what is answered where nothing is stored
+-- what is answered where a result v is written, with PC+2
+abbrev pub doneWith : ℕ → ℕ → ℕ → State → ℕ → Stepped
+doneWith c w v s entries = record { stop = 0; state = written c w v (putPC (add (s .pc) 2) (count s)); entries = entries }
+
+-- what is answered where nothing is stored, with PC+2
 abbrev pub resultAnswer : ℕ → ℕ → State → List ℕ → List ℕ → ℕ → Stepped
 resultAnswer c w s D I entries =
     pick (assigned c w)
     (pick (isZeroDivisor c w s)
     (record { stop = 3; state = s; entries = entries })
-    (record { stop = 0; state = stateAfter c w s D I; entries = entries }))
+    (doneWith c w (result c w (unitOf c w s) (s .pc) D I) s entries))
     (record { stop = 1; state = s; entries = entries })
 
 -- ---- The groups
@@ -52,14 +57,29 @@ resultAnswer c w s D I entries =
 abbrev pub addressOf : ℕ → State → ℕ
 addressOf w s = add (R s (a-of w)) (SE 6 (N6 w))
 
--- no store, and PC+2
+-- assigned, no store, and PC+2
 abbrev pub isResult : ℕ → Bool
-isResult c = eqb (c / 1024 % 16) 0
+isResult c = eqb (c / 1024 % 32) 16
+
+-- in it: the result is the unit's, which is an operation on Ra and Rb; or a comparison of them, with an f that the unit takes
+abbrev pub isOperation : ℕ → Bool
+isOperation c = eqb (c / 4 % 256) 0
+
+abbrev pub isComparison : ℕ → ℕ → Bool
+isComparison c w = eqb (c / 4 % 256) 8 && below6But 2 (f-of w)
+
+-- the unit's result is Ra+SE(N6)
+abbrev pub isSum : ℕ → Bool
+isSum c = eqb (c / 32 % 32) 10
 
 -- data memory at Ra+SE(N6) is stored to, or nothing; no destination, PC+2, assigned
 abbrev pub isStore : ℕ → Bool
-isStore c = eqb (c % 1024) 320 && eqb (c / 4096 % 8) 4 && not (eqb (c / 1024 % 4) 3)
+isStore c = eqb (c % 1024) 320 && ltb 15 (c / 1024 % 32) && ltb (c / 1024 % 32) 19
 
 -- all fields but the next PC are 0, and assigned
 abbrev pub isJump : ℕ → Bool
 isJump c = eqb (c % 4096) 0 && eqb (c / 16384 % 2) 1
+
+-- PC becomes Ra and the result is PC+2; no store, unit 0, assigned
+abbrev pub isLink : ℕ → Bool
+isLink c = eqb (c / 1024 % 32) 28 && eqb (c / 4 % 64) 3

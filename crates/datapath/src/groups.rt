@@ -3,66 +3,67 @@
 ghost use mathlib.Core.Path.{_≡_};
 ghost use Prim.Native.Nat.{_<_};
 ghost use lib.ListN.{length};
-ghost use Rattle.word.specs.Word.{add};
-ghost use Rattle.word.specs.Fields.{a-of, b-of};
+ghost use Rattle.word.specs.Word.{add, clear0, SE};
+ghost use Rattle.word.specs.Fields.{a-of, b-of, N6};
 ghost use Rattle.machine.specs.Machine.{R, putPC, count};
-ghost use Rattle.control.specs.Control.{result, next, storedData, written};
-ghost use Rattle.datapath.specs.Parts.{Lent, unitOf, addressOf, isResult, isStore, isJump};
+ghost use Rattle.control.specs.Control.{next, storedData, written};
+ghost use Rattle.datapath.specs.Parts.{addressOf, isResult, isOperation, isComparison, isSum, isStore, isJump, isLink};
 use crate::fields;
 use machine::State;
 
-// Ra+SE(N6)
-fn address(w: u16, state: State) -> u16
-    ensures { λ r. ⌜ r ≡ addressOf w state ⌝ }
+// Ra+SE(N6). x is Ra.
+pub fn address(w: u16, x: u16) -> u16
+    ensures { λ r. ⌜ r ≡ add x (SE 6 (N6 w)) ⌝ }
 {
-    word::sum(state.ra(w), word::extend6(w))
+    word::sum(x, word::extend6(w))
 }
 
-// No store, and PC+2.
+// Assigned, no store, and PC+2.
 pub fn is_result(control: u16) -> bool
     ensures { λ r. ⌜ r ≡ isResult control ⌝ }
 {
-    control / 1024 % 16 == 0
+    control / 1024 % 32 == 16
 }
 
-// Bits 9..5: 0 is an operation on Ra and Rb, 10 is Ra+SE(N6).
-fn unit_result(control: u16, w: u16, state: State) -> u16
-    ensures { λ r. ⌜ r ≡ unitOf control w state ⌝ }
+// An operation on Ra and Rb is the result.
+pub fn is_operation(control: u16) -> bool
+    ensures { λ r. ⌜ r ≡ isOperation control ⌝ }
 {
-    let bits = control / 32 % 32;
-    if bits == 0 {
-        word::operate(w % 8, state.ra(w), state.rb(w))
+    control / 4 % 256 == 0
+}
+
+// A comparison of Ra and Rb, by an f that the unit takes, is the result.
+pub fn is_comparison(control: u16, w: u16) -> bool
+    ensures { λ r. ⌜ r ≡ isComparison control w ⌝ }
+{
+    if control / 4 % 256 == 8 {
+        word::is_below_6_but(2, w % 8)
     } else {
-        if bits == 10 {
-            address(w, state)
-        } else {
-            fields::unit_result(control, w, state.ra(w), state.rb(w))
-        }
+        false
     }
 }
 
-// The state with PC+2 and the result.
-pub fn result(control: u16, w: u16, state: State, memory: &[u8], inputs: &[u16]) -> State
-    requires { ⌜ Lent state (now memory) (now inputs) ⌝ }
-    ensures { λ r. ⌜ r ≡ written control w (result control w (unitOf control w state) (state .pc) (now (memory .entry)) (now (inputs .entry))) (putPC (add (state .pc) 2) (count state)) ⌝ }
+// The unit's result is Ra+SE(N6).
+pub fn is_sum(control: u16) -> bool
+    ensures { λ r. ⌜ r ≡ isSum control ⌝ }
 {
-    let u = unit_result(control, w, state);
-    let v = fields::chosen_result(control, w, u, state.pc, memory, inputs);
-    fields::write_destination(control, w, v, state.advanced())
+    control / 32 % 32 == 10
 }
 
 // Data memory at Ra+SE(N6) is stored to, or nothing; no destination, PC+2, assigned.
 pub fn is_store(control: u16) -> bool
     ensures { λ r. ⌜ r ≡ isStore control ⌝ }
 {
-    (control % 1024 == 320) & (control / 4096 % 8 == 4) & (control / 1024 % 4 != 3)
+    let upper = control / 1024 % 32;
+    (control % 1024 == 320) & (upper > 15) & (upper < 19)
 }
 
 pub fn store(control: u16, w: u16, state: State, memory: &mut [u8])
     requires { ⌜ length (now memory) ≡ 65536 ⌝ }
     ensures { λ _. ⌜ now (memory .exit) ≡ storedData control (R state (b-of w)) (addressOf w state) (now (memory .entry)) ⌝ }
 {
-    fields::store_data(control, state.rb(w), address(w, state), memory);
+    let p = state.sources(w);
+    fields::store_data(control, p.y, address(w, p.x), memory);
 }
 
 // All fields but the next PC are 0, and assigned.
@@ -78,4 +79,19 @@ pub fn jump(control: u16, w: u16, state: State) -> State
 {
     let next = fields::next_pc(control, w, state.ra(w), state.pc);
     state.counted().with_pc(next)
+}
+
+// PC becomes Ra and the result is PC+2; no store, unit 0, assigned.
+pub fn is_link(control: u16) -> bool
+    ensures { λ r. ⌜ r ≡ isLink control ⌝ }
+{
+    (control / 1024 % 32 == 28) & (control / 4 % 64 == 3)
+}
+
+pub fn link(control: u16, w: u16, state: State) -> State
+    requires { ⌜ state .n < 4294967295 ⌝ }
+    ensures { λ r. ⌜ r ≡ written control w (add (state .pc) 2) (putPC (clear0 (R state (a-of w))) (count state)) ⌝ }
+{
+    let next = state.counted().with_pc(word::clear_bit0(state.ra(w)));
+    fields::write_destination(control, w, word::sum(state.pc, 2), next)
 }

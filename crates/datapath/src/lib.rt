@@ -1,11 +1,12 @@
 // The step by a control word: everything but the operands, and f in units 0, 1 and 5, is learnt from the control word.
 ghost use mathlib.Core.Path.{_≡_};
 ghost use mathlib.Core.Bool.{true};
+ghost use Prim.Native.Nat.{_<_};
 ghost use lib.Dec.{leb};
 ghost use lib.ListN.{length};
 ghost use Rattle.machine.specs.Held.{held, Ready, StepsAs};
 ghost use Rattle.control.specs.Control.{writesPort, controlStep};
-ghost use Rattle.datapath.specs.Parts.{Lent, stopOf, resultAnswer, isResult};
+ghost use Rattle.datapath.specs.Parts.{Lent, stopOf, doneWith, resultAnswer, isResult};
 use machine::State;
 use machine::Stepped;
 
@@ -46,16 +47,15 @@ fn performed(
     requires { ⌜ stopOf control w state (leb (length (now log)) entries) ≡ 0 ⌝ }
     ensures { λ r. ⌜ StepsAs (controlStep control w) (writesPort control) state memory inputs outputs log entries r ⌝ }
 {
-    let x = state.ra(w);
-    let y = state.rb(w);
-    let u = fields::unit_result(control, w, x, y);
+    let p = state.sources(w);
+    let u = fields::unit_result(control, w, p.x, p.y);
     let v = fields::chosen_result(control, w, u, state.pc, memory, inputs);
-    let next = fields::next_pc(control, w, x, state.pc);
+    let next = fields::next_pc(control, w, p.x, state.pc);
     let after = fields::write_destination(control, w, v, state.counted().with_pc(next));
-    fields::store_data(control, y, u, memory);
+    fields::store_data(control, p.y, u, memory);
     Stepped::done(
         after,
-        fields::store_port(control, w, x, state.n, outputs, log, entries),
+        fields::store_port(control, w, p.x, state.n, outputs, log, entries),
     )
 }
 
@@ -102,12 +102,53 @@ fn other_step(
         if groups::is_jump(control) {
             Stepped::done(groups::jump(control, w, state), entries)
         } else {
-            field_step(control, w, state, memory, inputs, outputs, log, entries)
+            if groups::is_link(control) {
+                Stepped::done(groups::link(control, w, state), entries)
+            } else {
+                field_step(control, w, state, memory, inputs, outputs, log, entries)
+            }
         }
     }
 }
 
-// The step of w by a control word with no store and PC+2.
+// The step of w is done with the result v, and PC+2.
+fn result_done(control: u16, w: u16, v: u16, state: State, entries: usize) -> Stepped
+    requires { ⌜ state .n < 4294967295 ⌝ }
+    ensures { λ r. ⌜ r ≡ doneWith control w v state entries ⌝ }
+{
+    Stepped::done(
+        fields::write_destination(control, w, v, state.advanced()),
+        entries,
+    )
+}
+
+// The step of w by a control word with no store and PC+2, field by field.
+fn other_result(
+    control: u16,
+    w: u16,
+    state: State,
+    memory: &[u8],
+    inputs: &[u16],
+    entries: usize,
+) -> Stepped
+    requires { ⌜ Lent state (now memory) (now inputs) ⌝ }
+    ensures { λ r. ⌜ r ≡ resultAnswer control w state (now (memory .entry)) (now (inputs .entry)) entries ⌝ }
+{
+    if fields::is_assigned(control, w) {
+        if fields::divides_by_zero(control, w, state) {
+            Stepped::stopped(3, state, entries)
+        } else {
+            let p = state.sources(w);
+            let u = fields::unit_result(control, w, p.x, p.y);
+            let v = fields::chosen_result(control, w, u, state.pc, memory, inputs);
+            result_done(control, w, v, state, entries)
+        }
+    } else {
+        Stepped::stopped(1, state, entries)
+    }
+}
+
+// The step of w by an assigned control word with no store and PC+2.
 fn result_step(
     control: u16,
     w: u16,
@@ -119,14 +160,22 @@ fn result_step(
     requires { ⌜ Lent state (now memory) (now inputs) × (isResult control ≡ true) ⌝ }
     ensures { λ r. ⌜ r ≡ resultAnswer control w state (now (memory .entry)) (now (inputs .entry)) entries ⌝ }
 {
-    if fields::is_assigned(control, w) {
-        if fields::divides_by_zero(control, w, state) {
-            Stepped::stopped(3, state, entries)
-        } else {
-            Stepped::done(groups::result(control, w, state, memory, inputs), entries)
-        }
+    if groups::is_operation(control) {
+        let p = state.sources(w);
+        result_done(control, w, word::operate(w % 8, p.x, p.y), state, entries)
     } else {
-        Stepped::stopped(1, state, entries)
+        if groups::is_sum(control) {
+            let u = groups::address(w, state.ra(w));
+            let v = fields::chosen_result(control, w, u, state.pc, memory, inputs);
+            result_done(control, w, v, state, entries)
+        } else {
+            if groups::is_comparison(control, w) {
+                let p = state.sources(w);
+                result_done(control, w, word::compare(w % 8, p.x, p.y), state, entries)
+            } else {
+                other_result(control, w, state, memory, inputs, entries)
+            }
+        }
     }
 }
 

@@ -40,6 +40,12 @@ impl Stepped {
     }
 }
 
+// Ra and Rb of an instruction word: x is Ra, y is Rb.
+pub struct Sources {
+    pub x: u16,
+    pub y: u16,
+}
+
 // A port number.
 pub struct Port(pub u8);
 
@@ -90,6 +96,16 @@ impl State {
         self.register(w / 64)
     }
 
+    // Both, from one copy of the registers.
+    pub fn sources(self, w: u16) -> Sources
+        ensures { λ p. ⌜ (p .x ≡ R self (a-of w)) × (p .y ≡ R self (b-of w)) ⌝ }
+    {
+        let r = self.r;
+        let a = (w / 512 % 8) as usize;
+        let b = (w / 64 % 8) as usize;
+        Sources { x: r[a], y: r[b] }
+    }
+
     // Register k modulo 8 becomes v. (Choosing each element is faster than a store at an index that is not known.)
     pub fn with_register(self, k: u16, v: u16) -> Self
         ensures { λ s. ⌜ s ≡ putR (k % 8) v self ⌝ }
@@ -113,20 +129,29 @@ impl State {
         }
     }
 
-    pub fn with_pc(mut self, v: u16) -> Self
+    // (A whole literal: a `mut self` would move the struct's padding along.)
+    pub fn with_pc(self, v: u16) -> Self
         ensures { λ s. ⌜ s ≡ putPC v self ⌝ }
     {
-        self.pc = v;
-        self
+        let r = self.r;
+        State {
+            r,
+            pc: v,
+            n: self.n,
+        }
     }
 
     // One step more is done.
-    pub fn counted(mut self) -> Self
+    pub fn counted(self) -> Self
         requires { ⌜ self .n < 4294967295 ⌝ }
         ensures { λ s. ⌜ s ≡ count self ⌝ }
     {
-        self.n = self.n + 1;
-        self
+        let r = self.r;
+        State {
+            r,
+            pc: self.pc,
+            n: self.n + 1,
+        }
     }
 
     // PC+2, and one step more is done.

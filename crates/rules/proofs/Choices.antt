@@ -3,7 +3,7 @@
 use mathlib.Core.Path.{_≡_, refl, sym, ap, ap₂, _∙_}
 use mathlib.Core.Bool.{Bool, true, false, Bool·beq}
 use mathlib.Core.List.{[], _∷_}
-use Prim.Native.Nat.{ℕ, _/_, _%_, _<_}
+use Prim.Native.Nat.{ℕ, zero, suc, _+_, _/_, _%_, _<_, _≤_}
 use native.Mathlib.Omega.{arith}
 use borrow.Author.Tests.{lt-ltb, eq-eqb, ne-eqb}
 use lib.Dec.{T, eqb, ltb}
@@ -43,6 +43,17 @@ assigned-is w l =
 pub divisions : (w : ℕ) → eqb (w % 8 / 2) 2 ≡ among (f-of w) (4 ∷ 5 ∷ [])
 unfolding all
 divisions w = same-test _ _ (all-at 8 (λ f. Bool·beq (eqb (f / 2) 2) (among f (4 ∷ 5 ∷ []))) tt (w % 8) (omega arith)) ∙ ap (λ f. among f (4 ∷ 5 ∷ [])) (f-is w)
+
+-- ---- The last arm of a match over neighbouring numbers
+
+-- f is none of the n numbers from k on
+abbrev pub NoneFrom : ℕ → ℕ → ℕ → Type 0
+NoneFrom k zero f = Unit {0}
+NoneFrom k (suc n) f = NoneFrom k n f × (f ≡ k + n → ⊥)
+
+pub past-from : (k n f : ℕ) → k ≤ f → NoneFrom k n f → k + n ≤ f
+past-from k zero f l p = omega arith
+past-from k (suc n) f l p = omega (arith, past-from k n f l (p .0))
 
 -- ---- The choice
 

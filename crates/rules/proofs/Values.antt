@@ -3,11 +3,12 @@
 use mathlib.Core.Path.{_≡_, ap, _∙_}
 use Prim.Native.Nat.{ℕ, _%_, _<_}
 use native.Mathlib.Omega.{arith}
-use Rattle.word.specs.Fields.{f-of, N8}
+use Rattle.word.specs.Fields.{f-of, N6, N8}
+use Rattle.word.specs.Word.{add, SE}
 use Rattle.machine.specs.declared.State.{State}
 use Rattle.machine.specs.Machine.{putR}
 use Rattle.machine.specs.Step.{d5-3}
-use Rattle.rules.specs.Parts.{raOf, rbOf}
+use Rattle.rules.specs.Parts.{raOf, rbOf, sumOf}
 
 -- ---- The fields as the code reads them
 
@@ -20,6 +21,11 @@ N8-is w = omega arith
 -- a byte is its own low 8 bits
 pub N8-of-byte : (v : ℕ) → v < 256 → N8 v ≡ v
 N8-of-byte v l = omega arith
+
+-- ---- Ra+SE(N6), of Ra as it was read
+
+pub sum-is : (w : ℕ) (s : State) {x v : ℕ} → v ≡ add x (SE 6 (N6 w)) → x ≡ raOf w s → v ≡ sumOf w s
+sum-is w s e ex = e ∙ ap (λ y. add y (SE 6 (N6 w))) ex
 
 -- ---- A register becomes v, which is u
 

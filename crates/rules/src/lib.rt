@@ -2,7 +2,7 @@
 ghost use mathlib.Core.Path.{_≡_};
 ghost use mathlib.Core.Bool.{true};
 ghost use mathlib.Core.List.{List};
-ghost use Prim.Native.Nat.{ℕ, _≤_};
+ghost use Prim.Native.Nat.{ℕ, _/_, _<_, _≤_};
 ghost use lib.ListN.{length};
 ghost use Rattle.machine.specs.Step.{rule, choice, stepBy, output};
 ghost use Rattle.machine.specs.Run.{isOut};
@@ -26,6 +26,19 @@ fn comparison(w: u16, state: State, next: State, entries: usize) -> Stepped
     }
 }
 
+// The step of a word with opcode 0 or 1. (They are tested apart from the others, so that only f is chosen by an indirect jump.)
+fn arithmetic(w: u16, state: State, next: State, entries: usize) -> Stepped
+    requires { ⌜ Begun (w / 4096) w state next ⌝ }
+    requires { ⌜ w / 4096 < 2 ⌝ }
+    ensures { λ r. ⌜ ((D : List ℕ) → RuleMeets w state D entries r D) ⌝ }
+{
+    if w / 4096 == 0 {
+        Stepped::done(rule::operated(w, state, next), entries)
+    } else {
+        comparison(w, state, next, entries)
+    }
+}
+
 // The step of a word with opcode 11: unassigned where f is 3, 6 or 7.
 fn product(w: u16, state: State, next: State, entries: usize) -> Stepped
     requires { ⌜ Begun 11 w state next ⌝ }
@@ -42,16 +55,14 @@ fn product(w: u16, state: State, next: State, entries: usize) -> Stepped
     }
 }
 
-// The step of a word with an opcode other than 10. (The opcode is handed on, so that the tests of it are compiled to one switch.)
+// The step of a word with an opcode other than 0, 1 and 10. (The opcode is handed on, so that the tests of it are compiled to one switch.)
 fn by_rule(op: u16, w: u16, state: State, next: State, memory: &mut [u8], entries: usize) -> Stepped
     requires { ⌜ Begun op w state next ⌝ }
-    requires { ⌜ (op ≡ 10 → ⊥) ⌝ }
+    requires { ⌜ (2 ≤ op) × (op ≡ 10 → ⊥) ⌝ }
     requires { ⌜ length (now memory) ≡ 65536 ⌝ }
     ensures { λ r. ⌜ RuleMeets w state (now (memory .entry)) entries r (now (memory .exit)) ⌝ }
 {
     match op {
-        0 => Stepped::done(rule::operated(w, state, next), entries),
-        1 => comparison(w, state, next, entries),
         2 => Stepped::done(rule::summed(w, state, next), entries),
         3 => Stepped::done(rule::load_word(w, state, next, memory), entries),
         4 => {
@@ -132,9 +143,13 @@ pub fn step(
 {
     let op = w / 4096;
     let next = state.advanced();
-    if op == 10 {
-        at_port(w, state, next, inputs, outputs, log, entries)
+    if op < 2 {
+        arithmetic(w, state, next, entries)
     } else {
-        by_rule(op, w, state, next, memory, entries)
+        if op == 10 {
+            at_port(w, state, next, inputs, outputs, log, entries)
+        } else {
+            by_rule(op, w, state, next, memory, entries)
+        }
     }
 }

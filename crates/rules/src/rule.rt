@@ -1,8 +1,8 @@
 // The rules, one for each opcode: they read the state before the step and change `next`, where PC+2 and the count are done.
 ghost use mathlib.Core.Path.{_≡_};
 ghost use lib.ListN.{length, getD};
-ghost use Rattle.word.specs.Fields.{f-of, N8};
-ghost use Rattle.word.specs.Word.{operation, comparison, clear0};
+ghost use Rattle.word.specs.Fields.{f-of, N6, N8};
+ghost use Rattle.word.specs.Word.{add, clear0, SE, operation, comparison};
 ghost use Rattle.muldiv.specs.Muldiv.{muldiv};
 ghost use Rattle.machine.specs.Machine.{putR, putWord, putByte};
 ghost use Rattle.machine.specs.Step.{d5-3, d8-6, d11-9};
@@ -15,14 +15,16 @@ use machine::State;
 pub fn operated(w: u16, state: State, next: State) -> State
     ensures { λ r. ⌜ r ≡ putR (d5-3 w) (operation (f-of w) (raOf w state) (rbOf w state)) next ⌝ }
 {
-    next.with_register(w / 8, word::operate(w % 8, state.ra(w), state.rb(w)))
+    let p = state.sources(w);
+    next.with_register(w / 8, word::operate(w % 8, p.x, p.y))
 }
 
 // Opcode 1.
 pub fn compared(w: u16, state: State, next: State) -> State
     ensures { λ r. ⌜ r ≡ putR (d5-3 w) (comparison (f-of w) (raOf w state) (rbOf w state)) next ⌝ }
 {
-    next.with_register(w / 8, word::compare(w % 8, state.ra(w), state.rb(w)))
+    let p = state.sources(w);
+    next.with_register(w / 8, word::compare(w % 8, p.x, p.y))
 }
 
 // DIV or DIVU, and Rb is zero.
@@ -40,21 +42,22 @@ pub fn divides_by_zero(w: u16, state: State) -> bool
 pub fn multiplied(w: u16, state: State, next: State) -> State
     ensures { λ r. ⌜ r ≡ putR (d5-3 w) (muldiv (f-of w) (raOf w state) (rbOf w state)) next ⌝ }
 {
-    next.with_register(w / 8, muldiv::compute(w % 8, state.ra(w), state.rb(w)))
+    let p = state.sources(w);
+    next.with_register(w / 8, muldiv::compute(w % 8, p.x, p.y))
 }
 
-// Ra+SE(N6): ADDI's result, and the address of a load or a store.
-fn sum(w: u16, state: State) -> u16
-    ensures { λ r. ⌜ r ≡ sumOf w state ⌝ }
+// Ra+SE(N6): ADDI's result, and the address of a load or a store. x is Ra.
+fn sum(w: u16, x: u16) -> u16
+    ensures { λ r. ⌜ r ≡ add x (SE 6 (N6 w)) ⌝ }
 {
-    word::sum(state.ra(w), word::extend6(w))
+    word::sum(x, word::extend6(w))
 }
 
 // ADDI.
 pub fn summed(w: u16, state: State, next: State) -> State
     ensures { λ r. ⌜ r ≡ putR (d8-6 w) (sumOf w state) next ⌝ }
 {
-    next.with_register(w / 64, sum(w, state))
+    next.with_register(w / 64, sum(w, state.ra(w)))
 }
 
 // LD.
@@ -62,7 +65,7 @@ pub fn load_word(w: u16, state: State, next: State, memory: &[u8]) -> State
     requires { ⌜ length (now memory) ≡ 65536 ⌝ }
     ensures { λ r. ⌜ r ≡ putR (d8-6 w) (wordOf w state (now (memory .entry))) next ⌝ }
 {
-    next.with_register(w / 64, bus::load_word(memory, Address(sum(w, state))))
+    next.with_register(w / 64, bus::load_word(memory, Address(sum(w, state.ra(w)))))
 }
 
 // ST.
@@ -70,7 +73,8 @@ pub fn store_word(w: u16, state: State, memory: &mut [u8])
     requires { ⌜ length (now memory) ≡ 65536 ⌝ }
     ensures { λ _. ⌜ now (memory .exit) ≡ putWord (clear0 (sumOf w state)) (rbOf w state) (now (memory .entry)) ⌝ }
 {
-    bus::store_word(memory, Address(sum(w, state)), state.rb(w));
+    let p = state.sources(w);
+    bus::store_word(memory, Address(sum(w, p.x)), p.y);
 }
 
 // LDB.
@@ -78,7 +82,7 @@ pub fn load_byte(w: u16, state: State, next: State, memory: &[u8]) -> State
     requires { ⌜ length (now memory) ≡ 65536 ⌝ }
     ensures { λ r. ⌜ r ≡ putR (d8-6 w) (byteOf w state (now (memory .entry))) next ⌝ }
 {
-    let byte = bus::load_byte(memory, Address(sum(w, state)));
+    let byte = bus::load_byte(memory, Address(sum(w, state.ra(w))));
     next.with_register(w / 64, word::extend8(byte))
 }
 
@@ -87,7 +91,8 @@ pub fn store_byte(w: u16, state: State, memory: &mut [u8])
     requires { ⌜ length (now memory) ≡ 65536 ⌝ }
     ensures { λ _. ⌜ now (memory .exit) ≡ putByte (sumOf w state) (rbOf w state) (now (memory .entry)) ⌝ }
 {
-    bus::store_byte(memory, Address(sum(w, state)), state.rb(w));
+    let p = state.sources(w);
+    bus::store_byte(memory, Address(sum(w, p.x)), p.y);
 }
 
 // JALR. Ra is read before the link is written, so from the state before the step.

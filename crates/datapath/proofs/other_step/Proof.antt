@@ -1,15 +1,27 @@
 -- By the group.
 -- Assumes nothing.
 use mathlib.Core.Path.{_≡_, sym, ap, _∙_}
+use Prim.Native.Nat.{ℕ, _≤_}
 use borrow.Author.Needs.{needs}
+use lib.ListN.{length}
 use Rattle.word.specs.Fields.{b-of}
+use Rattle.machine.specs.declared.State.{State}
+use Rattle.machine.specs.declared.Stepped.{Stepped}
 use Rattle.machine.specs.Machine.{R}
-use Rattle.control.specs.Control.{storedData}
-use Rattle.machine.proofs.Answers.{answered}
+use Rattle.machine.specs.Held.{Held}
+use Rattle.control.specs.Control.{writesPort, storedData, controlStep}
+use Rattle.machine.proofs.Answers.{Leaves, answered}
 use Rattle.datapath.proofs.Done.{data-done}
-use Rattle.datapath.proofs.Together.{store-group, jump-group}
+use Rattle.datapath.proofs.Together.{Moved, store-group, jump-group, link-group}
 use Rattle.datapath.proofs.other_step.Statement.{statement}
 use Rattle.datapath.proofs.other_step.Tie as tie
+
+-- a step in a group with no store
+moved-done : (c w : ℕ) (h : Held) {t after : State} (r : Stepped) → h .entries ≤ length (h .log) → r ≡ record { stop = 0; state = t; entries = h .entries } → t ≡ after
+    → Moved c w (h .state) after
+    → Leaves (controlStep c w) (writesPort c) h r (h .D) (h .I) (h .O) (h .log)
+moved-done c w h r filled er et g =
+    answered r _ er (data-done c w h (g .is-assigned) (g .no-zero) filled (g .no-port) (et ∙ sym (g .state _ _)) (sym (g .no-store _)))
 
 returns : tie.Need-returns
 returns c =
@@ -28,10 +40,16 @@ returns-2 c =
     let t = c .before .before in
     let start = t .before .before .before .before .before .before .before .before in
     let a = start .args in
-    let g = jump-group (a .control) (a .w) (a .state) (sym (t .before .is-jump .ensures) ∙ t .if2 .taken) in
-    answered (c .done2 .result) _ (c .done2 .ensures)
-    (data-done (a .control) (a .w) _ (g .is-assigned) (g .no-zero) (start .pre .filled) (g .no-port)
-    (c .before .jump .ensures ∙ sym (g .state _ _)) (sym (g .no-store _)))
+    moved-done (a .control) (a .w) _ (c .done2 .result) (start .pre .filled) (c .done2 .ensures) (c .before .jump .ensures)
+    (jump-group (a .control) (a .w) (a .state) (sym (t .before .is-jump .ensures) ∙ t .if2 .taken))
+
+returns-3 : tie.Need-returns-3
+returns-3 c =
+    let t = c .before .before in
+    let start = t .before .before .before .before .before .before .before .before .before .before in
+    let a = start .args in
+    moved-done (a .control) (a .w) _ (c .done3 .result) (start .pre .filled) (c .done3 .ensures) (c .before .link .ensures)
+    (link-group (a .control) (a .w) (a .state) (sym (t .before .is-link .ensures) ∙ t .if3 .taken))
 
 pub other-step-spec : {M : Type 1} → statement M
 other-step-spec =
@@ -45,9 +63,13 @@ other-step-spec =
     (λ c κs. search needs)
     (λ c κs. search needs)
     (λ c κs. search needs)
+    (λ c κs. search needs)
+    (λ c κs. search needs)
+    (λ c κs. search needs)
     (λ c. search needs)
     returns
     returns-2
+    returns-3
     (λ c. search needs)
     (λ c. search needs)
     (λ c. search needs)

@@ -1,10 +1,8 @@
 -- The parts put together.
 -- Assumes nothing.
-use mathlib.Core.Path.{_≡_, sym, ap, ap₂, _∙_}
-use native.Mathlib.Omega.{arith}
+use mathlib.Core.Path.{ap, ap₂, _∙_}
 use borrow.Author.Needs.{needs}
-use lib.ListN.{length, length-set}
-use Rattle.machine.specs.Machine.{putPC, count}
+use Rattle.machine.specs.Machine.{putPC}
 use Rattle.control.specs.Control.{unit, result, next, storedData, written}
 use Rattle.machine.proofs.Answers.{answered}
 use Rattle.datapath.proofs.Done.{fields-done, free-place}
@@ -13,7 +11,7 @@ use Rattle.datapath.proofs.performed.Tie as tie
 
 store-port-requires : tie.Need-store-port-requires
 store-port-requires c κs =
-    let start = c .before .before .before .before .before .before .before .before .before .before .before .before .before .before .before .before .before .before .before .before in
+    let start = c .before .before .before .before .before .before .before .before .before .before .before .before .before .before .before .before .before .before .before in
     (start .pre .0 .outputs, free-place (start .args .control) (start .args .w) (start .args .state) _ _ (start .pre .1))
 
 returns : tie.Need-returns
@@ -27,10 +25,10 @@ returns c =
     let choosing = following .before in
     let computing = choosing .before .before .before in
     let reading = computing .before in
-    let start = reading .before .before .before .before .before .before in
+    let start = reading .before .before .before .before .before in
     let a = start .args in
-    let ex = reading .before .ra .ensures in
-    let ey = reading .rb .ensures in
+    let ex = reading .sources .ensures .0 in
+    let ey = reading .sources .ensures .1 in
     let eu = computing .unit-result .ensures ∙ ap₂ (unit (a .control) (a .w)) ex ey in
     let ev = choosing .chosen-result .ensures ∙ ap (λ u. result (a .control) (a .w) u (a .state .pc) (a .memory .now) (a .inputs .now)) eu in
     let en = following .next-pc .ensures ∙ ap (λ x. next (a .control) (a .w) x (a .state .pc)) ex in
@@ -52,8 +50,7 @@ performed-spec =
     (λ c κs. search needs)
     (λ c κs. search needs)
     (λ c κs. search needs)
-    (λ c κs. search needs)
-    (λ c κs. c .before .before .before .before .before .before .before .before .before .before .before .before .before .before .before .pre .0 .memory)
+    (λ c κs. c .before .before .before .before .before .before .before .before .before .before .before .before .before .before .pre .0 .memory)
     store-port-requires
     (λ c κs. search needs)
     (λ c. search needs)

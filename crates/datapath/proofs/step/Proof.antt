@@ -1,6 +1,6 @@
 -- By the group.
 -- Assumes nothing.
-use mathlib.Core.Path.{_≡_, sym, _∙_}
+use mathlib.Core.Path.{sym, _∙_}
 use borrow.Author.Needs.{needs}
 use Rattle.datapath.proofs.Done.{result-done}
 use Rattle.datapath.proofs.Together.{result-group}
@@ -19,7 +19,7 @@ returns c =
     let start = t .before .before .before .before .before .before in
     let a = start .args in
     let g = result-group (a .control) (a .w) (a .state) (sym (t .before .is-result .ensures) ∙ t .if1 .taken) in
-    result-done (a .control) (a .w) _ (start .pre .filled) (g .no-port) (g .no-store _) (c .result-step .result) (c .result-step .ensures)
+    result-done (a .control) (a .w) _ (start .pre .filled) (g .no-port) (g .no-store _) (g .on) (c .result-step .result) (c .result-step .ensures)
 
 pub step-spec : {M : Type 1} → statement M
 step-spec =

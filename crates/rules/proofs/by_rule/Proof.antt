@@ -3,98 +3,85 @@
 use mathlib.Core.Path.{refl, _∙_}
 use native.Mathlib.Omega.{arith}
 use borrow.Author.Needs.{needs}
-use Rattle.word.specs.Fields.{f-of}
-use Rattle.word.specs.Word.{clear0, operation}
-use Rattle.word.proofs.Tables.{past}
+use Rattle.word.specs.Word.{clear0}
 use Rattle.machine.specs.Machine.{putWord, putByte}
-use Rattle.machine.specs.Step.{d5-3, d8-6, d11-9, compute, addi, ld, st, ldb, stb, jalr}
-use Rattle.rules.specs.Parts.{raOf, rbOf, sumOf, wordOf, byteOf, linkOf, branchOf, moveOf}
-use Rattle.rules.proofs.Choices.{chosen, past-11}
+use Rattle.machine.specs.Step.{d8-6, d11-9, addi, ld, st, ldb, stb, jalr}
+use Rattle.rules.specs.Parts.{rbOf, sumOf, wordOf, byteOf, linkOf, branchOf, moveOf}
+use Rattle.rules.proofs.Choices.{past-from, chosen, past-11}
 use Rattle.rules.proofs.Effects.{wrote, stored, jumped, stopped, moves, branches}
 use Rattle.rules.proofs.by_rule.Statement.{statement}
 use Rattle.rules.proofs.by_rule.Tie as tie
 
 returns : tie.Need-returns
-unfolding compute
+unfolding addi
 returns c =
     let start = c .before .before .before .before in
     let w = start .args .w in
-    wrote compute (chosen 0 w (start .fits .w .fits) (start .pre .0 .opcode ∙ c .before .before .match .keys1)) (start .pre .0 .advanced)
-    (d5-3 w) (λ s D. operation (f-of w) (raOf w s) (rbOf w s)) (λ m. refl) (c .before .operated .ensures) (c .done .ensures)
+    wrote addi (chosen 2 w (start .fits .w .fits) (start .pre .0 .opcode ∙ c .before .before .match .keys1)) (start .pre .0 .advanced)
+    (d8-6 w) (λ s D. sumOf w s) (λ m. refl) (c .before .summed .ensures) (c .done .ensures)
 
 returns-2 : tie.Need-returns-2
-returns-2 c = c .comparison .ensures _
+unfolding ld
+returns-2 c =
+    let start = c .before .before .before .before .before in
+    let w = start .args .w in
+    wrote ld (chosen 3 w (start .fits .w .fits) (start .pre .0 .opcode ∙ c .before .before .before .match .keys2)) (start .pre .0 .advanced)
+    (d8-6 w) (wordOf w) (λ m. refl) (c .before .load-word .ensures) (c .done2 .ensures)
 
 returns-3 : tie.Need-returns-3
-unfolding addi
+unfolding st
 returns-3 c =
-    let start = c .before .before .before .before in
+    let start = c .before .before .before .before .before .before .before in
     let w = start .args .w in
-    wrote addi (chosen 2 w (start .fits .w .fits) (start .pre .0 .opcode ∙ c .before .before .match .keys3)) (start .pre .0 .advanced)
-    (d8-6 w) (λ s D. sumOf w s) (λ m. refl) (c .before .summed .ensures) (c .done2 .ensures)
+    stored st (chosen 4 w (start .fits .w .fits) (start .pre .0 .opcode ∙ c .before .before .before .before .before .match .keys3)) (start .pre .0 .advanced)
+    (λ s D. putWord (clear0 (sumOf w s)) (rbOf w s) D) (λ m. refl) (c .before .before .before .store-word .ensures) (c .done3 .ensures)
 
 returns-4 : tie.Need-returns-4
-unfolding ld
+unfolding ldb
 returns-4 c =
     let start = c .before .before .before .before .before in
     let w = start .args .w in
-    wrote ld (chosen 3 w (start .fits .w .fits) (start .pre .0 .opcode ∙ c .before .before .before .match .keys4)) (start .pre .0 .advanced)
-    (d8-6 w) (wordOf w) (λ m. refl) (c .before .load-word .ensures) (c .done3 .ensures)
+    wrote ldb (chosen 5 w (start .fits .w .fits) (start .pre .0 .opcode ∙ c .before .before .before .match .keys4)) (start .pre .0 .advanced)
+    (d8-6 w) (byteOf w) (λ m. refl) (c .before .load-byte .ensures) (c .done4 .ensures)
 
 returns-5 : tie.Need-returns-5
-unfolding st
+unfolding stb
 returns-5 c =
     let start = c .before .before .before .before .before .before .before in
     let w = start .args .w in
-    stored st (chosen 4 w (start .fits .w .fits) (start .pre .0 .opcode ∙ c .before .before .before .before .before .match .keys5)) (start .pre .0 .advanced)
-    (λ s D. putWord (clear0 (sumOf w s)) (rbOf w s) D) (λ m. refl) (c .before .before .before .store-word .ensures) (c .done4 .ensures)
+    stored stb (chosen 6 w (start .fits .w .fits) (start .pre .0 .opcode ∙ c .before .before .before .before .before .match .keys5)) (start .pre .0 .advanced)
+    (λ s D. putByte (sumOf w s) (rbOf w s) D) (λ m. refl) (c .before .before .before .store-byte .ensures) (c .done5 .ensures)
 
 returns-6 : tie.Need-returns-6
-unfolding ldb
+unfolding jalr
 returns-6 c =
-    let start = c .before .before .before .before .before in
+    let start = c .before .before .before .before in
     let w = start .args .w in
-    wrote ldb (chosen 5 w (start .fits .w .fits) (start .pre .0 .opcode ∙ c .before .before .before .match .keys6)) (start .pre .0 .advanced)
-    (d8-6 w) (byteOf w) (λ m. refl) (c .before .load-byte .ensures) (c .done5 .ensures)
+    jumped jalr (chosen 7 w (start .fits .w .fits) (start .pre .0 .opcode ∙ c .before .before .match .keys6)) (start .pre .0 .advanced)
+    (linkOf w) (λ m. refl) (c .before .link .ensures) (c .done6 .ensures)
 
 returns-7 : tie.Need-returns-7
-unfolding stb
 returns-7 c =
-    let start = c .before .before .before .before .before .before .before in
+    let start = c .before .before .before .before in
     let w = start .args .w in
-    stored stb (chosen 6 w (start .fits .w .fits) (start .pre .0 .opcode ∙ c .before .before .before .before .before .match .keys7)) (start .pre .0 .advanced)
-    (λ s D. putByte (sumOf w s) (rbOf w s) D) (λ m. refl) (c .before .before .before .store-byte .ensures) (c .done6 .ensures)
+    jumped _ (chosen 8 w (start .fits .w .fits) (start .pre .0 .opcode ∙ c .before .before .match .keys7)) (start .pre .0 .advanced)
+    (branchOf w) (branches w) (c .before .branch .ensures) (c .done7 .ensures)
 
 returns-8 : tie.Need-returns-8
-unfolding jalr
 returns-8 c =
     let start = c .before .before .before .before in
     let w = start .args .w in
-    jumped jalr (chosen 7 w (start .fits .w .fits) (start .pre .0 .opcode ∙ c .before .before .match .keys8)) (start .pre .0 .advanced)
-    (linkOf w) (λ m. refl) (c .before .link .ensures) (c .done7 .ensures)
+    wrote _ (chosen 9 w (start .fits .w .fits) (start .pre .0 .opcode ∙ c .before .before .match .keys8)) (start .pre .0 .advanced)
+    (d11-9 w) (λ s D. moveOf w s) (moves w) (c .before .moved .ensures) (c .done8 .ensures)
 
 returns-9 : tie.Need-returns-9
-returns-9 c =
-    let start = c .before .before .before .before in
-    let w = start .args .w in
-    jumped _ (chosen 8 w (start .fits .w .fits) (start .pre .0 .opcode ∙ c .before .before .match .keys9)) (start .pre .0 .advanced)
-    (branchOf w) (branches w) (c .before .branch .ensures) (c .done8 .ensures)
+returns-9 c = c .product .ensures _
 
 returns-10 : tie.Need-returns-10
 returns-10 c =
-    let start = c .before .before .before .before in
-    let w = start .args .w in
-    wrote _ (chosen 9 w (start .fits .w .fits) (start .pre .0 .opcode ∙ c .before .before .match .keys10)) (start .pre .0 .advanced)
-    (d11-9 w) (λ s D. moveOf w s) (moves w) (c .before .moved .ensures) (c .done9 .ensures)
-
-returns-11 : tie.Need-returns-11
-returns-11 c = c .product .ensures _
-
-returns-12 : tie.Need-returns-12
-returns-12 c =
     let start = c .before .before .before in
     let w = start .args .w in
-    stopped (past-11 _ w (start .fits .w .fits) (start .pre .0 .opcode) (omega (arith, past 10 _ (c .before .match .rest .0), c .before .match .rest .1, start .pre .1))) (c .stopped .ensures)
+    stopped (past-11 _ w (start .fits .w .fits) (start .pre .0 .opcode) (omega (arith, past-from 2 8 (start .args .op) (start .pre .1 .0 .0) (c .before .match .rest .0), c .before .match .rest .1, start .pre .1 .0 .1))) (c .stopped .ensures)
 
 pub by-rule-spec : {M : Type 1} → statement M
 by-rule-spec =
@@ -118,22 +105,17 @@ by-rule-spec =
     (λ c κs. search needs)
     (λ c κs. search needs)
     (λ c κs. search needs)
-    (λ c κs. search needs)
-    (λ c κs. search needs)
-    (λ c κs. search needs)
     returns
+    (λ c. search needs)
     returns-2
+    (λ c. search needs)
     returns-3
     (λ c. search needs)
     returns-4
     (λ c. search needs)
     returns-5
-    (λ c. search needs)
     returns-6
-    (λ c. search needs)
     returns-7
     returns-8
     returns-9
-    returns-10
-    returns-11
-    returns-12)
+    returns-10)

@@ -8,15 +8,15 @@ use Rattle.rules.proofs.rule.compared.Tie as tie
 
 returns : tie.Need-returns
 returns c =
-    let start = c .before .before .before .before .args in
+    let start = c .before .before .before .args in
+    let p = c .before .before .sources .ensures in
     written-by-f comparison (start .w) (start .state) (start .next) (c .with-register .ensures)
-    (c .before .compare .ensures) (c .before .before .before .ra .ensures) (c .before .before .rb .ensures)
+    (c .before .compare .ensures) (p .0) (p .1)
 
 pub compared-spec : {M : Type 1} → statement M
 compared-spec =
     tie.close
     (tie.spec
-    (λ c κs. search needs)
     (λ c κs. search needs)
     (λ c κs. search needs)
     (λ c κs. search needs)

@@ -5,15 +5,17 @@ use borrow.Author.Needs.{needs}
 use denote.Ref.{now}
 use Rattle.word.specs.Word.{clear0}
 use Rattle.machine.specs.Machine.{putWord}
+use Rattle.rules.proofs.Values.{sum-is}
 use Rattle.rules.proofs.rule.store_word.Statement.{statement}
 use Rattle.rules.proofs.rule.store_word.Tie as tie
 
 returns : tie.Need-returns
 returns c =
     let stored = c .before .before in
-    let at = stored .before .before .sum in
-    let v = stored .before .rb in
-    stored .store-word .ensures ∙ (λ i. putWord (clear0 (at .ensures i)) (v .ensures i) (now (stored .before .before .before .before .before .args .memory)))
+    let p = stored .before .before .before .sources .ensures in
+    let start = stored .before .before .before .before .before .args in
+    let at = sum-is (start .w) (start .state) (stored .before .sum .ensures) (p .0) in
+    stored .store-word .ensures ∙ (λ i. putWord (clear0 (at i)) (p .1 i) (now (start .memory)))
 
 pub store-word-spec : {M : Type 1} → statement M
 store-word-spec =
