@@ -7,7 +7,7 @@ use Prim.Native.Nat.{ℕ, suc, _+_, _-_, _%_, _<_, _≤_}
 use native.Mathlib.Nat.{sub-zero, zero-add}
 use native.Mathlib.Omega.{arith}
 use lib.Dec.{leb}
-use lib.ListN.{length, take, drop, take-append-drop}
+use lib.ListN.{length, getD, take, drop, take-append-drop}
 use lib.Seq.{length-take-le, drop-drop}
 use Rattle.word.proofs.Tests.{never}
 use Rattle.machine.specs.Machine.{Machine, wordAt}
@@ -17,12 +17,16 @@ use Rattle.machine.specs.Held.{Held, machineOf, isFull, Ready, outcomeOf, StepM
 use Rattle.machine.proofs.Runs.{Lawful, run-none, trace-none, run-stops, trace-stops, run-goes}
 use Rattle.isa.specs.Masks.{masksOf}
 use Rattle.usage.specs.declared.Usage.{Usage}
-use Rattle.usage.specs.Usage.{wordIs, counted, unused, usageOf, plusUsage, Countable}
-use Rattle.usage.proofs.Sums.{counted-plus, Sized, unused-sized, counted-sized, trace-sized, plus-unused, unused-plus, AtMost, counted-most, unused-most, countable}
+use Rattle.usage.specs.Usage.{wordIs, counted, unused, usageOf, plusUsage}
+use Rattle.usage.specs.Counting.{Countable}
+use Rattle.places.specs.Places.{tallied, Cleared}
+use Rattle.places.proofs.Tallied.{tallied-sized, tallied-none}
+use Rattle.usage.proofs.Sums.{counted-plus, Sized, trace-sized, plus-unused, unused-plus, countable}
 use Rattle.control.specs.Control.{controlIn, controlStep, writesPort}
 use Rattle.control.proofs.Laws.{lawful-control, lawful-rules}
 use Rattle.run.specs.Runs.{Given, Left, left, stopped, machineAt, acceptedLeft, CountedLeft, acceptedCounted}
 use Rattle.cycle.specs.Loops.{CanRun, chosen, stepOf, writesOf}
+use Rattle.cycle.proofs.Counts.{Counting, counting-starts, Counts}
 
 -- what is held at the start of a run
 abbrev pub startOf : Given → Held
@@ -43,7 +47,7 @@ countsOf v g = usageOf (trace v (g .budget) (length (g .log)) (machineAt g))
 abbrev restOf : Stepper → Given → Held → ℕ → List Machine
 restOf v g h left = traceFrom v left (length (g .log)) (machineOf (g .P) h)
 
-pub record Going (v : Stepper) (g : Given) (h : Held) (steps : ℕ) (u : Usage) : Type 0 where
+pub record Going (v : Stepper) (g : Given) (lent : List ℕ) (h : Held) (steps : ℕ) (places : List ℕ) (u : Usage) : Type 0 where
   pub program : length (g .P) ≡ 65536
   pub memory : length (h .D) ≡ 65536
   pub inputs : length (h .I) ≡ 256
@@ -59,12 +63,11 @@ pub record Going (v : Stepper) (g : Given) (h : Held) (steps : ℕ) (u : Usage) 
   pub counts : g .state .n + g .budget ≤ 4294967295
   pub rest : drop (h .entries) (h .log) ≡ drop (h .entries) (g .log)
   pub same : runFrom v (g .budget - steps) (length (g .log)) (machineOf (g .P) h) ≡ run v (g .budget) (length (g .log)) (machineAt g)
-  pub few : AtMost steps u
-  pub sized : Sized u
-  pub tallied : plusUsage u (usageOf (restOf v g h (g .budget - steps))) ≡ countsOf v g
+  pub counting : Counting lent places u steps
+  pub summed : plusUsage (tallied places u) (usageOf (restOf v g h (g .budget - steps))) ≡ countsOf v g
 
-pub start : (v : Stepper) (g : Given) → CanRun g → Going v g (startOf g) 0 unused
-start v g c =
+pub start : (v : Stepper) (g : Given) (lent : List ℕ) → Cleared lent → CanRun g → Going v g lent (startOf g) 0 lent unused
+start v g lent none c =
     record {
       program = c .program;
       memory = c .memory;
@@ -81,9 +84,8 @@ start v g c =
       counts = c .counts;
       rest = refl;
       same = rw (sub-zero (g .budget), zero-add (length (g .log)));
-      few = unused-most;
-      sized = unused-sized;
-      tallied = rw (sub-zero (g .budget), zero-add (length (g .log))) (unused-plus (trace-sized _));
+      counting = counting-starts lent none;
+      summed = rw (tallied-none lent none, sub-zero (g .budget), zero-add (length (g .log))) (unused-plus (trace-sized _));
     }
 
 -- logs that are alike past k are alike past any later place
@@ -155,17 +157,21 @@ turned m w u {rest = rest} f e c =
 both-parts : (v : Stepper) (g : Given) {l : Left} {u : Usage} → l ≡ acceptedLeft v g → u ≡ countsOf v g → record { left = l; usage = u } ≡ acceptedCounted v g
 both-parts v g p q = λ i. record { left = p i; usage = q i }
 
-module _ (t : Bool) (words : List ℕ) {g : Given} {h : Held} {steps : ℕ} {u : Usage} (v : Going (chosen t words) g h steps u) where
-  pub ends-budget : g .budget ≤ steps → reported g 0 steps h u ≡ acceptedCounted (chosen t words) g
+module _ (t : Bool) (words : List ℕ) {g : Given} {lent : List ℕ} {h : Held} {steps : ℕ} (places : List ℕ) {u : Usage} (v : Going (chosen t words) g lent h steps places u) where
+  pub ends-budget : g .budget ≤ steps → reported g 0 steps h (tallied places u) ≡ acceptedCounted (chosen t words) g
   ends-budget b =
       let z : g .budget - steps ≡ 0 = omega arith in
       both-parts (chosen t words) g
       (ends (chosen t words) g h 0 steps (v .filled) (v .rest) (v .counted) (sym (v .same) ∙ rw z (run-none (chosen t words) _ (hereOf g h))))
-      (counted-out (chosen t words) g h (g .budget - steps) u (v .sized) (rw z (trace-none (chosen t words) _ (hereOf g h))) (v .tallied))
+      (counted-out (chosen t words) g h (g .budget - steps) (tallied places u) (tallied-sized places u (v .counting .sized)) (rw z (trace-none (chosen t words) _ (hereOf g h))) (v .summed))
 
   -- no counter is at its limit
   pub room : steps < g .budget → Countable u
-  room b = countable (omega arith) (v .few)
+  room b = countable (omega arith) (v .counting .few)
+
+  -- nor is a place's
+  pub place-room : steps < g .budget → (k : ℕ) → getD places k 0 + 1 ≤ 4294967295
+  place-room b k = omega (arith, v .counting .each k)
 
   pub ready : steps < g .budget → Ready h
   ready b = record { counts = omega arith; memory = v .memory; inputs = v .inputs; outputs = v .outputs; filled = v .filled }
@@ -190,11 +196,11 @@ module _ (t : Bool) (words : List ℕ) {g : Given} {h : Held} {steps : ℕ} {u :
     filled-after : length (machineOf (g .P) after .L) ≡ after .entries
     filled-after = entries-are (g .P) after (met .filled)
 
-    counts-here : plusUsage u (usageOf (restOf (chosen t words) g h (suc (g .budget - (steps + 1))))) ≡ countsOf (chosen t words) g
-    counts-here = rw one-left at (v .tallied)
+    counts-here : plusUsage (tallied places u) (usageOf (restOf (chosen t words) g h (suc (g .budget - (steps + 1))))) ≡ countsOf (chosen t words) g
+    counts-here = rw one-left at (v .summed)
 
     -- the step was not made
-    pub ends-stopped : (stop ≡ 0 → ⊥) → reported g stop steps after u ≡ acceptedCounted (chosen t words) g
+    pub ends-stopped : (stop ≡ 0 → ⊥) → reported g stop steps after (tallied places u) ≡ acceptedCounted (chosen t words) g
     ends-stopped n =
         let same = stays (hereOf g h) (machineOf (g .P) after) stop (unless (noPlace (chosen t words) (length (g .log)) (hereOf g h)) (chosen t words .steps (hereOf g h))) n outcome in
         let entries : h .entries ≡ after .entries = sym (entries-are (g .P) h (v .filled)) ∙ ap (λ (m : Machine). length (m .L)) same ∙ filled-after in
@@ -203,12 +209,12 @@ module _ (t : Bool) (words : List ℕ) {g : Given} {h : Held} {steps : ℕ} {u :
         (ends (chosen t words) g after stop steps (met .filled)
         (met .rest ∙ further (h .entries) (after .entries) (h .log) (g .log) (omega arith) (v .rest)) (omega arith)
         (sym from-here ∙ run-stops (chosen t words) _ _ (hereOf g h) stop outcome n))
-        (counted-out (chosen t words) g h _ u (v .sized) (trace-stops (chosen t words) _ _ (hereOf g h) stop outcome n) counts-here)
+        (counted-out (chosen t words) g h _ (tallied places u) (tallied-sized places u (v .counting .sized)) (trace-stops (chosen t words) _ _ (hereOf g h) stop outcome n) counts-here)
 
     -- the step was made, and counted
-    pub turns : {next : Usage} → stop ≡ 0 → next ≡ counted (wordIs w) (masksOf w) u
+    pub turns : {places' : List ℕ} {u' : Usage} → stop ≡ 0 → Counts w lent places u steps places' u'
         → length (after .D) ≡ length (h .D) → length (after .I) ≡ length (h .I) → length (after .O) ≡ length (h .O) → length (after .log) ≡ length (h .log)
-        → Going (chosen t words) g after (steps + 1) next
+        → Going (chosen t words) g lent after (steps + 1) places' u'
     turns z c d i o l =
         let law = lawful t words in
         let goes = run-goes (chosen t words) (g .budget - (steps + 1)) (length (g .log)) (hereOf g h) law (outcome ∙ ap (λ q. record { reason = q; after = machineOf (g .P) after }) z) in
@@ -229,7 +235,6 @@ module _ (t : Bool) (words : List ℕ) {g : Given} {h : Held} {steps : ℕ} {u :
           counts = v .counts;
           rest = met .rest ∙ further (h .entries) (after .entries) (h .log) (g .log) more (v .rest);
           same = sym (goes .on) ∙ from-here;
-          few = rw c (counted-most _ _ (v .few));
-          sized = rw c (counted-sized _ _ (v .sized));
-          tallied = rw c (turned (hereOf g h) w u fetches (goes .traces) counts-here);
+          counting = c .counting;
+          summed = rw (c .one) (turned (hereOf g h) w (tallied places u) fetches (goes .traces) counts-here);
         }

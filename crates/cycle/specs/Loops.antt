@@ -9,9 +9,10 @@ use Rattle.machine.specs.Step.{choice, stepBy, Next}
 use Rattle.machine.specs.Run.{Stepper, isOut, byRules}
 use Rattle.control.specs.Control.{controlIn, controlStep, writesPort, byControl}
 use Rattle.machine.specs.declared.State.{State}
-use Rattle.machine.specs.Slices.{Slice}
+use Rattle.machine.specs.Slices.{Slice, after}
+use Rattle.places.specs.Places.{tallied}
 use Rattle.run.specs.declared.Counted.{Counted}
-use Rattle.run.specs.Runs.{Given, CountedLeft, lentTo, leftWith, acceptedCounted}
+use Rattle.run.specs.Runs.{Given, CountedLeft, CountedMeets, lentTo, leftWith, acceptedCounted}
 
 -- what the loop of an accepted run needs, which the refusals leave
 pub record CanRun (g : Given) : Type 0 where
@@ -36,8 +37,17 @@ abbrev pub writesOf : Bool → List ℕ → ℕ → Bool
 writesOf true words w = writesPort (controlIn words w)
 writesOf false words w = isOut w
 
+-- what a run leaves with its reply, where its counts are those replied or, where places are lent, what is counted there
+abbrev pub leftTallied : Slice → Slice → Slice → Slice → Slice → Slice → Counted → CountedLeft
+leftTallied program memory inputs outputs log counts r =
+    record { left = leftWith program memory inputs outputs log (r .answer) (r .state); usage = tallied (after counts) (r .usage) }
+
 -- the contract of the loop of an accepted run
-abbrev pub RunsAccepted : Stepper → State → Slice → Slice → Slice → Slice → ℕ → Slice → Counted → Type 0
-RunsAccepted v start program memory inputs outputs budget log r =
-    _≡_ {A = CountedLeft} (record { left = leftWith program memory inputs outputs log (r .answer) (r .state); usage = r .usage })
-    (acceptedCounted v (lentTo start program memory inputs outputs budget log))
+abbrev pub RunsAccepted : Stepper → State → Slice → Slice → Slice → Slice → ℕ → Slice → Slice → Counted → Type 0
+RunsAccepted v start program memory inputs outputs budget log counts r =
+    leftTallied program memory inputs outputs log counts r ≡ acceptedCounted v (lentTo start program memory inputs outputs budget log)
+
+-- that of a run with its refusals
+abbrev pub RunsTallied : Stepper → State → Slice → Slice → Slice → Slice → ℕ → Slice → Slice → Counted → Type 0
+RunsTallied v state program memory inputs outputs budget log counts r =
+    CountedMeets v (lentTo state program memory inputs outputs budget log) (leftTallied program memory inputs outputs log counts r)

@@ -1,6 +1,7 @@
 // The loop of a run: fetch, step and count.
 ghost use Rattle.machine.specs.Held.{held, Ready, StepsAs};
 ghost use Rattle.run.specs.Runs.{given};
+ghost use Rattle.places.specs.Places.{Cleared};
 ghost use Rattle.cycle.specs.Loops.{CanRun, RunsAccepted, chosen, stepOf, writesOf};
 use machine::State;
 use machine::Stepped;
@@ -32,7 +33,8 @@ fn step(
     }
 }
 
-// The loop of an accepted run, by a table or by the rules. PC stays even.
+// The loop of an accepted run, by a table or by the rules. PC stays even. Where `counts` has all places, a step adds one at its word's
+// place, and usage stays zero.
 pub fn run_accepted(
     by_table: bool,
     table: &[u16; 32],
@@ -43,9 +45,11 @@ pub fn run_accepted(
     outputs: &mut [u16],
     budget: u32,
     log: &mut [u64],
+    counts: &mut [u32],
 ) -> Counted
+    requires { ⌜ Cleared (now counts) ⌝ }
     requires { ⌜ CanRun (given start (now program) (now memory) (now inputs) (now outputs) budget (now log)) ⌝ }
-    ensures { λ r. ⌜ RunsAccepted (chosen «by_table» (now (table .entry))) start program memory inputs outputs budget log r ⌝ }
+    ensures { λ r. ⌜ RunsAccepted (chosen «by_table» (now (table .entry))) start program memory inputs outputs budget log counts r ⌝ }
 {
     let mut state = start;
     let mut steps: u32 = 0;
@@ -83,7 +87,12 @@ pub fn run_accepted(
                 },
             };
         }
-        usage::tally(w, &mut kinds, &mut reads, &mut writes);
+        if places::PLACES <= counts.len() {
+            let at = places::place_of(w);
+            counts[at] += 1;
+        } else {
+            usage::tally(w, &mut kinds, &mut reads, &mut writes);
+        }
         steps = steps + 1;
     }
     Counted {

@@ -1,12 +1,13 @@
 -- What a verdict makes of a run.
 -- Assumes nothing.
-use mathlib.Core.Path.{_≡_, sym, ap, _∙_}
+use mathlib.Core.Path.{_≡_, refl, sym, ap, _∙_}
 use mathlib.Core.Bool.{true, false, _&&_, and-eq-true-iff}
 use mathlib.Core.List.{List}
-use Prim.Native.Nat.{ℕ, _+_, _%_}
+use Prim.Native.Nat.{ℕ, zero, suc, _+_, _%_}
+use native.Mathlib.Omega.{arith}
 use borrow.Author.Tests.{eqb-true, leb-true}
 use lib.Dec.{eqb, leb}
-use lib.ListN.{length}
+use lib.ListN.{length, getD, replicate}
 use Rattle.refusal.specs.Refusals.{accepted, refused}
 use Rattle.word.proofs.Tests.{clash, passed}
 use Rattle.machine.specs.Lengths.{lengthsFit}
@@ -14,7 +15,9 @@ use Rattle.machine.specs.Run.{Stepper}
 use Rattle.control.specs.Control.{table, byControl, byTable}
 use Rattle.usage.specs.declared.Usage.{Usage}
 use Rattle.usage.specs.Usage.{unused}
-use Rattle.run.specs.Runs.{Given, left, run-refused, verdict, verdictOn, CountedLeft, acceptedCounted, countedLeft, CountedMeets}
+use Rattle.run.specs.Runs.{Given, Left, left, run-refused, verdict, verdictOn, CountedLeft, acceptedCounted, countedLeft, CountedMeets}
+use Rattle.places.specs.Places.{folded, tallied}
+use Rattle.places.proofs.Tallied.{at-once, by-place}
 use Rattle.cycle.specs.Loops.{CanRun}
 
 -- what an accepted verdict says
@@ -47,6 +50,20 @@ module _ (v : Stepper) (g : Given) where
   pub run-accepted : {l : CountedLeft} → accepted ≡ verdictOn g → l ≡ acceptedCounted v g → CountedMeets v g l
   unfolding countedLeft
   run-accepted e h = rw (← e) h
+
+-- ---- Its counts, where no places are lent and where all are
+
+module _ (v : Stepper) (g : Given) {l : Left} (counts : List ℕ) (u : Usage) (met : CountedMeets v g (record { left = l; usage = tallied counts u })) where
+  pub counts-short : length counts ≡ 0 → CountedMeets v g (record { left = l; usage = u })
+  counts-short e = ap (λ (x : Usage). record { left = l; usage = x }) (sym (at-once counts u (omega arith))) ∙ met
+
+  pub counts-long : {x : Usage} → length counts ≡ 17408 → x ≡ folded counts → CountedMeets v g (record { left = l; usage = x })
+  counts-long e f = ap (λ (x : Usage). record { left = l; usage = x }) (f ∙ sym (by-place counts u (omega arith))) ∙ met
+
+pub zeros : (n k : ℕ) → getD {A = ℕ} (replicate n 0) k 0 ≡ 0
+zeros zero k = refl
+zeros (suc n) zero = refl
+zeros (suc n) (suc k) = zeros n k
 
 -- a run by a table that is the paper's
 pub by-paper : (words : List ℕ) (g : Given) {l : CountedLeft} → words ≡ table → CountedMeets (byControl words) g l → CountedMeets byTable g l

@@ -2,7 +2,8 @@
 ghost use Rattle.machine.specs.Run.{byRules};
 ghost use Rattle.control.specs.Control.{byControl, byTable};
 ghost use Rattle.run.specs.Runs.{RunsCounted, RunsOnly};
-ghost use Rattle.cycle.specs.Loops.{chosen};
+ghost use Rattle.places.specs.Places.{Cleared};
+ghost use Rattle.cycle.specs.Loops.{chosen, RunsTallied};
 use control::control_table;
 use machine::State;
 use run::Answer;
@@ -10,6 +11,9 @@ use run::Check;
 use run::Counted;
 use run::Ran;
 use usage::Usage;
+
+// From this budget on a run counts by place, with 68 KiB of stack, cleared and folded in some 2 microseconds; below it each step at once.
+const LONG: u32 = 2048;
 
 // A run by a table or by the rules: its refusals, then its loop.
 fn run(
@@ -22,8 +26,10 @@ fn run(
     outputs: &mut [u16],
     budget: u32,
     log: &mut [u64],
+    counts: &mut [u32],
 ) -> Counted
-    ensures { λ r. ⌜ RunsCounted (chosen «by_table» (now (table .entry))) state program memory inputs outputs budget log r ⌝ }
+    requires { ⌜ Cleared (now counts) ⌝ }
+    ensures { λ r. ⌜ RunsTallied (chosen «by_table» (now (table .entry))) state program memory inputs outputs budget log counts r ⌝ }
 {
     match run::checked(state, program, memory, inputs, outputs, budget) {
         Check::Accepted => cycle::run_accepted(
@@ -36,12 +42,50 @@ fn run(
             outputs,
             budget,
             log,
+            counts,
         ),
         Check::Refused(refusal) => Counted {
             state,
             answer: Answer::Refused(refusal),
             usage: Usage::none(),
         },
+    }
+}
+
+// A long run: its steps are counted by place and folded after the loop. (Called at two places, so that its frame is not part of a short
+// run's.)
+fn long(
+    by_table: bool,
+    table: &[u16; 32],
+    state: State,
+    program: &[u8],
+    memory: &mut [u8],
+    inputs: &mut [u16],
+    outputs: &mut [u16],
+    budget: u32,
+    log: &mut [u64],
+) -> Counted
+    ensures { λ r. ⌜ RunsCounted (chosen «by_table» (now (table .entry))) state program memory inputs outputs budget log r ⌝ }
+{
+    let mut counts = [0u32; places::PLACES];
+    let ran = run(
+        by_table,
+        table,
+        state,
+        program,
+        memory,
+        inputs,
+        outputs,
+        budget,
+        log,
+        &mut counts,
+    );
+    let state = ran.state;
+    let answer = ran.answer;
+    Counted {
+        state,
+        answer,
+        usage: places::fold(&counts),
     }
 }
 
@@ -57,17 +101,33 @@ pub fn run_by_rules(
 ) -> Counted
     ensures { λ r. ⌜ RunsCounted byRules state program memory inputs outputs budget log r ⌝ }
 {
-    run(
-        false,
-        &control_table(),
-        state,
-        program,
-        memory,
-        inputs,
-        outputs,
-        budget,
-        log,
-    )
+    if budget < LONG {
+        let mut none = [0u32; 0];
+        run(
+            false,
+            &control_table(),
+            state,
+            program,
+            memory,
+            inputs,
+            outputs,
+            budget,
+            log,
+            &mut none,
+        )
+    } else {
+        long(
+            false,
+            &control_table(),
+            state,
+            program,
+            memory,
+            inputs,
+            outputs,
+            budget,
+            log,
+        )
+    }
 }
 
 // A run by any table of 32 control words. Its counts are not reported.
@@ -83,6 +143,7 @@ pub fn run_by_control(
 ) -> Ran
     ensures { λ r. ⌜ RunsOnly (byControl (now (words .entry))) state program memory inputs outputs budget log r ⌝ }
 {
+    let mut none = [0u32; 0];
     let ran = run(
         true,
         words,
@@ -93,6 +154,7 @@ pub fn run_by_control(
         outputs,
         budget,
         log,
+        &mut none,
     );
     let state = ran.state;
     let answer = ran.answer;
@@ -111,15 +173,31 @@ pub fn run_by_table(
 ) -> Counted
     ensures { λ r. ⌜ RunsCounted byTable state program memory inputs outputs budget log r ⌝ }
 {
-    run(
-        true,
-        &control_table(),
-        state,
-        program,
-        memory,
-        inputs,
-        outputs,
-        budget,
-        log,
-    )
+    if budget < LONG {
+        let mut none = [0u32; 0];
+        run(
+            true,
+            &control_table(),
+            state,
+            program,
+            memory,
+            inputs,
+            outputs,
+            budget,
+            log,
+            &mut none,
+        )
+    } else {
+        long(
+            true,
+            &control_table(),
+            state,
+            program,
+            memory,
+            inputs,
+            outputs,
+            budget,
+            log,
+        )
+    }
 }

@@ -8,7 +8,7 @@ use refusal::Refusal;
 mod layout;
 mod masks;
 mod parts;
-mod rows;
+pub mod rows;
 
 // An instruction: its kind and its parts. A part that the kind does not use is 0.
 pub struct Instruction {

@@ -26,7 +26,7 @@ const E0: [u8; 9] = [13, 14, 15, 16, 17, 18, 19, 21, 23];
 const E1: [u8; 9] = [13, 14, 15, 16, 17, 18, 20, 22, 24];
 
 // The number of a word's kind, or NO.
-fn number_of(w: u16) -> u8
+pub fn number_of(w: u16) -> u8
     ensures { λ r. ⌜ r ≡ entryNumber (kindAt (opcode w) (e-of w) (f-of w)) ⌝ }
 {
     let op = (w / 4096) as usize;

@@ -1,5 +1,6 @@
 mod Added
 pub mod Functions
-mod InMasks
+pub mod InMasks
+pub mod Raised
 pub mod Sums
-mod Words
+pub mod Words

@@ -12,7 +12,8 @@ use Rattle.kinds.specs.Kinds.{kinds}
 use Rattle.isa.specs.Masks.{Masks, inMask}
 use Rattle.machine.specs.Machine.{Machine}
 use Rattle.usage.specs.declared.Usage.{Usage}
-use Rattle.usage.specs.Usage.{addedFrom, counted, unused, usageOf, plusCounts, plusUsage, counters, Countable}
+use Rattle.usage.specs.Usage.{addedFrom, counted, unused, usageOf, plusCounts, plusUsage}
+use Rattle.usage.specs.Counting.{counters, Countable}
 use Rattle.usage.proofs.Added.{added-length}
 
 -- ---- Sums

@@ -21,7 +21,8 @@ use Rattle.isa.specs.Sheet.{sheetLine, kindAt}
 use Rattle.isa.specs.Masks.{inMask, registerMask, readsDestination, readsOf, masksAs, masksOf}
 use Rattle.isa.proofs.Every.{entry-few}
 use Rattle.usage.specs.declared.Usage.{Usage}
-use Rattle.usage.specs.Usage.{isKind, wordIs, added, countedBy, counted, counters, countedThree}
+use Rattle.usage.specs.Usage.{isKind, wordIs, added, countedBy, counted}
+use Rattle.usage.specs.Counting.{counters, countedThree}
 use Rattle.usage.proofs.Added.{added-nowhere}
 use Rattle.usage.proofs.InMasks.{in-none, in-one, in-or}
 use Rattle.usage.proofs.Functions.{table, at}
@@ -30,10 +31,10 @@ abbrev pub nowhere : ℕ → Bool
 nowhere j = false
 
 -- the register that stands in those bits of w; none where the format lacks the part
-abbrev isPart : Bits → ℕ → ℕ → Bool
+abbrev pub isPart : Bits → ℕ → ℕ → Bool
 isPart p w j = pick (eqb (p .count) 0) false (eqb (field p w) j)
 
-in-part : (p : Bits) (w j : ℕ) → inMask (registerMask p w) j ≡ isPart p w j
+pub in-part : (p : Bits) (w j : ℕ) → inMask (registerMask p w) j ≡ isPart p w j
 in-part p w j = go (eqb (p .count) 0)
   where
     go : (t : Bool) → inMask (pick t 0 (2 ^ field p w)) j ≡ pick t false (eqb (field p w) j)
@@ -41,12 +42,12 @@ in-part p w j = go (eqb (p .count) 0)
     go false = in-one (field p w) j
 
 -- Rj is read: as a or b, or as d where that is read too
-abbrev isRead : Kind → ℕ → ℕ → Bool
+abbrev pub isRead : Kind → ℕ → ℕ → Bool
 isRead k w j =
     let ab = pick (isPart (sheetLine k .format .b) w j) true (isPart (sheetLine k .format .a) w j) in
     pick (readsDestination k) (pick ab true (isPart (sheetLine k .format .d) w j)) ab
 
-in-reads : (k : Kind) (w j : ℕ) → inMask (readsOf k w) j ≡ isRead k w j
+pub in-reads : (k : Kind) (w j : ℕ) → inMask (readsOf k w) j ≡ isRead k w j
 in-reads k w j =
     in-or (bitOr (registerMask (sheetLine k .format .a) w) (registerMask (sheetLine k .format .b) w)) _ j
     ∙ simp (in-or, in-part) (go (readsDestination k) _)

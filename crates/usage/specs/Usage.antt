@@ -1,12 +1,12 @@
 -- The counts of a run (02, L5): over its trace, the machines before each step that it took, steps by kind, and reads and writes by
 -- register.
-use Prim.Native.Nat.{ℕ, suc, _+_, _<_}
-use mathlib.Core.Bool.{Bool, true, false}
+use Prim.Native.Nat.{ℕ, suc, _+_}
+use mathlib.Core.Bool.{Bool, false}
 use mathlib.Core.List.{List, [], _∷_}
 use lib.Dec.{eqb}
-use lib.ListN.{getD, replicate}
+use lib.ListN.{replicate}
 use Rattle.word.specs.Fields.{opcode, e-of, f-of}
-use Rattle.word.specs.Word.{pick, flag}
+use Rattle.word.specs.Word.{flag}
 use Rattle.kinds.specs.Kinds.{kindCount, kindNumber}
 use Rattle.isa.specs.declared.rows.Entry.{Entry}
 use Rattle.isa.specs.declared.rows.Entry.the-variants.{Unassigned, Assigned}
@@ -75,26 +75,3 @@ plusUsage u v =
       reads = plusCounts (u .reads) (v .reads);
       writes = plusCounts (u .writes) (v .writes);
     }
-
--- ---- Counting in place
-
--- what the three lists of counters hold
-abbrev pub counters : List ℕ → List ℕ → List ℕ → Usage
-counters kinds reads writes = record { kinds = kinds; reads = reads; writes = writes }
-
--- one step more fits each counter
-abbrev pub Below : List ℕ → Type 0
-Below xs = (k : ℕ) → getD xs k 0 < 18446744073709551615
-
-pub record Countable (u : Usage) : Type 0 where
-  pub kinds : Below (u .kinds)
-  pub reads : Below (u .reads)
-  pub writes : Below (u .writes)
-
--- j is a or b
-abbrev pub eitherOf : ℕ → ℕ → ℕ → Bool
-eitherOf a b j = pick (eqb b j) true (eqb a j)
-
--- one step of the kind with number k, which reads a and b and writes d; none where k is past the kinds
-abbrev pub countedThree : ℕ → ℕ → ℕ → ℕ → Usage → Usage
-countedThree k a b d u = pick (eqb k kindCount) u (countedBy (eqb k) (eitherOf a b) (eqb d) u)

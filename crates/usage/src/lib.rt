@@ -5,7 +5,8 @@ ghost use lib.Dec.{eqb};
 ghost use lib.ListN.{length, getD};
 ghost use Rattle.kinds.specs.Kinds.{kindCount};
 ghost use Rattle.isa.specs.Masks.{masksOf};
-ghost use Rattle.usage.specs.Usage.{wordIs, added, countedBy, counted, unused, counters, Below, Countable, eitherOf, countedThree};
+ghost use Rattle.usage.specs.Usage.{wordIs, added, countedBy, counted, unused};
+ghost use Rattle.usage.specs.Counting.{counters, Below, Countable, eitherOf, countedThree};
 
 #[repr(C)]
 pub struct Usage {

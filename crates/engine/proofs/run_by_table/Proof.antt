@@ -1,23 +1,36 @@
--- The table that is lent is the paper's.
+-- The table that is lent is the paper's; a short run lends no places (`counts-short`).
 -- Assumes nothing.
 use borrow.Author.Needs.{needs}
-use Rattle.engine.proofs.Refusals.{by-paper}
+use Rattle.engine.proofs.Refusals.{by-paper, counts-short}
 use Rattle.engine.proofs.run_by_table.Statement.{statement}
 use Rattle.engine.proofs.run_by_table.Tie as tie
 
 returns : tie.Need-returns
 returns c =
+    let r = c .before .before .before .before .before .before .before .before .before in
+    by-paper _ _ (r .before .before .before .before .before .before .before .control-table .ensures) (counts-short _ _ (r .run .last .1 .1 .1 .1 .1 .1 .1 .1 .1 .0) (r .run .result .usage) (r .run .ensures) (search needs))
+
+returns-2 : tie.Need-returns-2
+returns-2 c =
     let r = c .before .before .before .before .before .before .before .before in
-    by-paper _ _ (r .before .before .before .before .before .before .control-table .ensures) (r .run .ensures)
+    by-paper _ _ (r .before .before .before .before .before .before .control-table2 .ensures) (r .long .ensures)
 
 pub run-by-table-spec : {M : Type 1} → statement M
 run-by-table-spec =
     tie.close
     (tie.spec
     (λ c κs. search needs)
+    (λ c. search needs)
+    (λ c κs. search needs)
+    (λ c κs. search needs)
     (λ c κs. search needs)
     (λ c. search needs)
     (λ c. search needs)
     (λ c. search needs)
     (λ c. search needs)
-    returns)
+    returns
+    (λ c. search needs)
+    (λ c. search needs)
+    (λ c. search needs)
+    (λ c. search needs)
+    returns-2)

@@ -4,7 +4,7 @@ use native.Mathlib.Omega.{arith}
 use borrow.Author.Needs.{needs}
 use borrow.Author.Tests.{eq-eqb, ne-eqb}
 use Rattle.kinds.specs.Kinds.{kindCount}
-use Rattle.usage.specs.Usage.{counters}
+use Rattle.usage.specs.Counting.{counters}
 use Rattle.usage.proofs.abd.Statement.{statement}
 use Rattle.usage.proofs.abd.Tie as tie
 

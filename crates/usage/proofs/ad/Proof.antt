@@ -2,7 +2,7 @@
 -- Assumes nothing.
 use native.Mathlib.Omega.{arith}
 use borrow.Author.Needs.{needs}
-use Rattle.usage.specs.Usage.{counters}
+use Rattle.usage.specs.Counting.{counters}
 use Rattle.usage.proofs.ad.Statement.{statement}
 use Rattle.usage.proofs.ad.Tie as tie
 

@@ -7,7 +7,7 @@ use borrow.Author.Needs.{needs}
 use borrow.Author.Tests.{eq-eqb, ne-eqb}
 use Rattle.word.proofs.Tables.{past}
 use Rattle.isa.specs.Sheet.{comparisonKinds, muldivKinds, kindAt}
-use Rattle.usage.specs.Usage.{counters}
+use Rattle.usage.specs.Counting.{counters}
 use Rattle.usage.proofs.Functions.{table}
 use Rattle.usage.proofs.Words.{of-word, reading, writing, number-few, operation, by-f, branch, move, past-11}
 use Rattle.usage.proofs.tally.Statement.{statement}
