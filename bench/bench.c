@@ -22,6 +22,8 @@ enum {
     GROWTH_ROUNDS = 5,
     GROWTH_STEPS = 100000000,
     CALLS = 1000000,        /* with budget 1, in one timed repeat */
+    COUNTED_STEPS = 100000, /* of a run whose instructions are counted */
+    COUNTED_CALLS = 1000,   /* the same, with budget 1 */
     SAVES = 1000,           /* in one timed repeat */
     FILE_BYTES = 16 + 2 * MEMORY_BYTES,
     LATE_STEPS = 100000,    /* the end of the random program's run, where the addresses are counted */
@@ -67,7 +69,7 @@ static Workload load;
 static Lent lent, expected;
 static Saved saved, expected_save;
 
-/* The runs of a timed repeat. */
+/* The runs of a timed repeat; calls with budget 1 go by `calls` alone. */
 static struct {
     uint32_t budget;
     int calls;
@@ -244,22 +246,23 @@ static double timed_calls(int engine)
     clear(64);
     double start = now();
     if (engine < ENGINES)
-        for (int i = 0; i < CALLS; i++)
+        for (int i = 0; i < repeat.calls; i++)
             reply = run(engine, reply.state, 1);
     else
-        for (int i = 0; i < CALLS; i++)
+        for (int i = 0; i < repeat.calls; i++)
             answer = sisa_host_step(&held, load.program, MEMORY_BYTES, lent.memory, MEMORY_BYTES, lent.inputs, PORTS,
                                     lent.outputs, PORTS, lent.log, lent.places);
     double end = now();
     if (engine >= ENGINES)
         reply = (SisaRun){ held, answer.refusal, answer.stop, answer.steps, answer.entries, answer.usage };
     lent.reply = reply;
-    return (end - start) / CALLS;
+    return (end - start) / repeat.calls;
 }
 
 static void print_call_costs(void)
 {
     double times[CALLED][ROUNDS];
+    repeat.calls = CALLS;
     timed_calls(C);
     keep_as_expected();
     in_rounds(times, CALLED, ROUNDS, timed_calls, check_run);
@@ -361,11 +364,13 @@ static void random_of_seed(Workload *into)
     random_program(into, RANDOM_SEED);
 }
 
+static void (*const workloads[])(Workload *) = { alu_loop, loads_and_stores, mix, mix_with_products, random_of_seed };
+
+enum { WORKLOADS = sizeof workloads / sizeof *workloads };
+
 /* The first table, and what counting costs C. */
 static void print_steps(void)
 {
-    static void (*const workloads[])(Workload *) = { alu_loop, loads_and_stores, mix, mix_with_products, random_of_seed };
-    enum { WORKLOADS = sizeof workloads / sizeof *workloads };
     const char *names[WORKLOADS];
     double counting[WORKLOADS];
     printf("Runs of %d steps, %d rounds: median ns/step, and median of the ratios in a round\n%-18s", STEPS, ROUNDS, "");
@@ -383,15 +388,53 @@ static void print_steps(void)
     printf("\n(seed %d; its last %d steps visit %d addresses)\n", RANDOM_SEED, LATE_STEPS, late_addresses());
 }
 
-/* With an argument, the costs of calls, the growth and the costs of saves too. */
+/* Where callgrind ends a count (bench/instructions). */
+__attribute__((noinline)) void counted(void)
+{
+    __asm__ volatile("");
+}
+
+/* Runs whose instructions are counted: what, by which engine, and how many steps. What they left is checked. */
+static void run_counted(const char *what, int kinds, int steps, double (*timed)(int))
+{
+    for (int kind = 0; kind < kinds; kind++) {
+        printf("%s\t%s\t%d\n", what, engines[kind].name, steps);
+        timed(kind);
+        counted();
+        if (kind == C)
+            keep_as_expected();
+        check_run(kind);
+    }
+}
+
+/* One run of each engine on each workload, then calls with budget 1. */
+static void run_all_counted(void)
+{
+    repeat.budget = COUNTED_STEPS;
+    repeat.calls = 1;
+    for (int i = 0; i < WORKLOADS; i++) {
+        workloads[i](&load);
+        run_counted(load.name, ENGINES, COUNTED_STEPS, timed_runs);
+    }
+    mix(&load);
+    repeat.calls = COUNTED_CALLS;
+    run_counted("calls of a step", CALLED, COUNTED_CALLS, timed_calls);
+}
+
+/* With the argument `calls`, the costs of calls, the growth and the costs of saves too; with `counted`, only the runs whose
+   instructions are counted. */
 int main(int argc, char **argv)
 {
-    (void)argv;
+    const char *what = argc > 1 ? argv[1] : "";
     lent.log = new_log(GROWTH_STEPS / STEPS_PER_OUT + 1);
     expected.log = new_log(GROWTH_STEPS / STEPS_PER_OUT + 1);
+    if (strcmp(what, "counted") == 0) {
+        run_all_counted();
+        return 0;
+    }
     print_cpu();
     print_steps();
-    if (argc > 1) {
+    if (strcmp(what, "calls") == 0) {
         mix(&load);
         print_call_costs();
         print_growth();

@@ -4,7 +4,8 @@
    A slice is passed as a pointer and the number of its elements. A pointer is never null, also where the number is 0, and
    no two slices of a call overlap. Beyond that every value of every argument is allowed. A memory is 65,536 bytes, an array
    of ports 256 words; any other length is refused with 1. A refusal is its number in the refusal table of documents 01 and 02, 0
-   where the call was accepted; a refused call changes nothing lent. Fields that a case does not speak of are 0. */
+   where the call was accepted; a refused call changes nothing lent. Fields that a case does not speak of are 0. Every function
+   runs in a thread with 128 KiB of stack. */
 #ifndef SISA_H
 #define SISA_H
 

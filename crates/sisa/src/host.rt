@@ -1,7 +1,7 @@
 // The host step, the one function that takes the register state by reference. The borrow checker does not cover such a
-// function, and its proof walks the code by hand: so it only calls the run, stores the state and hands on the numbers.
+// function, and its proof walks the code by hand: so it only calls the run, puts its reply in numbers, stores the state and
+// hands on the rest. It does not call sisa_run_by_table, which with a second caller would not be inlined in its export.
 ghost use Rattle.replies.specs.Sisa.{HostSteps};
-use crate::sisa_run_by_table;
 use machine::State;
 use replies::SisaAnswer;
 
@@ -16,7 +16,8 @@ pub extern "C" fn sisa_host_step(
 ) -> SisaAnswer
     ensures { λ r. ⌜ HostSteps state program memory inputs outputs log r ⌝ }
 {
-    let ran = sisa_run_by_table(*state, program, memory, inputs, outputs, 1, log);
+    let counted = engine::run_by_table(*state, program, memory, inputs, outputs, 1, log);
+    let ran = replies::run(counted);
     *state = ran.state;
     SisaAnswer {
         refusal: ran.refusal,

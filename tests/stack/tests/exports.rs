@@ -1,0 +1,251 @@
+//! Every function of include/sisa.h in a thread with 128 KiB of stack, the smallest that
+//! threads get by default, and how much of it each needs. The calls are those that are
+//! hardest for the stack; each says whether it went as it should.
+
+#[allow(dead_code)]
+#[path = "../../reference/tests/compare/ffi.rs"]
+mod ffi;
+#[allow(dead_code)]
+#[path = "../../../bench/assembling/src/texts.rs"]
+mod texts;
+
+use ffi::{Lent, Sheet, State, Usage};
+use std::thread;
+
+const STACK_BYTES: usize = 128 * 1024;
+const MEMORY_BYTES: usize = 65_536;
+const PORTS: usize = 256;
+const FILE_BYTES: usize = 16 + 2 * MEMORY_BYTES;
+const LONG_RUN: u32 = 1_000_000;
+const RESET: State = State {
+    r: [0; 8],
+    pc: 0,
+    n: 0,
+};
+
+/// A loop with all 30 kinds of instruction; a semicolon stands for a newline.
+const EVERY_KIND: &str =
+    "MOVI R7, 3; loop: MOVI R6, next; JALR R5, R6; next: MOVHI R4, 0x5A; IN R3, 9; \
+    AND R0, R3, R4; OR R1, R3, R4; XOR R2, R3, R4; NOT R3, R3; ADD R4, R3, R4; SUB R5, R3, R4; \
+    SHA R0, R3, R4; SHL R1, R3, R4; CMPLT R2, R3, R4; CMPLE R2, R3, R4; CMPEQ R2, R3, R4; \
+    CMPLTU R2, R3, R4; CMPLEU R2, R3, R4; ADDI R3, R3, 31; LD R0, -2(R3); ST 4(R3), R1; \
+    LDB R0, -1(R3); STB 3(R4), R1; MUL R0, R3, R4; MULH R1, R3, R4; MULHU R2, R3, R4; \
+    DIV R0, R3, R7; DIVU R1, R3, R7; OUT 255, R0; BZ R7, loop; BNZ R7, loop";
+
+/// What a host lends.
+struct World {
+    program: Vec<u8>,
+    memory: Vec<u8>,
+    inputs: Vec<u16>,
+    outputs: Vec<u16>,
+    log: Vec<u64>,
+}
+
+impl World {
+    fn new(fill: u8) -> World {
+        World {
+            program: vec![fill; MEMORY_BYTES],
+            memory: vec![fill; MEMORY_BYTES],
+            inputs: vec![1; PORTS],
+            outputs: vec![0; PORTS],
+            log: vec![0; LONG_RUN as usize / 16],
+        }
+    }
+
+    fn with_every_kind() -> World {
+        let mut world = World::new(0);
+        let text = EVERY_KIND.replace(';', "\n");
+        let reply = ffi::assemble(text.as_bytes(), &mut world.program);
+        assert_eq!(reply.refusal, 0);
+        world
+    }
+
+    fn lent(&mut self) -> Lent<'_> {
+        Lent {
+            program: &mut self.program,
+            memory: &mut self.memory,
+            inputs: &mut self.inputs,
+            outputs: &mut self.outputs,
+            log: &mut self.log,
+        }
+    }
+}
+
+/// A call of an export, or many; `goes` says whether it went as it should.
+struct Call {
+    export: &'static str,
+    what: String,
+    goes: Box<dyn FnOnce() -> bool + Send>,
+}
+
+fn call(
+    export: &'static str,
+    what: impl Into<String>,
+    goes: impl FnOnce() -> bool + Send + 'static,
+) -> Call {
+    Call {
+        export,
+        what: what.into(),
+        goes: Box::new(goes),
+    }
+}
+
+/// Loads and saves, of full memories and of empty ones.
+fn files() -> Vec<Call> {
+    let mut calls = Vec::new();
+    for (what, fill, length) in [("full memories", 7, FILE_BYTES), ("empty memories", 0, 16)] {
+        let mut world = World::new(fill);
+        let mut file = vec![0; FILE_BYTES];
+        let reply = ffi::save(&world.program, &world.memory, &mut file);
+        assert_eq!(reply.length, length);
+        let saved = file[..length].to_vec();
+        let (program, memory) = (world.program.clone(), world.memory.clone());
+        calls.push(call("sisa_load", what, move || {
+            ffi::load(&saved, &mut world.lent()).refusal == 0
+        }));
+        calls.push(call("sisa_save", what, move || {
+            ffi::save(&program, &memory, &mut file).length == length
+        }));
+    }
+    calls
+}
+
+/// A line with an operator of each rank, from the loosest on, before every bracket.
+fn nested() -> String {
+    let ranks = "-1|-1&-1<<-1+-1*-";
+    let opened = format!("{ranks}(").repeat(16);
+    format!(".word {opened}{ranks}z{}\n", ")".repeat(16))
+}
+
+/// Texts of 65,536 bytes with their refusals, and one of a byte more.
+fn written() -> Vec<(&'static str, u8, Vec<u8>)> {
+    let last = format!("{}z:\n", nested());
+    let mut deep = texts::given(MEMORY_BYTES - last.len(), 63);
+    deep.extend(last.bytes());
+    let mut unknown = deep.clone();
+    unknown[MEMORY_BYTES - 3] = b'y';
+    let named = texts::last_names(MEMORY_BYTES).0;
+    let mut all = vec![
+        ("64 names on the last lines", 0, named),
+        ("64 names, operators in brackets to depth 16", 0, deep),
+        ("the same with an unknown name", 11, unknown),
+        ("65,537 bytes", 10, texts::used(MEMORY_BYTES + 1)),
+    ];
+    for (what, text) in texts::hard(MEMORY_BYTES) {
+        all.push((what, 0, text));
+    }
+    all
+}
+
+fn assembling() -> Vec<Call> {
+    let mut calls = Vec::new();
+    for (what, refusal, text) in written() {
+        let mut program = vec![7; MEMORY_BYTES];
+        calls.push(call("sisa_assemble", what, move || {
+            ffi::assemble(&text, &mut program).refusal == refusal
+        }));
+    }
+    calls
+}
+
+/// A step of each word, which stands at address 0. The step replies the refusal.
+fn every_word(step: impl Fn(&mut World) -> u8) -> bool {
+    let mut world = World::new(0);
+    (0..=u16::MAX).all(|word| {
+        world.program[..2].copy_from_slice(&word.to_le_bytes());
+        step(&mut world) == 0
+    })
+}
+
+fn runs(export: &'static str, run: fn(State, u32, &mut Lent) -> ffi::Run) -> Vec<Call> {
+    let mut calls = vec![call(export, "budget 1, every word", move || {
+        every_word(|world| run(RESET, 1, &mut world.lent()).refusal)
+    })];
+    for budget in [100, 2_048, 2_049, LONG_RUN] {
+        let mut world = World::with_every_kind();
+        let what = format!("budget {budget}, every kind");
+        calls.push(call(export, what, move || {
+            let reply = run(RESET, budget, &mut world.lent());
+            (reply.refusal, reply.stop, reply.steps) == (0, 0, budget)
+                && reply.usage.kinds.iter().all(|&count| count > 0)
+        }));
+    }
+    calls
+}
+
+fn host_step() -> Call {
+    call("sisa_host_step", "every word", || {
+        every_word(|world| ffi::host_step(&mut RESET.clone(), &mut world.lent()).refusal)
+    })
+}
+
+fn feeding() -> Call {
+    let counts = Usage {
+        kinds: [u64::MAX; 30],
+        reads: [1; 8],
+        writes: [2; 8],
+    };
+    let sheet = Sheet {
+        kinds: [3; 30],
+        reads: [4; 8],
+        writes: [5; 8],
+        runs: 65_534,
+    };
+    call("sisa_feed", "the last run that a sheet takes", move || {
+        ffi::feed(sheet, 0, counts).sheet.runs == 65_535
+    })
+}
+
+fn instructions() -> Vec<Call> {
+    let read = call("sisa_read", "every word", || {
+        let assigned = |&word: &u16| ffi::read(word).assigned == 1;
+        (0..=u16::MAX).filter(assigned).count() > 32_768
+    });
+    let write = call("sisa_write", "every kind", || {
+        (0..30).all(|kind| ffi::write(kind, 0, 0, 0, 0).refusal == 0)
+    });
+    vec![read, write]
+}
+
+fn panel() -> Vec<Call> {
+    let mut world = World::new(7);
+    let memory = vec![7; MEMORY_BYTES];
+    let set = call("sisa_set_input", "port 255", move || {
+        ffi::set_input(&mut world.inputs, 255, 3) == 0
+    });
+    let window = call("sisa_window", "to the end of the data memory", move || {
+        ffi::window(&[], &memory, 1, 16, MEMORY_BYTES - 16).count == MEMORY_BYTES - 16
+    });
+    vec![set, window]
+}
+
+fn calls() -> Vec<Call> {
+    let mut all = files();
+    all.extend(assembling());
+    all.extend(runs("sisa_run_by_rules", ffi::run_by_rules));
+    all.extend(runs("sisa_run_by_table", ffi::run_by_table));
+    all.extend([host_step(), feeding()]);
+    all.extend(instructions());
+    all.extend(panel());
+    all
+}
+
+#[test]
+fn no_call_needs_128_kib() {
+    for Call { export, what, goes } in calls() {
+        let (went_well, bytes) = stack::needs(goes);
+        println!("{export} {bytes} ({what})");
+        assert!(went_well, "{export}, {what}");
+        assert!(bytes < STACK_BYTES, "{export}, {what}: {bytes}");
+    }
+}
+
+/// Here a call that needs more ends the test with a signal.
+#[test]
+fn every_call_runs_in_a_thread_of_128_kib() {
+    for Call { export, what, goes } in calls() {
+        let thread = thread::Builder::new().stack_size(STACK_BYTES).spawn(goes);
+        let went_well = thread.map(|running| running.join());
+        assert!(matches!(went_well, Ok(Ok(true))), "{export}, {what}");
+    }
+}
