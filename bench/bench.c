@@ -1,12 +1,14 @@
 /* The engines of libsisa.a beside a plain C interpreter (plain.c) and a faster one (flat.c), and its save beside plain C
-   (save.c), in one process. All count what a run uses, but for the plain interpreter compiled a second time (uncounted.c).
+   (save.c), in one process. All count what a run uses, but for the plain interpreter compiled a second time (uncounted.c). Runs
+   with a journal (journaled.c, journaled_flat.c) and steps back (back.c) are beside those of C too.
 
    Time is the CPU time of this process, so that being scheduled out does not count. All engines are lent the same
    buffers, which are made anew before each timed run (memory and inputs as the workload says, outputs and log zero), so
    no page is touched for the first time while the clock runs. In a round each engine runs once, and the order rotates
    from round to round; a ratio is of the two times of one round, and what is printed is the median over the rounds.
-   After every timed run its reply, the counts too, and all buffers are compared with those of the C interpreter, after timed
-   saves the reply and the destination with those of C: exit status 1 where they differ, else 0, whatever the times are. */
+   After every timed run its reply, the counts too, and all buffers are compared with those of the C interpreter, after steps
+   back to the start of a run with what that started from, after timed saves the reply and the destination with those of C: exit
+   status 1 where they differ, else 0, whatever the times are. */
 #include "plain.h"
 #include "sisa.h"
 #include "workloads.h"
@@ -19,6 +21,7 @@
 enum {
     ROUNDS = 15,
     STEPS = 10000000,       /* of a run in the first table */
+    JOURNAL_PLACES = 1000000, /* the steps of a run with a journal, or its calls with budget 1 */
     GROWTH_ROUNDS = 5,
     GROWTH_STEPS = 100000000,
     CALLS = 1000000,        /* with budget 1, in one timed repeat */
@@ -30,6 +33,7 @@ enum {
     RANDOM_SEED = 251,
     C = 0,                  /* the engine, and the save, that the others are compared with */
     UNCOUNTED = 4,
+    KEEPERS = UNCOUNTED,    /* the engines before it can keep a journal */
     ENGINES,
     CALLED,                 /* the engines and, last, the host step */
 };
@@ -37,10 +41,19 @@ enum {
 static const struct {
     const char *name;
     Run *run;
+    JournaledRun *journaled;
+    StepBack *back;
 } engines[CALLED] = {
-    { "C", plain_run }, { "C flat", flat_run }, { "rules", sisa_run_by_rules }, { "table", sisa_run_by_table },
-    { "C without", uncounted_run }, { "host step", NULL },
+    { "C", plain_run, plain_run_with_journal, plain_step_back },
+    { "C flat", flat_run, flat_run_with_journal, plain_step_back },
+    { "rules", sisa_run_by_rules, sisa_run_by_rules_with_journal, sisa_step_back },
+    { "table", sisa_run_by_table, sisa_run_by_table_with_journal, sisa_step_back },
+    { "C without", uncounted_run, NULL, NULL },
+    { "host step", NULL, NULL, NULL },
 };
+
+/* What an engine that can keep a journal is measured in: runs without one, runs with one, and steps back by it. */
+enum { WITHOUT, WITH, BACK, FORMS };
 
 enum { LIBRARY = C + 1, COPY, SAVERS };
 
@@ -65,11 +78,13 @@ typedef struct {
     SisaSaved reply;
 } Saved;
 
+static const SisaState reset;
 static Workload load;
 static Lent lent, expected;
+static uint64_t *journal;
 static Saved saved, expected_save;
 
-/* The runs of a timed repeat; calls with budget 1 go by `calls` alone. */
+/* The runs of a timed repeat, or its steps back. */
 static struct {
     uint32_t budget;
     int calls;
@@ -105,25 +120,27 @@ static double median_ratio(const double *times, const double *other, int count)
     return median(ratios, count);
 }
 
-/* The seconds that a call took, for each kind of call and round; what it left is checked. */
-static void in_rounds(double times[][ROUNDS], int kinds, int rounds, double (*timed)(int), void (*check)(int))
+/* The seconds that a call took, for each kind of call and round; what it left is checked. Kinds that need each other, so many
+   together, stay in their order. */
+static void in_rounds(double times[][ROUNDS], int kinds, int together, int rounds, double (*timed)(int), void (*check)(int))
 {
     for (int round = 0; round < rounds; round++)
         for (int k = 0; k < kinds; k++) {
-            int kind = (round + k) % kinds;
+            int kind = (together * round + k) % kinds;
             times[kind][round] = timed(kind);
             check(kind);
         }
 }
 
-static uint64_t *new_log(size_t places)
+/* A log or a journal. */
+static uint64_t *new_places(size_t places)
 {
-    uint64_t *log = calloc(places, sizeof *log);
-    if (log == NULL) {
-        fprintf(stderr, "no memory for the log\n");
+    uint64_t *entries = calloc(places, sizeof *entries);
+    if (entries == NULL) {
+        fprintf(stderr, "no memory for the log and the journal\n");
         exit(1);
     }
-    return log;
+    return entries;
 }
 
 static void clear(size_t places)
@@ -141,6 +158,18 @@ static SisaRun run(int engine, SisaState state, uint32_t budget)
                                lent.outputs, PORTS, budget, lent.log, lent.places);
 }
 
+static SisaRun run_with_journal(int engine, SisaState state, uint32_t budget)
+{
+    return engines[engine].journaled(state, load.program, MEMORY_BYTES, lent.memory, MEMORY_BYTES, lent.inputs, PORTS,
+                                     lent.outputs, PORTS, budget, lent.log, lent.places, journal, JOURNAL_PLACES);
+}
+
+static SisaBack step_back(int engine, SisaState state, uint64_t k)
+{
+    return engines[engine].back(state, load.program, MEMORY_BYTES, lent.memory, MEMORY_BYTES, lent.inputs, PORTS,
+                                lent.outputs, PORTS, journal, JOURNAL_PLACES, k);
+}
+
 static void keep_as_expected(void)
 {
     uint64_t *log = expected.log;
@@ -149,10 +178,14 @@ static void keep_as_expected(void)
     expected.log = log;
 }
 
+static int same_state(const SisaState *x, const SisaState *y)
+{
+    return memcmp(x->r, y->r, sizeof x->r) == 0 && x->pc == y->pc && x->n == y->n && x->journaled == y->journaled;
+}
+
 static int same_reply(const SisaRun *x, const SisaRun *y)
 {
-    return memcmp(x->state.r, y->state.r, sizeof x->state.r) == 0 && x->state.pc == y->state.pc
-        && x->state.n == y->state.n && x->refusal == y->refusal && x->stop == y->stop && x->steps == y->steps
+    return same_state(&x->state, &y->state) && x->refusal == y->refusal && x->stop == y->stop && x->steps == y->steps
         && x->entries == y->entries;
 }
 
@@ -181,7 +214,6 @@ static void check_run(int engine)
 /* Runs, each from a reset state, over buffers cleared before the first; the seconds that one took. */
 static double timed_runs(int engine)
 {
-    static const SisaState reset;
     SisaRun reply = { .refusal = 0 };
     clear(repeat.budget / STEPS_PER_OUT + 1);
     double start = now();
@@ -203,7 +235,7 @@ static void measure(double times[ENGINES][ROUNDS], int rounds, uint32_t budget, 
     repeat.calls = calls;
     timed_runs(C);
     keep_as_expected();
-    in_rounds(times, ENGINES, rounds, timed_runs, check_run);
+    in_rounds(times, ENGINES, 1, rounds, timed_runs, check_run);
 }
 
 /* A line of the first table; the ratio of C to C without counting. */
@@ -227,7 +259,7 @@ static int late_addresses(void)
     static uint8_t visited[MEMORY_BYTES];
     int count = 0;
     clear(STEPS / STEPS_PER_OUT + 1);
-    SisaState state = run(C, (SisaState){ .n = 0 }, STEPS - LATE_STEPS).state;
+    SisaState state = run(C, reset, STEPS - LATE_STEPS).state;
     for (int i = 0; i < LATE_STEPS; i++) {
         count += !visited[state.pc];
         visited[state.pc] = 1;
@@ -236,41 +268,143 @@ static int late_addresses(void)
     return count;
 }
 
-/* Calls with budget 1, each from the state that the one before returned; the host step changes the state that the host
-   holds. The log is filled from place 0 by each call. */
-static double timed_calls(int engine)
+/* Runs of repeat.budget steps, each from the state that the one before returned, with a journal or without; the seconds that one
+   took. Each fills the log from place 0; the reply kept has the entries of all. */
+static double timed_chain(int engine, int keeps)
 {
-    SisaRun reply = { .refusal = 0 };
-    SisaState held = { .n = 0 };
-    SisaAnswer answer = { .refusal = 0 };
-    clear(64);
+    SisaState held = reset;
+    uint64_t entries = 0;
+    clear(repeat.budget / STEPS_PER_OUT + 1);
+    if (keeps)
+        memset(journal, 0, JOURNAL_PLACES * sizeof *journal);
     double start = now();
-    if (engine < ENGINES)
-        for (int i = 0; i < repeat.calls; i++)
-            reply = run(engine, reply.state, 1);
-    else
-        for (int i = 0; i < repeat.calls; i++)
-            answer = sisa_host_step(&held, load.program, MEMORY_BYTES, lent.memory, MEMORY_BYTES, lent.inputs, PORTS,
-                                    lent.outputs, PORTS, lent.log, lent.places);
+    for (int i = 0; i < repeat.calls; i++) {
+        SisaRun reply = keeps ? run_with_journal(engine, held, repeat.budget) : run(engine, held, repeat.budget);
+        held = reply.state;
+        entries += reply.entries;
+        if (i == repeat.calls - 1)
+            lent.reply = reply;
+    }
     double end = now();
-    if (engine >= ENGINES)
-        reply = (SisaRun){ held, answer.refusal, answer.stop, answer.steps, answer.entries, answer.usage };
-    lent.reply = reply;
+    lent.reply.entries = entries;
     return (end - start) / repeat.calls;
+}
+
+/* Host steps, which change the state that the host holds. */
+static double timed_host_steps(void)
+{
+    SisaState held = reset;
+    uint64_t entries = 0;
+    clear(1);
+    double start = now();
+    for (int i = 0; i < repeat.calls; i++) {
+        SisaAnswer answer = sisa_host_step(&held, load.program, MEMORY_BYTES, lent.memory, MEMORY_BYTES, lent.inputs, PORTS,
+                                           lent.outputs, PORTS, lent.log, lent.places);
+        entries += answer.entries;
+        if (i == repeat.calls - 1)
+            lent.reply = (SisaRun){ held, answer.refusal, answer.stop, answer.steps, 0, answer.usage };
+    }
+    double end = now();
+    lent.reply.entries = entries;
+    return (end - start) / repeat.calls;
+}
+
+/* A kind is an engine, which keeps no journal here, or the host step. */
+static double timed_calls(int kind)
+{
+    return kind < ENGINES ? timed_chain(kind, 0) : timed_host_steps();
 }
 
 static void print_call_costs(void)
 {
     double times[CALLED][ROUNDS];
+    repeat.budget = 1;
     repeat.calls = CALLS;
     timed_calls(C);
     keep_as_expected();
-    in_rounds(times, CALLED, ROUNDS, timed_calls, check_run);
+    in_rounds(times, CALLED, 1, ROUNDS, timed_calls, check_run);
     printf("\nA call with budget 1 (%s, %d rounds of %d calls)\n", load.name, ROUNDS, CALLS);
     printf("%-18s %9s %11s\n", "", "ns/call", "ratio to C");
     for (int kind = 0; kind < CALLED; kind++)
         printf("%-18s %9.2f %11.2f\n", engines[kind].name, 1e9 * median(times[kind], ROUNDS),
                median_ratio(times[kind], times[C], ROUNDS));
+    fflush(stdout);
+}
+
+/* From where runs with a journal ended back to their start, repeat.budget steps at once; the seconds that one step back took. The
+   reply kept has the entries that fell away. */
+static double timed_back(int engine)
+{
+    SisaBack back = { .state = lent.reply.state };
+    uint64_t entries = 0;
+    double start = now();
+    for (int i = 0; i < repeat.calls; i++) {
+        back = step_back(engine, back.state, repeat.budget);
+        entries += back.entries;
+    }
+    double end = now();
+    lent.reply = (SisaRun){ .state = back.state, .refusal = back.refusal, .entries = entries };
+    return (end - start) / repeat.calls;
+}
+
+/* A kind is an engine and a form. */
+static double timed_form(int kind)
+{
+    int engine = kind / FORMS, form = kind % FORMS;
+    return form == BACK ? timed_back(engine) : timed_chain(engine, form == WITH);
+}
+
+/* Ends the program where what a step back to the start of a run left differs from what that run started from. */
+static void check_back(int engine)
+{
+    static const uint16_t outputs[PORTS];
+    if (lent.reply.refusal == 0 && same_state(&lent.reply.state, &reset) && lent.reply.entries == expected.reply.entries
+        && memcmp(lent.memory, load.memory, sizeof lent.memory) == 0
+        && memcmp(lent.inputs, load.inputs, sizeof lent.inputs) == 0 && memcmp(lent.outputs, outputs, sizeof outputs) == 0)
+        return;
+    fprintf(stderr, "%s: %s does not step back to the start\n", load.name, engines[engine].name);
+    exit(1);
+}
+
+static void check_form(int kind)
+{
+    int engine = kind / FORMS, form = kind % FORMS;
+    if (form == BACK) {
+        check_back(engine);
+        return;
+    }
+    expected.reply.state.journaled = form == WITH ? expected.reply.state.n : 0;
+    check_run(engine);
+    expected.reply.state.journaled = 0;
+}
+
+/* The head of a table of forms, and what is timed for it. */
+static void begin_forms(uint32_t budget, int calls)
+{
+    repeat.budget = budget;
+    repeat.calls = calls;
+    printf("\nRuns of %u steps without a journal, with one, and back by it, %d rounds of %d: median ns/step, and median of the "
+           "ratios in a round\n", budget, ROUNDS, calls);
+    printf("%-25s %9s %9s %9s %12s %9s %9s %9s\n", "", "without", "with", "back", "with/without", "back/with", "with/C",
+           "back/C");
+}
+
+/* Its lines for a workload. */
+static void print_forms(void)
+{
+    double times[KEEPERS * FORMS][ROUNDS];
+    timed_form(C * FORMS + WITHOUT);
+    keep_as_expected();
+    in_rounds(times, KEEPERS * FORMS, FORMS, ROUNDS, timed_form, check_form);
+    for (int engine = 0; engine < KEEPERS; engine++) {
+        double(*form)[ROUNDS] = times + engine * FORMS, (*c)[ROUNDS] = times + C * FORMS;
+        printf("%-18s %-6s", engine == C ? load.name : "", engines[engine].name);
+        for (int i = 0; i < FORMS; i++)
+            printf(" %9.2f", 1e9 * median(form[i], ROUNDS) / repeat.budget);
+        printf(" %12.2f %9.2f %9.2f %9.2f\n", median_ratio(form[WITH], form[WITHOUT], ROUNDS),
+               median_ratio(form[BACK], form[WITH], ROUNDS), median_ratio(form[WITH], c[WITH], ROUNDS),
+               median_ratio(form[BACK], c[BACK], ROUNDS));
+    }
     fflush(stdout);
 }
 
@@ -304,7 +438,7 @@ static void print_save(const char *name, uint8_t byte, int count)
     memset(load.memory, byte, MEMORY_BYTES);
     timed_saves(C);
     expected_save = saved;
-    in_rounds(times, count, ROUNDS, timed_saves, check_save);
+    in_rounds(times, count, 1, ROUNDS, timed_saves, check_save);
     printf("%-18s %9zu %9.3f %9.3f %9.2f", name, saved.reply.length, 1e6 * median(times[C], ROUNDS),
            1e6 * median(times[LIBRARY], ROUNDS), median_ratio(times[LIBRARY], times[C], ROUNDS));
     if (count > COPY)
@@ -388,21 +522,43 @@ static void print_steps(void)
     printf("\n(seed %d; its last %d steps visit %d addresses)\n", RANDOM_SEED, LATE_STEPS, late_addresses());
 }
 
+/* The second table. */
+static void print_journals(void)
+{
+    begin_forms(JOURNAL_PLACES, 1);
+    for (int i = 0; i < WORKLOADS; i++) {
+        workloads[i](&load);
+        print_forms();
+    }
+}
+
 /* Where callgrind ends a count (bench/instructions). */
 __attribute__((noinline)) void counted(void)
 {
     __asm__ volatile("");
 }
 
-/* Runs whose instructions are counted: what, by which engine, and how many steps. What they left is checked. */
-static void run_counted(const char *what, int kinds, int steps, double (*timed)(int))
+/* Runs and steps back whose instructions are counted: what, by which engine, and how many steps. What they left is checked. */
+static void count_forms(const char *what, int steps)
 {
-    for (int kind = 0; kind < kinds; kind++) {
-        printf("%s\t%s\t%d\n", what, engines[kind].name, steps);
-        timed(kind);
+    static const char *const names[FORMS] = { "", ", with a journal", ", back" };
+    for (int kind = 0; kind < KEEPERS * FORMS; kind++) {
+        printf("%s%s\t%s\t%d\n", what, names[kind % FORMS], engines[kind / FORMS].name, steps);
+        timed_form(kind);
         counted();
-        if (kind == C)
+        if (kind == C * FORMS + WITHOUT)
             keep_as_expected();
+        check_form(kind);
+    }
+}
+
+/* The same by the engines that keep no journal. */
+static void count_others(const char *what, int kinds, int steps)
+{
+    for (int kind = KEEPERS; kind < kinds; kind++) {
+        printf("%s\t%s\t%d\n", what, engines[kind].name, steps);
+        timed_calls(kind);
+        counted();
         check_run(kind);
     }
 }
@@ -414,31 +570,39 @@ static void run_all_counted(void)
     repeat.calls = 1;
     for (int i = 0; i < WORKLOADS; i++) {
         workloads[i](&load);
-        run_counted(load.name, ENGINES, COUNTED_STEPS, timed_runs);
+        count_forms(load.name, COUNTED_STEPS);
+        count_others(load.name, ENGINES, COUNTED_STEPS);
     }
     mix(&load);
+    repeat.budget = 1;
     repeat.calls = COUNTED_CALLS;
-    run_counted("calls of a step", CALLED, COUNTED_CALLS, timed_calls);
+    count_forms("calls of a step", COUNTED_CALLS);
+    count_others("calls of a step", CALLED, COUNTED_CALLS);
 }
 
-/* With the argument `calls`, the costs of calls, the growth and the costs of saves too; with `counted`, only the runs whose
-   instructions are counted. */
+/* The times of steps; with the argument `calls`, the costs of calls, the growth and the costs of saves; with `counted`, the runs
+   whose instructions are counted. */
 int main(int argc, char **argv)
 {
     const char *what = argc > 1 ? argv[1] : "";
-    lent.log = new_log(GROWTH_STEPS / STEPS_PER_OUT + 1);
-    expected.log = new_log(GROWTH_STEPS / STEPS_PER_OUT + 1);
+    lent.log = new_places(GROWTH_STEPS / STEPS_PER_OUT + 1);
+    expected.log = new_places(GROWTH_STEPS / STEPS_PER_OUT + 1);
+    journal = new_places(JOURNAL_PLACES);
     if (strcmp(what, "counted") == 0) {
         run_all_counted();
         return 0;
     }
-    print_cpu();
-    print_steps();
     if (strcmp(what, "calls") == 0) {
         mix(&load);
         print_call_costs();
+        begin_forms(1, JOURNAL_PLACES);
+        print_forms();
         print_growth();
         print_save_costs();
+        return 0;
     }
+    print_cpu();
+    print_steps();
+    print_journals();
     return 0;
 }

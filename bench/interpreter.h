@@ -63,14 +63,59 @@ static inline void count(SisaUsage *usage, unsigned kind, unsigned a, unsigned b
         usage->writes[d]++;
 }
 
+/* What a step overwrites. */
+enum { NOTHING, REGISTER, WORD, BYTE, OUTPUT };
+
+/* An entry of the journal, from the low bits on: PC before the step, what was held, where, and which of these held it. */
+static inline uint64_t entry_of(uint16_t pc, uint16_t held, uint16_t where, unsigned what)
+{
+    return pc | (uint64_t)held << 16 | (uint64_t)where << 32 | (uint64_t)what << 48;
+}
+
+/* journaled.c and journaled_flat.c say 1: a run has two parameters more, and a step keeps its entry. */
+#ifndef JOURNALING
+#define JOURNALING 0
+#endif
+#if JOURNALING
+#define JOURNAL_PARAMETERS , uint64_t *journal, size_t journal_len
+#define JOURNAL journal, journal_len
+#define KEEP(held, where, what) (journal[state.journaled + steps] = entry_of(pc, held, where, what))
+#else
+#define JOURNAL_PARAMETERS
+#define JOURNAL NULL, 0
+#define KEEP(held, where, what) (void)journal
+#endif
+
+/* What a step of run_accepted writes, its entry kept first. */
+#define PUT_NOTHING() KEEP(0, 0, NOTHING)
+#define PUT_REGISTER(k, v) (KEEP(r[k], k, REGISTER), r[k] = (uint16_t)(v))
+#define PUT_WORD(at, v) (KEEP(load_word(memory, at), (at) & 0xFFFE, WORD), store_word(memory, at, v))
+#define PUT_BYTE(at, v) (KEEP(memory[at], at, BYTE), memory[at] = (uint8_t)(v))
+#define PUT_OUTPUT(port, v) (KEEP(outputs[port], port, OUTPUT), outputs[port] = (v))
+
+/* The steps that a run may take: a full journal counts as a used budget. */
+static inline uint32_t allowed(uint32_t budget, uint64_t journaled, size_t journal_len)
+{
+    uint64_t left = journaled < journal_len ? journal_len - journaled : 0;
+    return JOURNALING && left < budget ? (uint32_t)left : budget;
+}
+
+/* What is refused of every call on a machine, or 0. */
+static inline uint8_t refusal_of_lent(const SisaState *state, size_t program_len, size_t memory_len, size_t inputs_len,
+                                      size_t outputs_len)
+{
+    if (program_len != MEMORY_BYTES || memory_len != MEMORY_BYTES || inputs_len != PORTS || outputs_len != PORTS)
+        return 1;
+    return state->pc % 2 != 0 ? 5 : 0;
+}
+
 /* The refusal of a run, 0 where it is accepted. */
 static inline uint8_t refusal_of(const SisaState *state, size_t program_len, size_t memory_len, size_t inputs_len,
                                  size_t outputs_len, uint32_t budget)
 {
-    if (program_len != MEMORY_BYTES || memory_len != MEMORY_BYTES || inputs_len != PORTS || outputs_len != PORTS)
-        return 1;
-    if (state->pc % 2 != 0)
-        return 5;
+    uint8_t refusal = refusal_of_lent(state, program_len, memory_len, inputs_len, outputs_len);
+    if (refusal != 0)
+        return refusal;
     return UINT32_MAX - state->n < budget ? 6 : 0;
 }
 

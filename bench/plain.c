@@ -45,43 +45,49 @@ static inline int multiply(unsigned f, uint16_t a, uint16_t b)
     }
 }
 
+/* Ra+SE(N6) */
+#define ADDRESS (uint16_t)(r[a] + extend6(w))
+
 static SisaRun run_accepted(SisaState state, const uint8_t *restrict program, uint8_t *restrict memory,
                             const uint16_t *restrict inputs, uint16_t *restrict outputs, uint32_t budget,
-                            uint64_t *restrict log, size_t log_len)
+                            uint64_t *restrict log, size_t log_len, uint64_t *restrict journal, size_t journal_len)
 {
     uint16_t r[8], pc = state.pc;
     SisaUsage usage = { .kinds = { 0 } };
     uint32_t steps = 0;
     size_t entries = 0;
     uint8_t stop = 0;
+    budget = allowed(budget, state.journaled, journal_len);
     memcpy(r, state.r, sizeof r);
     while (steps < budget) {
         uint16_t w = load_word(program, pc), next = (uint16_t)(pc + 2);
         unsigned a = w >> 9 & 7, b = w >> 6 & 7, d = w >> 3 & 7, f = w & 7, e = w >> 8 & 1;
         int x;
         switch (w >> 12) {
-        case 0: r[d] = operate(f, r[a], r[b]); count(&usage, f, a, f == NOT ? NONE : b, d); break;
+        case 0: PUT_REGISTER(d, operate(f, r[a], r[b])); count(&usage, f, a, f == NOT ? NONE : b, d); break;
         case 1:
             if ((x = compare(f, r[a], r[b])) < 0) { stop = 1; goto stopped; }
-            r[d] = (uint16_t)x; count(&usage, CMPLT + f - (f > 2), a, b, d); break;
-        case 2: r[b] = (uint16_t)(r[a] + extend6(w)); count(&usage, ADDI, a, NONE, b); break;
-        case 3: r[b] = load_word(memory, (uint16_t)(r[a] + extend6(w))); count(&usage, LD, a, NONE, b); break;
-        case 4: store_word(memory, (uint16_t)(r[a] + extend6(w)), r[b]); count(&usage, ST, a, b, NONE); break;
-        case 5: r[b] = extend8(memory[(uint16_t)(r[a] + extend6(w))]); count(&usage, LDB, a, NONE, b); break;
-        case 6: memory[(uint16_t)(r[a] + extend6(w))] = (uint8_t)r[b]; count(&usage, STB, a, b, NONE); break;
-        case 7: x = r[a] & 0xFFFE; r[b] = next; next = (uint16_t)x; count(&usage, JALR, a, NONE, b); break;
-        case 8: if ((r[a] == 0) != e) next = (uint16_t)(next + 2 * extend8(w)); count(&usage, BZ + e, a, NONE, NONE); break;
+            PUT_REGISTER(d, x); count(&usage, CMPLT + f - (f > 2), a, b, d); break;
+        case 2: PUT_REGISTER(b, ADDRESS); count(&usage, ADDI, a, NONE, b); break;
+        case 3: PUT_REGISTER(b, load_word(memory, ADDRESS)); count(&usage, LD, a, NONE, b); break;
+        case 4: PUT_WORD(ADDRESS, r[b]); count(&usage, ST, a, b, NONE); break;
+        case 5: PUT_REGISTER(b, extend8(memory[ADDRESS])); count(&usage, LDB, a, NONE, b); break;
+        case 6: PUT_BYTE(ADDRESS, r[b]); count(&usage, STB, a, b, NONE); break;
+        case 7: x = r[a] & 0xFFFE; PUT_REGISTER(b, next); next = (uint16_t)x; count(&usage, JALR, a, NONE, b); break;
+        case 8:
+            PUT_NOTHING(); if ((r[a] == 0) != e) next = (uint16_t)(next + 2 * extend8(w));
+            count(&usage, BZ + e, a, NONE, NONE); break;
         case 9:
-            r[a] = e != 0 ? (uint16_t)(w << 8 | (r[a] & 255)) : extend8(w);
+            PUT_REGISTER(a, e != 0 ? w << 8 | (r[a] & 255) : extend8(w));
             count(&usage, MOVI + e, e != 0 ? a : NONE, NONE, a); break;
         case 10:
-            if (e == 0) { r[a] = inputs[w & 255]; count(&usage, IN, NONE, NONE, a); break; }
+            if (e == 0) { PUT_REGISTER(a, inputs[w & 255]); count(&usage, IN, NONE, NONE, a); break; }
             if (entries == log_len) { stop = 2; goto stopped; }
-            outputs[w & 255] = r[a]; count(&usage, OUT, a, NONE, NONE);
+            PUT_OUTPUT(w & 255, r[a]); count(&usage, OUT, a, NONE, NONE);
             log[entries++] = (uint64_t)(state.n + steps) << 24 | (uint64_t)(w & 255) << 16 | r[a]; break;
         case 11:
             if ((x = multiply(f, r[a], r[b])) < 0) { stop = (uint8_t)-x; goto stopped; }
-            r[d] = (uint16_t)x; count(&usage, MUL + f - (f > 3), a, b, d); break;
+            PUT_REGISTER(d, x); count(&usage, MUL + f - (f > 3), a, b, d); break;
         default: stop = 1; goto stopped;
         }
         pc = next;
@@ -91,6 +97,7 @@ stopped:
     memcpy(state.r, r, sizeof r);
     state.pc = pc;
     state.n += steps;
+    state.journaled = JOURNALING ? state.journaled + steps : 0;
     return (SisaRun){ .state = state, .stop = stop, .steps = steps, .entries = entries, .usage = usage };
 }
 
@@ -100,10 +107,10 @@ SisaRun plain_run(SisaState state,
                   uint16_t *inputs, size_t inputs_len,
                   uint16_t *outputs, size_t outputs_len,
                   uint32_t budget,
-                  uint64_t *log, size_t log_len)
+                  uint64_t *log, size_t log_len JOURNAL_PARAMETERS)
 {
     uint8_t refusal = refusal_of(&state, program_len, memory_len, inputs_len, outputs_len, budget);
     if (refusal != 0)
         return (SisaRun){ .state = state, .refusal = refusal };
-    return run_accepted(state, program, memory, inputs, outputs, budget, log, log_len);
+    return run_accepted(state, program, memory, inputs, outputs, budget, log, log_len, JOURNAL);
 }

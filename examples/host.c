@@ -1,5 +1,6 @@
 /* A host in C: loads a trim, sets three inputs, runs it, shows the corrections, saves both memories and loads them again;
-   then takes the first steps one by one, and shows the usage sheet of it all.
+   then takes the first steps one by one, steps back from the end of a run and goes forward again, and shows the usage sheet of
+   it all.
 
        gcc -O2 -Iinclude examples/host.c target/staticlib/libsisa.a -o target/host_c
        target/host_c examples/gain.trim */
@@ -8,11 +9,11 @@
 #include <stdio.h>
 #include <string.h>
 
-enum { MEMORY_BYTES = 65536, PORTS = 256, LOG_PLACES = 64, BUDGET = 1000, HOST_STEPS = 5, KINDS = 30 };
+enum { MEMORY_BYTES = 65536, PORTS = 256, LOG_PLACES = 64, BUDGET = 1000, HOST_STEPS = 5, BACK_STEPS = 5, KINDS = 30 };
 
 static uint8_t file[16 + 2 * MEMORY_BYTES], program[MEMORY_BYTES], memory[MEMORY_BYTES];
 static uint16_t inputs[PORTS], outputs[PORTS];
-static uint64_t port_log[LOG_PLACES];
+static uint64_t port_log[LOG_PLACES], journal[BUDGET];
 static SisaSheet sheet; /* all zero: the empty sheet */
 
 static const char *const kinds[KINDS] = {
@@ -66,6 +67,26 @@ static void print_corrections(uint64_t entries)
     }
 }
 
+/* Adds what a run or a host step returned. */
+static void feed(uint8_t refusal, SisaUsage usage)
+{
+    SisaFed fed = sisa_feed(sheet, refusal, usage);
+    refused(fed.refusal);
+    sheet = fed.sheet;
+}
+
+/* Feeds and shows a run. Returns 0 where it is refused. */
+static int show_run(const char *title, const SisaRun *run)
+{
+    feed(run->refusal, run->usage);
+    if (refused(run->refusal))
+        return 0;
+    printf("%s: stop %u, steps %u, entries %u\n", title, run->stop, run->steps, (unsigned)run->entries);
+    print_corrections(run->entries);
+    print_state("state", &run->state);
+    return 1;
+}
+
 /* Saves what the trim left and loads it into memories of its own. Returns 0 where one of the two is refused. */
 static int save_and_load(void)
 {
@@ -83,14 +104,6 @@ static int save_and_load(void)
     return 1;
 }
 
-/* Adds what a run or a host step returned. */
-static void feed(uint8_t refusal, SisaUsage usage)
-{
-    SisaFed fed = sisa_feed(sheet, refusal, usage);
-    refused(fed.refusal);
-    sheet = fed.sheet;
-}
-
 /* Each step is a run by the table with budget 1, over the state held here. Memory and ports are as the run left them. */
 static void step_by_step(SisaState state)
 {
@@ -104,6 +117,30 @@ static void step_by_step(SisaState state)
         }
         print_state("host step", &state);
     }
+}
+
+static SisaRun run_with_journal(SisaState state, uint32_t budget)
+{
+    return sisa_run_by_table_with_journal(state, program, sizeof program, memory, sizeof memory, inputs, PORTS, outputs, PORTS,
+                                          budget, port_log, LOG_PLACES, journal, BUDGET);
+}
+
+/* A run that keeps a journal, its last steps taken back, and as many steps again: the inputs are the same, so the log entries
+   are too. The sheet has those steps twice. Returns 0 where a call is refused. */
+static int back_and_forward(SisaState state)
+{
+    SisaRun run = run_with_journal(state, BUDGET);
+    if (!show_run("run by the table, with a journal", &run))
+        return 0;
+    uint32_t steps = run.steps < BACK_STEPS ? run.steps : BACK_STEPS;
+    SisaBack back = sisa_step_back(run.state, program, sizeof program, memory, sizeof memory, inputs, PORTS, outputs, PORTS,
+                                   journal, BUDGET, steps);
+    if (refused(back.refusal))
+        return 0;
+    printf("back: steps %u, entries fallen away %u\n", steps, (unsigned)back.entries);
+    print_state("state", &back.state);
+    run = run_with_journal(back.state, steps);
+    return show_run("forward again", &run);
 }
 
 /* The kinds that were done, and the registers. */
@@ -131,15 +168,11 @@ int main(int argc, char **argv)
     set_knobs();
     SisaRun run = sisa_run_by_rules(loaded.state, program, sizeof program, memory, sizeof memory, inputs, PORTS,
                                     outputs, PORTS, BUDGET, port_log, LOG_PLACES);
-    feed(run.refusal, run.usage);
-    if (refused(run.refusal))
-        return 1;
-    printf("run by the rules: stop %u, steps %u, entries %u\n", run.stop, run.steps, (unsigned)run.entries);
-    print_corrections(run.entries);
-    print_state("state", &run.state);
-    if (!save_and_load())
+    if (!show_run("run by the rules", &run) || !save_and_load())
         return 1;
     step_by_step(loaded.state);
+    if (!back_and_forward(loaded.state))
+        return 1;
     print_sheet();
     return 0;
 }

@@ -1,5 +1,6 @@
 //! A host in Rust: loads a trim, sets three inputs, runs it, shows the corrections, saves both memories and loads them
-//! again; then takes the first steps one by one, and shows the usage sheet of it all. It prints what host.c prints.
+//! again; then takes the first steps one by one, steps back from the end of a run and goes forward again, and shows the
+//! usage sheet of it all. It prints what host.c prints.
 //!
 //!     rustc --edition 2021 -O examples/host.rs -L target/staticlib -l static=sisa -o target/host_rs
 //!     target/host_rs examples/gain.trim
@@ -14,6 +15,7 @@ mod ffi {
         pub r: [u16; 8],
         pub pc: u16,
         pub n: u32,
+        pub journaled: u64,
     }
 
     #[repr(C)]
@@ -71,6 +73,13 @@ mod ffi {
         pub usage: Usage,
     }
 
+    #[repr(C)]
+    pub struct Back {
+        pub state: State,
+        pub refusal: u8,
+        pub entries: u64,
+    }
+
     #[rustfmt::skip]
     unsafe extern "C" {
         pub fn sisa_load(
@@ -87,6 +96,16 @@ mod ffi {
             inputs: *mut u16, inputs_len: usize, outputs: *mut u16, outputs_len: usize,
             budget: u32, log: *mut u64, log_len: usize,
         ) -> Run;
+        pub fn sisa_run_by_table_with_journal(
+            state: State, program: *const u8, program_len: usize, memory: *mut u8, memory_len: usize,
+            inputs: *mut u16, inputs_len: usize, outputs: *mut u16, outputs_len: usize,
+            budget: u32, log: *mut u64, log_len: usize, journal: *mut u64, journal_len: usize,
+        ) -> Run;
+        pub fn sisa_step_back(
+            state: State, program: *const u8, program_len: usize, memory: *mut u8, memory_len: usize,
+            inputs: *mut u16, inputs_len: usize, outputs: *mut u16, outputs_len: usize,
+            journal: *const u64, journal_len: usize, k: u64,
+        ) -> Back;
         pub fn sisa_host_step(
             state: *mut State, program: *const u8, program_len: usize, memory: *mut u8, memory_len: usize,
             inputs: *mut u16, inputs_len: usize, outputs: *mut u16, outputs_len: usize,
@@ -100,6 +119,9 @@ use ffi::{Sheet, State, Usage};
 
 const MEMORY_BYTES: usize = 65_536;
 const PORTS: usize = 256;
+const BUDGET: u32 = 1_000;
+const HOST_STEPS: u32 = 5;
+const BACK_STEPS: u32 = 5;
 /// No file that a save writes is longer.
 const FILE_BYTES: usize = 16 + 2 * MEMORY_BYTES;
 
@@ -232,6 +254,38 @@ impl Machine {
                 log.len(),
             )
         };
+        self.reported(reply)
+    }
+
+    fn run_by_table_with_journal(
+        &mut self,
+        budget: u32,
+        log: &mut [u64],
+        journal: &mut [u64],
+    ) -> Result<Report, Refusal> {
+        // SAFETY: each pointer and length is of one slice, and no two slices overlap.
+        let reply = unsafe {
+            ffi::sisa_run_by_table_with_journal(
+                self.state,
+                self.program.as_ptr(),
+                self.program.len(),
+                self.memory.as_mut_ptr(),
+                self.memory.len(),
+                self.inputs.as_mut_ptr(),
+                self.inputs.len(),
+                self.outputs.as_mut_ptr(),
+                self.outputs.len(),
+                budget,
+                log.as_mut_ptr(),
+                log.len(),
+                journal.as_mut_ptr(),
+                journal.len(),
+            )
+        };
+        self.reported(reply)
+    }
+
+    fn reported(&mut self, reply: ffi::Run) -> Result<Report, Refusal> {
         self.state = reply.state;
         accepted(
             reply.refusal,
@@ -242,6 +296,29 @@ impl Machine {
                 usage: reply.usage,
             },
         )
+    }
+
+    /// How many log entries fall away.
+    fn step_back(&mut self, journal: &[u64], steps: u32) -> Result<u64, Refusal> {
+        // SAFETY: each pointer and length is of one slice, and no two slices overlap.
+        let reply = unsafe {
+            ffi::sisa_step_back(
+                self.state,
+                self.program.as_ptr(),
+                self.program.len(),
+                self.memory.as_mut_ptr(),
+                self.memory.len(),
+                self.inputs.as_mut_ptr(),
+                self.inputs.len(),
+                self.outputs.as_mut_ptr(),
+                self.outputs.len(),
+                journal.as_ptr(),
+                journal.len(),
+                steps.into(),
+            )
+        };
+        self.state = reply.state;
+        accepted(reply.refusal, reply.entries)
     }
 
     /// A run by the table with budget 1.
@@ -274,7 +351,7 @@ impl Machine {
     }
 
     fn print(&self, title: &str) {
-        let State { r, pc, n } = self.state;
+        let State { r, pc, n, .. } = self.state;
         let registers: Vec<String> = r.iter().map(|x| format!("{x:04X}")).collect();
         println!("{title}: pc {pc:04X}, n {n}, r {}", registers.join(" "));
     }
@@ -292,46 +369,97 @@ impl Machine {
     }
 }
 
-fn host(file: &[u8]) -> Result<(), Refusal> {
-    let mut log = [0; 64];
-    let mut sheet = Sheet::default();
-    let mut machine = Machine::load(file)?;
-    let reset = machine.state;
-    machine.set_input(0, 500)?;
-    machine.set_input(1, 320)?;
-    machine.set_input(2, 20)?;
-    println!("inputs: port 0 level 500, port 1 gain 320/256, port 2 lift 20");
+/// A machine, the log that its runs are lent, and the sheet that they are fed to.
+struct Host {
+    machine: Machine,
+    log: [u64; 64],
+    sheet: Sheet,
+}
 
-    let run = machine.run_by_rules(1_000, &mut log)?;
-    feed(&mut sheet, &run)?;
-    println!(
-        "run by the rules: stop {}, steps {}, entries {}",
-        run.stop, run.steps, run.entries
-    );
-    machine.print_corrections(&log[..run.entries]);
-    machine.print("state");
-
-    let saved = machine.save()?;
-    let again = Machine::load(&saved)?;
-    let same = again.program == machine.program && again.memory == machine.memory;
-    println!(
-        "saved {} bytes, loaded again: {} memories",
-        saved.len(),
-        if same { "equal" } else { "other" }
-    );
-
-    // From a reset state again; memory and ports are as the run left them.
-    machine.state = reset;
-    for _ in 0..5 {
-        let step = machine.host_step(&mut log)?;
-        feed(&mut sheet, &step)?;
-        if step.steps == 0 {
-            println!("no step: refusal 0, stop {}", step.stop);
-            break;
-        }
-        machine.print("host step");
+impl Host {
+    fn set_knobs(&mut self) -> Result<(), Refusal> {
+        self.machine.set_input(0, 500)?;
+        self.machine.set_input(1, 320)?;
+        self.machine.set_input(2, 20)?;
+        println!("inputs: port 0 level 500, port 1 gain 320/256, port 2 lift 20");
+        Ok(())
     }
-    print_sheet(&sheet);
+
+    /// Feeds and shows a run.
+    fn show_run(&mut self, title: &str, run: &Report) -> Result<(), Refusal> {
+        feed(&mut self.sheet, run)?;
+        println!(
+            "{title}: stop {}, steps {}, entries {}",
+            run.stop, run.steps, run.entries
+        );
+        self.machine.print_corrections(&self.log[..run.entries]);
+        self.machine.print("state");
+        Ok(())
+    }
+
+    /// Saves what the trim left and loads it into memories of its own.
+    fn save_and_load(&self) -> Result<(), Refusal> {
+        let saved = self.machine.save()?;
+        let again = Machine::load(&saved)?;
+        let same = again.program == self.machine.program && again.memory == self.machine.memory;
+        println!(
+            "saved {} bytes, loaded again: {} memories",
+            saved.len(),
+            if same { "equal" } else { "other" }
+        );
+        Ok(())
+    }
+
+    fn step_by_step(&mut self) -> Result<(), Refusal> {
+        for _ in 0..HOST_STEPS {
+            let step = self.machine.host_step(&mut self.log)?;
+            feed(&mut self.sheet, &step)?;
+            if step.steps == 0 {
+                println!("no step: refusal 0, stop {}", step.stop);
+                break;
+            }
+            self.machine.print("host step");
+        }
+        Ok(())
+    }
+
+    /// A run that keeps a journal, its last steps taken back, and as many steps again: the inputs are the same, so the
+    /// log entries are too. The sheet has those steps twice.
+    fn back_and_forward(&mut self) -> Result<(), Refusal> {
+        let mut journal = [0; BUDGET as usize];
+        let run = self.run_with_journal(BUDGET, &mut journal)?;
+        self.show_run("run by the table, with a journal", &run)?;
+        let steps = run.steps.min(BACK_STEPS);
+        let entries = self.machine.step_back(&journal, steps)?;
+        println!("back: steps {steps}, entries fallen away {entries}");
+        self.machine.print("state");
+        let again = self.run_with_journal(steps, &mut journal)?;
+        self.show_run("forward again", &again)
+    }
+
+    fn run_with_journal(&mut self, budget: u32, journal: &mut [u64]) -> Result<Report, Refusal> {
+        self.machine
+            .run_by_table_with_journal(budget, &mut self.log, journal)
+    }
+}
+
+fn host(file: &[u8]) -> Result<(), Refusal> {
+    let mut host = Host {
+        machine: Machine::load(file)?,
+        log: [0; 64],
+        sheet: Sheet::default(),
+    };
+    let reset = host.machine.state;
+    host.set_knobs()?;
+    let run = host.machine.run_by_rules(BUDGET, &mut host.log)?;
+    host.show_run("run by the rules", &run)?;
+    host.save_and_load()?;
+    // Twice from a reset state again; memory and ports are as they were left.
+    host.machine.state = reset;
+    host.step_by_step()?;
+    host.machine.state = reset;
+    host.back_and_forward()?;
+    print_sheet(&host.sheet);
     Ok(())
 }
 

@@ -1,5 +1,5 @@
-/* The SISA trim processor: loading a trim, running it by the rules or by the control table, saving it, writing it as text,
-   and reading and writing one instruction. Link libsisa.a (rt staticlib sisa).
+/* The SISA trim processor: loading a trim, running it by the rules or by the control table, stepping back, saving it, writing
+   it as text, and reading and writing one instruction. Link libsisa.a (rt staticlib sisa).
 
    A slice is passed as a pointer and the number of its elements. A pointer is never null, also where the number is 0, and
    no two slices of a call overlap. Beyond that every value of every argument is allowed. A memory is 65,536 bytes, an array
@@ -16,11 +16,13 @@
 extern "C" {
 #endif
 
-/* R0 to R7, PC, and n, the count of steps done. */
+/* R0 to R7, PC, n, the count of steps done, and `journaled`, the count of journal entries: how many of the last steps runs
+   kept a journal of. It is 0 from a load, and from an accepted run without a journal. */
 typedef struct {
     uint16_t r[8];
     uint16_t pc;
     uint32_t n;
+    uint64_t journaled;
 } SisaState;
 
 /* What a load replies. The state is the reset one. */
@@ -66,9 +68,9 @@ typedef struct {
     uint8_t refusal;
 } SisaFed;
 
-/* What a run replies: the state (as handed, where the run is refused), the refusal, the stop reason (0 budget used,
-   1 unassigned word, 2 OUT with the log full, 3 DIV or DIVU by zero), the steps taken, the entries written to the log, and
-   the counts. */
+/* What a run replies: the state (as handed, where the run is refused), the refusal, the stop reason (0 budget used or journal
+   full, 1 unassigned word, 2 OUT with the log full, 3 DIV or DIVU by zero), the steps taken, the entries written to the log,
+   and the counts. */
 typedef struct {
     SisaState state;
     uint8_t refusal;
@@ -86,6 +88,14 @@ typedef struct {
     uint64_t entries;
     SisaUsage usage;
 } SisaAnswer;
+
+/* What stepping back replies: the state (as handed, where it is refused), the refusal, and how many log entries fall away: as
+   many as the steps taken back wrote. */
+typedef struct {
+    SisaState state;
+    uint8_t refusal;
+    uint64_t entries;
+} SisaBack;
 
 /* An instruction: its kind, 0 to 24 in the reference sheet's order (AND 0, .. OUT 24), then 25 MUL, 26 MULH, 27 MULHU, 28 DIV,
    29 DIVU; and its parts; or assigned 0. Beside it
@@ -155,7 +165,43 @@ SisaRun sisa_run_by_table(SisaState state,
                           uint32_t budget,
                           uint64_t *log, size_t log_len);
 
-/* A run by the table with budget 1, over the state that the host holds. */
+/* The same two runs with a journal. Each step writes an entry, what it overwrites, in a coding of the library's, to the place
+   `journaled`, which grows by 1; all other places keep their content. A full journal counts as a used budget (stop 0), and it is
+   full where it has no more than `journaled` places. So a journal of no places is a full one: the run takes no step. */
+SisaRun sisa_run_by_rules_with_journal(SisaState state,
+                                       const uint8_t *program, size_t program_len,
+                                       uint8_t *memory, size_t memory_len,
+                                       uint16_t *inputs, size_t inputs_len,
+                                       uint16_t *outputs, size_t outputs_len,
+                                       uint32_t budget,
+                                       uint64_t *log, size_t log_len,
+                                       uint64_t *journal, size_t journal_len);
+
+SisaRun sisa_run_by_table_with_journal(SisaState state,
+                                       const uint8_t *program, size_t program_len,
+                                       uint8_t *memory, size_t memory_len,
+                                       uint16_t *inputs, size_t inputs_len,
+                                       uint16_t *outputs, size_t outputs_len,
+                                       uint32_t budget,
+                                       uint64_t *log, size_t log_len,
+                                       uint64_t *journal, size_t journal_len);
+
+/* Goes back k steps. Given state, memory, outputs and journal as the counted steps left them, registers, PC, n, data and outputs
+   become those of k steps earlier, and `journaled` is less by k. Inputs stay as set, program and journal as they are; running k
+   steps again with the inputs of the first time writes the same log entries. A usage sheet is not taken back.
+   A journal holds as many steps as the lesser of `journaled` and n, or none where it is shorter than `journaled`; where these are
+   fewer than k, the call is refused with 14. So an accepted run without a journal, be it a host step or of budget 0, ends what can
+   be stepped back. The journal may hold any numbers; others than runs wrote may leave PC odd, so that the next call is refused
+   with 5. */
+SisaBack sisa_step_back(SisaState state,
+                        const uint8_t *program, size_t program_len,
+                        uint8_t *memory, size_t memory_len,
+                        uint16_t *inputs, size_t inputs_len,
+                        uint16_t *outputs, size_t outputs_len,
+                        const uint64_t *journal, size_t journal_len,
+                        uint64_t k);
+
+/* A run by the table with budget 1 and no journal, over the state that the host holds. */
 SisaAnswer sisa_host_step(SisaState *state,
                           const uint8_t *program, size_t program_len,
                           uint8_t *memory, size_t memory_len,

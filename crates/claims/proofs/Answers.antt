@@ -5,7 +5,7 @@ use mathlib.Core.List.{List, [], _∷_}
 use Prim.Native.Nat.{ℕ}
 use lib.ListN.{getD}
 use Rattle.refusal.specs.declared.Refusal.{Refusal}
-use Rattle.refusal.specs.declared.Refusal.the-variants.{LentLength, ShortFile, LargePart, PartOutside, OddPc, StepCount, InstructionPart, LongFile, ShortDestination, TextLine, TextName, TextValue, FullSheet}
+use Rattle.refusal.specs.declared.Refusal.the-variants.{LentLength, ShortFile, LargePart, PartOutside, OddPc, StepCount, InstructionPart, LongFile, ShortDestination, TextLine, TextName, TextValue, FullSheet, ShortJournal}
 use Rattle.refusal.specs.Refusals.{refusalNumber, Verdict, accepted, refused}
 use Rattle.kinds.specs.declared.Kind.the-variants.{And}
 use Rattle.isa.specs.declared.Reading.{Reading}
@@ -29,6 +29,9 @@ use Rattle.save.specs.Saved.{SaveReply, saved, save-refused, shownSaving}
 use Rattle.run.specs.declared.Answer.{Answer}
 use Rattle.run.specs.declared.Answer.the-variants.{Stopped, Refused as RunRefused}
 use Rattle.run.specs.Runs.{RunReply, stopped, run-refused, shownAnswer}
+use Rattle.back.specs.declared.Going.{Going}
+use Rattle.back.specs.declared.Going.the-variants.{Gone, Refused as BackRefused}
+use Rattle.back.specs.Backs.{BackReply, gone-back, back-refused, shownGoing}
 use Rattle.sheet.specs.declared.Feeding.{Feeding}
 use Rattle.sheet.specs.declared.Feeding.the-variants.{Taken, Refused as FeedRefused}
 use Rattle.sheet.specs.Sheet.{shownFeeding}
@@ -43,7 +46,7 @@ undone f g h x y e = sym (h x) ∙ ap g e ∙ h y
 
 -- the refusal of a number
 abbrev refusal-at : ℕ → Refusal
-refusal-at n = getD (LentLength ∷ LentLength ∷ ShortFile ∷ LargePart ∷ PartOutside ∷ OddPc ∷ StepCount ∷ InstructionPart ∷ LongFile ∷ ShortDestination ∷ TextLine ∷ TextName ∷ TextValue ∷ FullSheet ∷ []) n LentLength
+refusal-at n = getD (LentLength ∷ LentLength ∷ ShortFile ∷ LargePart ∷ PartOutside ∷ OddPc ∷ StepCount ∷ InstructionPart ∷ LongFile ∷ ShortDestination ∷ TextLine ∷ TextName ∷ TextValue ∷ FullSheet ∷ ShortJournal ∷ []) n LentLength
 
 refusal-back : (x : Refusal) → refusal-at (refusalNumber x) ≡ x
 refusal-back LentLength = refl
@@ -59,6 +62,7 @@ refusal-back TextLine = refl
 refusal-back TextName = refl
 refusal-back TextValue = refl
 refusal-back FullSheet = refl
+refusal-back ShortJournal = refl
 
 reading-of : Read → Reading
 reading-of (instruction i) = ReadInstruction i
@@ -132,6 +136,15 @@ unfolding answer-of
 answer-back (Stopped r) = refl
 answer-back (RunRefused r) = ap RunRefused (refusal-back r)
 
+going-of : BackReply → Going
+going-of (gone-back e) = Gone e
+going-of (back-refused n) = BackRefused (refusal-at n)
+
+going-back : (x : Going) → going-of (shownGoing x) ≡ x
+unfolding going-of
+going-back (Gone e) = refl
+going-back (BackRefused r) = ap BackRefused (refusal-back r)
+
 pub answers : Answers
 answers =
     record {
@@ -144,5 +157,6 @@ answers =
       assembly = undone shownAssembly assembly-of assembly-back;
       setting = undone shownSetting (verdict-of Done SetRefused) setting-back;
       answer = undone shownAnswer answer-of answer-back;
+      going = undone shownGoing going-of going-back;
       feeding = undone shownFeeding (verdict-of Taken FeedRefused) feeding-back;
     }

@@ -28,14 +28,15 @@ use Rattle.assembler.specs.Text.{Reply, words, text-refused, assembleLeft}
 use Rattle.control.specs.Control.{byTable}
 use Rattle.usage.specs.Usage.{unused}
 use Rattle.run.specs.Runs.{Given, stopped, run-refused, verdictOn, runLeftBy, runLeft, CountedLeft, countedBy, countedLeft}
+use Rattle.back.specs.Backs.{gone-back, BackGiven, backVerdict, backLeftBy, backLeft}
 use Rattle.sheet.specs.declared.Sheet.{Sheet}
 use Rattle.sheet.specs.Sheet.{feedBy, wasAccepted, feedLeft}
 use Rattle.replies.specs.declared.SisaAnswer.{SisaAnswer}
 use Rattle.replies.specs.declared.SisaWord.{SisaWord}
-use Rattle.replies.specs.Sisa.{verdictNumber, sisaLoadLeft, sisaSaved, sisaSaveLeft, sisaAssembly, sisaAssembleLeft, sisaSetLeft, SisaRunLeft, runInNumbers, sisaRunLeft, HostLent, HostStepMeets, instructionInNumbers, sisaWord, sisaWrite, sisaFeed}
+use Rattle.replies.specs.Sisa.{verdictNumber, sisaLoadLeft, sisaSaved, sisaSaveLeft, sisaAssembly, sisaAssembleLeft, sisaSetLeft, SisaRunLeft, runInNumbers, sisaRunLeft, HostLent, HostStepMeets, backInNumbers, sisaBackLeft, instructionInNumbers, sisaWord, sisaWrite, sisaFeed}
 use Rattle.claims.specs.HostSteps.{stepGiven, replyOf}
 use Rattle.claims.specs.Instructions.{cleared}
-use Rattle.claims.specs.CReplies.{verdictOf, LoadReplies, savedOf, SaveReplies, assemblyOf, AssembleReplies, SetReplies, answerOf, runOf, RunReplies, stepLeft, FeedReplies, sisaRead, instructionOf, readingOf, ReadReplies, sisaWriteOf, writtenOf, WriteReplies, CReplies}
+use Rattle.claims.specs.CReplies.{verdictOf, LoadReplies, savedOf, SaveReplies, assemblyOf, AssembleReplies, SetReplies, answerOf, runOf, RunReplies, stepLeft, backOf, BackReplies, FeedReplies, sisaRead, instructionOf, readingOf, ReadReplies, sisaWriteOf, writtenOf, WriteReplies, CReplies}
 use Rattle.claims.proofs.Assembly.{refused-not-0}
 use Rattle.claims.proofs.Feeding.{turned}
 use Rattle.claims.proofs.Instructions.{instructions}
@@ -130,6 +131,24 @@ module _ (v : Stepper) (g : Given) where
 pub host-step : (h after : HostLent) (a : SisaAnswer) → HostStepMeets h a after → RunReplies byTable (stepGiven h) (stepLeft a after)
 host-step h after a e = subst (RunReplies byTable (stepGiven h)) (sym e) (run byTable (stepGiven h))
 
+-- ---- Going back
+
+module _ (g : BackGiven) where
+  -- by the verdict
+  went-back : (x : Verdict) → Not0 refused x
+      → (backOf (backInNumbers (backLeftBy x g)) ≡ backLeftBy x g)
+      × ((backInNumbers (backLeftBy x g) .reply .refusal ≡ 0) ↔ ((e : ℕ) × (backLeftBy x g .reply ≡ gone-back e)))
+      × ((backInNumbers (backLeftBy x g) .reply .refusal ≡ 0 → ⊥)
+      → backInNumbers (backLeftBy x g) .reply ≡ record { state = g .state; refusal = backInNumbers (backLeftBy x g) .reply .refusal; entries = 0 })
+  went-back accepted h = (refl, (λ e. (_, refl), λ e. refl), λ n. absurd (n refl))
+  went-back (refused k) h = (rw (ne-eqb k 0 (h k refl)), (λ e. absurd (h k refl e), λ e. let z = e .1 in clash (cc)), λ n. refl)
+
+  back : BackReplies g
+  unfolding sisaBackLeft backLeft
+  back =
+      let b = went-back (backVerdict g) (λ k e z. ⊎-elim (λ h. omega arith) (⊎-elim (λ h. omega arith) (λ h. omega arith)) (refusals .back g .no-other k (ap (λ (x : Verdict). backLeftBy x g .reply) e))) in
+      record { gives-back = b .0; refusal-0 = b .1; others-0 = b .2 }
+
 -- ---- Feeding
 
 accepted-is : (t : Bool) (q s e k : ℕ) → wasAccepted (pick t (stopped q s e) (run-refused k)) ≡ t
@@ -221,6 +240,7 @@ c-replies =
       setting = setting;
       run = run;
       host-step = host-step;
+      back = back;
       feed = feed;
       feed-run = λ v g s. fed-run v g s (sisaRunLeft v g) (run v g);
       feed-host-step = λ h after a s e. fed-run byTable (stepGiven h) s (stepLeft a after) (host-step h after a e);

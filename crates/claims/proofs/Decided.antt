@@ -6,16 +6,12 @@ use Prim.Native.Nat.{ℕ}
 use Rattle.machine.specs.Run.{byRules}
 use Rattle.panel.specs.Calls.{SetLeft, setLeft}
 use Rattle.run.specs.Runs.{CountedLeft, countedLeft}
-use Rattle.claims.specs.Session.{by-rules, by-table, Lent, Call, runs, sets, Reply, of-run, of-set, plain, Alike, Host, givenTo, afterRun, afterSet, CallMeets, a-run, a-setting, Calls, none, more}
+use Rattle.claims.specs.Session.{by-rules, by-table, Lent, Call, runs, sets, Reply, of-set, plain, Alike, Host, givenTo, afterRun, afterSet, CallMeets, a-run, a-setting, Calls, none, more}
 use Rattle.claims.proofs.Agreement.{same-run}
-use Rattle.claims.proofs.Together.{both}
+use Rattle.claims.proofs.Together.{both, told}
 
 abbrev pub ranOn : Host → Lent → CountedLeft
 ranOn h lent = countedLeft byRules (givenTo h lent)
-
--- what is told of it
-abbrev pub told : CountedLeft → Reply
-told x = of-run (x .left .reply) (x .usage) (x .left .log)
 
 abbrev pub setOn : Host → ℕ → ℕ → SetLeft
 setOn h port value = setLeft (record { I = h .I; port = port; value = value })

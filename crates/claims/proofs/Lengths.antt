@@ -13,11 +13,11 @@ use Rattle.machine.specs.Step.{PC, to}
 use Rattle.machine.specs.Run.{byRules}
 use Rattle.panel.specs.Calls.{SetLeft, setLeft}
 use Rattle.control.proofs.Laws.{lawful-rules, local-rules}
-use Rattle.run.specs.Runs.{verdict, verdictOn, CountedLeft, countedBy, countedLeft}
-use Rattle.claims.specs.Session.{Call, Reply, Host, Lent, givenTo, afterRun, afterSet, CallMeets, a-run, a-setting, Calls, none, more, outcome, machineOn, Only6, All, nil, cons}
+use Rattle.run.specs.Runs.{verdict, verdictOn, allowed, machineAt, CountedLeft, countedBy, countedLeft}
+use Rattle.claims.specs.Session.{Call, Reply, Host, Lent, givenTo, afterRun, afterSet, CallMeets, a-run, a-setting, Calls, none, more, machineOn, Only6, All, nil, cons}
+use Rattle.claims.proofs.Journaled.{start-is, counted-is}
 use Rattle.claims.proofs.Shift.{run-keeps}
-use Rattle.claims.proofs.Together.{both}
-use Rattle.claims.proofs.Decided.{told}
+use Rattle.claims.proofs.Together.{both, told}
 
 abbrev lengths : Machine → ℕ × ℕ × ℕ × ℕ
 lengths m = (length (m .P), length (m .D), length (m .I), length (m .O))
@@ -33,7 +33,10 @@ module _ (h : Host) (f : Fit (machineOn h [])) where
   -- ---- A run
 
   run-fits : (lent : Lent) (v : Verdict) → Fit (machineOn (afterRun (countedBy byRules v (givenTo h lent) .left)) [])
-  run-fits lent accepted = run-keeps Fit step-fits (lent .budget) (0 + length (lent .log)) (machineOn h []) f
+  run-fits lent accepted =
+      let g = givenTo h lent in
+      let z = run-keeps Fit step-fits (allowed g) (0 + length (lent .log)) (machineAt g) (f .0, ap (λ s. s .pc % 2) (start-is (lent .journal) (h .state)) ∙ f .1) in
+      (z .0, ap (λ s. s .pc % 2) (counted-is (lent .journal) _ _) ∙ z .1)
   run-fits lent (refused k) = f
 
   only : (lent : Lent) → verdictOn (givenTo h lent) ≡ pick (leb (h .state .n + lent .budget) 4294967295) accepted (refused 6)

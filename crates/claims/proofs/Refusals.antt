@@ -1,12 +1,16 @@
--- The three calls' replies are chains of tests; each condition is where its test fails.
+-- The calls' replies are chains of tests; each condition is where its test fails.
 -- Assumes nothing.
 use mathlib.Core.Path.{_≡_, refl, ap}
-use mathlib.Core.Bool.{and-assoc}
-use mathlib.Core.Logic.{_↔_}
+use mathlib.Core.Bool.{Bool, true, false, and-assoc}
+use mathlib.Core.Logic.{_⊎_, inl, inr, ⊎-elim, _↔_}
 use mathlib.Core.List.{List}
-use Prim.Native.Nat.{ℕ, _+_, _*_, _%_}
+use Prim.Native.Nat.{ℕ, _+_, _*_, _%_, _<_, min}
+use native.Mathlib.Omega.{arith}
+use borrow.Author.Tests.{leb-true, leb-false}
+use lib.Dec.{leb}
 use lib.ListN.{length, set}
 use Rattle.refusal.specs.Refusals.{Verdict, accepted, refused}
+use Rattle.word.specs.Word.{pick}
 use Rattle.word.proofs.Tests.{clash}
 use Rattle.machine.specs.Run.{Stepper}
 use Rattle.machine.specs.Lengths.{lengthsFit}
@@ -15,7 +19,8 @@ use Rattle.image.specs.Image.{W, programOffset, C, dataOffset, LoadGiven, fileR
 use Rattle.usage.specs.Usage.{unused}
 use Rattle.run.specs.Runs.{Given, stopped, run-refused, verdict, verdictOn, runLeftBy, runLeft, countedBy, countedLeft}
 use Rattle.run.proofs.Uncounted.{uncounted}
-use Rattle.claims.specs.Refusals.{Lengths, LoadRefusals, SetRefusals, RunRefusals, Refusals}
+use Rattle.back.specs.Backs.{BackGiven, gone-back, back-refused, stepsHeld, backVerdict, backLeftBy, backLeft}
+use Rattle.claims.specs.Refusals.{Lengths, ShortJournal, LoadRefusals, SetRefusals, RunRefusals, BackRefusals, Refusals}
 use Rattle.claims.proofs.Decides.{Fails, fails-eq, fails-le, fails-and, decides-eq, decides-stable}
 use Rattle.claims.proofs.Chains.{Reply, Tests, last, _then_, at, number, none, one-of}
 
@@ -144,5 +149,62 @@ module _ (v : Stepper) (g : Given) where
         no-counts = no-counts (verdictOn g);
       }
 
+-- ---- Going back
+
+-- fewer steps held than k, in plain inequalities
+module _ (count n length k : ℕ) where
+  abbrev Short : Type 0
+  Short = ((length < count) × (0 < k)) ⊎ (count < k) ⊎ (n < k)
+
+  fewer : (t : Bool) → leb count length ≡ t → (pick t (min count n) 0 < k) ↔ Short
+  fewer true e = (
+    over (leb count n) refl,
+    ⊎-elim (λ s. absurd (omega (arith, s .0, leb-true count length e))) (⊎-elim (λ s. omega arith) (λ s. omega arith)),
+  )
+    where
+      over : (b : Bool) → leb count n ≡ b → min count n < k → Short
+      over true f h = inr (inl (omega (arith, leb-true count n f)))
+      over false f h = inr (inr (omega (arith, leb-false count n f)))
+  fewer false e = (
+    λ h. inl (leb-false count length e, h),
+    ⊎-elim (λ s. s .1) (⊎-elim (λ s. omega arith) (λ s. omega arith)),
+  )
+
+module _ (g : BackGiven) where
+  back-replies : Reply Verdict
+  back-replies =
+      record {
+        accepted = accepted;
+        refused = refused;
+        Accepts = λ x. (e : ℕ) × (backLeftBy x g .reply ≡ gone-back e);
+        Gives = λ x k. backLeftBy x g .reply ≡ back-refused k;
+        accepts = (_, refl);
+        gives = λ k. refl;
+        no-number = λ k e. clash (cc);
+        one-number = λ j k e. cc;
+        not-both = λ k h. let e = h .1 in clash (cc);
+      }
+
+  short : Fails (leb (g .k) (stepsHeld (g .state) (g .journal))) (ShortJournal g)
+  short =
+      let a = fails-le (g .k) (stepsHeld (g .state) (g .journal)) in
+      let b = fewer (g .state .journaled) (g .state .n) (length (g .journal)) (g .k) _ refl in
+      (λ e. b .0 (a .0 e), λ s. a .1 (b .1 s))
+
+  back-tests : Tests
+  back-tests = at 1 (lengths (g .P) (g .D) (g .I) (g .O)) then at 5 (fails-eq (g .state .pc % 2) 0) then last (at 14 short)
+
+  back : BackRefusals g
+  unfolding backLeft backVerdict back-replies back-tests
+  back =
+      record {
+        number-1 = number back-replies back-tests 0 1 refl;
+        number-5 = number back-replies back-tests 0 5 refl;
+        number-14 = flat3 (number back-replies back-tests 0 14 refl);
+        accepts = flat3 (none back-replies back-tests);
+        no-other = λ k e. one-of back-replies back-tests k e .0;
+        nothing-changes = λ k e. ap (λ x. backLeftBy x g) (one-of back-replies back-tests k e .1);
+      }
+
 pub refusals : Refusals
-refusals = record { load = load; setting = setting; run = run }
+refusals = record { load = load; setting = setting; run = run; back = back }

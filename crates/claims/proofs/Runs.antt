@@ -1,98 +1,141 @@
--- Induction on the budget left: a run takes a step and goes on, or its first test that holds is the reason it gives.
+-- Induction on the steps left: a run takes a step and goes on, or its first test that holds is the reason it gives.
 -- Assumes nothing.
 use mathlib.Core.Path.{_≡_, refl, sym, _∙_, ap, subst}
 use mathlib.Core.Bool.{Bool, true, false}
-use mathlib.Core.List.{_++_}
+use mathlib.Core.List.{List, [], _∷_, _++_, map}
 use mathlib.Core.Logic.{_⊎_, ⊎-elim}
-use Prim.Native.Nat.{ℕ, zero, suc, _+_, _-_, _<_}
+use Prim.Native.Nat.{ℕ, zero, suc, _+_, _-_, _<_, _≤_}
 use native.Mathlib.Omega.{arith}
-use lib.ListN.{length, drop}
+use lib.ListN.{length, getD, drop, length-map}
 use Rattle.refusal.specs.Refusals.{Verdict, accepted, refused}
 use Rattle.word.proofs.Tests.{clash, never}
 use Rattle.machine.specs.Machine.{Machine}
 use Rattle.machine.specs.Step.{Next, cannot, to}
-use Rattle.machine.specs.Run.{Stepper, byRules, Outcome, noPlace, runFrom}
-use Rattle.machine.proofs.Runs.{Lawful, run-none, run-cannot, run-full, run-on}
+use Rattle.machine.specs.Run.{Stepper, byRules, Outcome, noPlace, runFrom, traceFrom}
+use Rattle.machine.proofs.Runs.{Lawful, run-none, run-cannot, run-full, run-on, trace-none, trace-cannot, trace-full, trace-on}
+use Rattle.journal.specs.Journal.{entryOf}
 use Rattle.control.specs.Control.{byControl}
 use Rattle.control.proofs.Laws.{lawful-control, lawful-rules, cannot-rules, cannot-control}
-use Rattle.run.specs.Runs.{Given, left, stopped, machineAt, leftOf, runLeftBy, runLeft, verdictOn}
+use Rattle.run.specs.Runs.{Journal, no-journal, lent-journal, Given, left, stopped, allowedIn, placed, keptIn, allowed, machineAt, leftOf, runLeftBy, runLeft, verdictOn}
 use Rattle.run.proofs.Uncounted.{uncounted}
-use Rattle.claims.specs.Runs.{Takes, none, more, First, budget-used, word-unassigned, zero-divisor, no-place, Reported, Runs}
+use Rattle.claims.specs.Runs.{Takes, none, more, MayGoOn, First, budget-used, journal-full, word-unassigned, zero-divisor, no-place, Kept, none-kept, kept, Reported, Runs}
+use Rattle.claims.proofs.Journaled.{start-is, count-after, may-go-on, used-up, length-placed, placed-at, placed-other}
 
 -- the number of steps, said in another way
-said : {v : Stepper} {budget full i j q : ℕ} {m : Machine} → i ≡ j → First v budget full i m q → First v budget full j m q
-said {v} {budget} {full} {q = q} {m = m} e = subst (λ i. First v budget full i m q) e
+said : {v : Stepper} {g : Given} {i j q : ℕ} {m : Machine} → i ≡ j → First v g i m q → First v g j m q
+said {v} {g} {q = q} {m = m} e = subst (λ i. First v g i m q) e
 
 -- what v is known for
 record Known (v : Stepper) : Type 0 where
   lawful : Lawful v
   reasons : (m : Machine) (q : ℕ) → v .steps m ≡ cannot q → (q ≡ 1) ⊎ (q ≡ 3)
 
-module _ (v : Stepper) (known : Known v) (budget full : ℕ) where
-  -- a run from m, j steps after its start, that ends with z
-  record Ends (j : ℕ) (m : Machine) (z : Outcome) : Type 0 where
-    steps : ℕ
-    took : Takes v steps m (z .after)
-    none-before : (i : ℕ) → i < steps → (x : Machine) → Takes v i m x → (p : ℕ) → First v budget full (j + i) x p → ⊥
-    stops : First v budget full (j + steps) (z .after) (z .reason)
-    counted : z .after .state .n ≡ m .state .n + steps
+module _ (v : Stepper) (known : Known v) (g : Given) where
+  -- a run from m, j steps after its start, that takes the steps ms and ends with z
+  record Ends (j : ℕ) (m : Machine) (z : Outcome) (ms : List Machine) : Type 0 where
+    took : Takes v (length ms) m (z .after)
+    none-before : (i : ℕ) → i < length ms → (x : Machine) → Takes v i m x → (p : ℕ) → First v g (j + i) x p → ⊥
+    stops : First v g (j + length ms) (z .after) (z .reason)
+    counted : z .after .state .n ≡ m .state .n + length ms
+    journaled : z .after .state .journaled ≡ m .state .journaled
+    few : j + length ms ≤ allowed g
+    entries : (i : ℕ) → i < length ms → (x : Machine) → Takes v i m x → getD (map entryOf ms) i 0 ≡ entryOf x
+
+  abbrev full : ℕ
+  full = length (g .log)
+
+  -- the run from m with so many steps left
+  abbrev From : ℕ → ℕ → Machine → Type 0
+  From rest j m = Ends j m (runFrom v rest full m) (traceFrom v rest full m)
 
   -- it ends before a step,
-  here : (j q : ℕ) (m : Machine) → First v budget full j m q → Ends j m (record { reason = q; after = m })
-  here j q m f =
+  here : (j q : ℕ) (m : Machine) → j ≤ allowed g → First v g j m q → Ends j m (record { reason = q; after = m }) []
+  here j q m h f =
       record {
-        steps = 0;
         took = none;
         none-before = λ i h x t p g. omega arith;
         stops = said (omega arith) f;
         counted = omega arith;
+        journaled = refl;
+        few = omega arith;
+        entries = λ i h x t. absurd (omega arith);
       }
 
   -- or it takes one and goes on
-  none-here : (j : ℕ) (m next : Machine) → j < budget → v .steps m ≡ to next → noPlace v full m ≡ false → (p : ℕ) → First v budget full j m p → ⊥
-  none-here j m next h s f p (budget-used e) = omega arith
+  none-here : (j : ℕ) (m next : Machine) → MayGoOn g j → v .steps m ≡ to next → noPlace v full m ≡ false → (p : ℕ) → First v g j m p → ⊥
+  none-here j m next h s f p (budget-used e) = h .0 e
+  none-here j m next h s f p (journal-full e) = h .1 e
   none-here j m next h s f p (word-unassigned n e) = clash (cc)
   none-here j m next h s f p (zero-divisor n e) = clash (cc)
   none-here j m next h s f p (no-place n e t) = never (sym f ∙ t)
 
-  later : (j : ℕ) (m next : Machine) (z : Outcome) → j < budget → v .steps m ≡ to next → noPlace v full m ≡ false → Ends (suc j) next z → Ends j m z
-  later j m next z h s f e =
+  later : (j : ℕ) (m next : Machine) (z : Outcome) (ms : List Machine) → MayGoOn g j → v .steps m ≡ to next → noPlace v full m ≡ false → Ends (suc j) next z ms → Ends j m z (m ∷ ms)
+  later j m next z ms h s f e =
       record {
-        steps = suc (e .steps);
         took = more s (e .took);
         none-before = before;
         stops = said (omega arith) (e .stops);
         counted = omega (arith, known .lawful .counts m next s, e .counted);
+        journaled = e .journaled ∙ known .lawful .journaled m next s;
+        few = omega (arith, e .few);
+        entries = entered;
       }
     where
-      before : (i : ℕ) → i < suc (e .steps) → (x : Machine) → Takes v i m x → (p : ℕ) → First v budget full (j + i) x p → ⊥
+      before : (i : ℕ) → i < suc (length ms) → (x : Machine) → Takes v i m x → (p : ℕ) → First v g (j + i) x p → ⊥
       before i l x none p g = none-here j m next h s f p (said (omega arith) g)
       before i l x (more {k} {next = y} t r) p g =
           let same : y ≡ next = cc in
           e .none-before k (omega arith) x (rw same at r) p (said (omega arith) g)
 
-  ends : (rest j : ℕ) (m : Machine) → budget ≡ j + rest → Ends j m (runFrom v rest full m)
-  ends zero j m h = rw run-none (here j 0 m (budget-used (omega arith)))
-  ends (suc rest) j m h = turn (ends rest (suc j)) (v .steps m) refl (noPlace v full m) refl
+      entered : (i : ℕ) → i < suc (length ms) → (x : Machine) → Takes v i m x → getD (map entryOf (m ∷ ms)) i 0 ≡ entryOf x
+      entered i l x none = refl
+      entered i l x (more {k} {next = y} t r) =
+          let same : y ≡ next = cc in
+          e .entries k (omega arith) x (rw same at r)
+
+  ends : (rest j : ℕ) (m : Machine) → allowed g ≡ j + rest → From rest j m
+  ends zero j m h =
+      rw (run-none, trace-none)
+      (here j 0 m (omega arith) (⊎-elim budget-used journal-full (used-up (g .journal) (g .state .journaled) (g .budget) j (omega arith))))
+  ends (suc rest) j m h = turn (may-go-on (g .journal) (g .state .journaled) (g .budget) j (omega arith)) (ends rest (suc j)) (v .steps m) refl (noPlace v full m) refl
     where
-      turn : ((next : Machine) → budget ≡ suc j + rest → Ends (suc j) next (runFrom v rest full next)) → (x : Next) → v .steps m ≡ x → (t : Bool) → noPlace v full m ≡ t → Ends j m (runFrom v (suc rest) full m)
-      turn go (cannot q) s t f =
-          subst (Ends j m) (sym (run-cannot v rest full m q s)) (here j q m
+      turn : MayGoOn g j → ((next : Machine) → allowed g ≡ suc j + rest → From rest (suc j) next) → (x : Next) → v .steps m ≡ x → (t : Bool) → noPlace v full m ≡ t → From (suc rest) j m
+      turn may go (cannot q) s t f =
+          rw (run-cannot v rest full m q s, trace-cannot v rest full m q s)
+          (here j q m (omega arith)
           (⊎-elim
-          (λ e. subst (First v budget full j m) (sym e) (word-unassigned (λ u. omega arith) (s ∙ ap cannot e)))
-          (λ e. subst (First v budget full j m) (sym e) (zero-divisor (λ u. omega arith) (s ∙ ap cannot e)))
+          (λ e. subst (First v g j m) (sym e) (word-unassigned may (s ∙ ap cannot e)))
+          (λ e. subst (First v g j m) (sym e) (zero-divisor may (s ∙ ap cannot e)))
           (known .reasons m q s)))
-      turn go (to next) s true f = subst (Ends j m) (sym (run-full v rest full m next s f)) (here j 2 m (no-place (λ e. omega arith) s f))
-      turn go (to next) s false f =
-          subst (Ends j m) (sym (run-on v rest full m next s f)) (later j m next (runFrom v rest full next) (omega arith) s f (go next (omega arith)))
+      turn may go (to next) s true f =
+          rw (run-full v rest full m next s f, trace-full v rest full m next s f) (here j 2 m (omega arith) (no-place may s f))
+      turn may go (to next) s false f =
+          rw (run-on v rest full m next s f, trace-on v rest full m next s f) (later j m next _ _ may s f (go next (omega arith)))
+
+-- its journal
+keeping :
+    (v : Stepper) (start : Machine) (count budget : ℕ) (ms : List Machine) → ((i : ℕ) → i < length ms → (x : Machine) → Takes v i start x → getD (map entryOf ms) i 0 ≡ entryOf x)
+    → (x : Journal) → length ms ≤ allowedIn x count budget → Kept v start count (length ms) x (keptIn x count ms)
+keeping v start count budget ms at no-journal few = none-kept
+keeping v start count budget ms at (lent-journal xs) few =
+    let es = map entryOf ms in
+    let n : length es ≡ length ms = length-map ms entryOf in
+    let room : length es ≤ length xs - count = omega arith in
+    kept xs (placed count es xs)
+    (record {
+      long = length-placed count es xs room;
+      entries = λ j l m t. placed-at es count xs room j (omega arith) ∙ at j l m t;
+      others = λ k o. placed-other es count xs room k (rw n o);
+    })
 
 -- what is left says so
 module _ (v : Stepper) (known : Known v) (g : Given) where
-  ended : (z : Outcome) → Ends v known (g .budget) (length (g .log)) 0 (machineAt g) z → (q s k : ℕ) → leftOf g z .reply ≡ stopped q s k → Reported v g (leftOf g z) q s k
-  ended z e q s k h =
-      let steps : z .after .state .n - g .state .n ≡ e .steps = omega (arith, e .counted) in
+  ended : (z : Outcome) (ms : List Machine) → Ends v known g 0 (machineAt g) z ms → (q s k : ℕ) → leftOf g ms z .reply ≡ stopped q s k → Reported v g (leftOf g ms z) q s k
+  ended z ms e q s k h =
+      let steps : z .after .state .n - g .state .n ≡ length ms = omega (arith, e .counted, ap (λ s. s .n) (start-is (g .journal) (g .state))) in
+      let state = count-after (g .journal) (length ms) (g .state) (z .after .state) (e .journaled) in
       let a : z .reason ≡ q = cc in
-      let b : e .steps ≡ s = cc in
+      let b : length ms ≡ s = cc in
       let c : length (z .after .L) ≡ k = cc in
       rw (← a, ← b, ← c)
       (record {
@@ -103,14 +146,17 @@ module _ (v : Stepper) (known : Known v) (g : Given) where
         entries = refl;
         leaves =
             let l = length (z .after .L) in
-            ap (λ s. left (stopped (z .reason) s l) (z .after .state) (z .after .P) (z .after .D) (z .after .I) (z .after .O) (z .after .L ++ drop l (g .log))) steps;
+            λ i. left (stopped (z .reason) (steps i) l) (state i) (z .after .P) (z .after .D) (z .after .I) (z .after .O) (z .after .L ++ drop l (g .log)) (keptIn (g .journal) (g .state .journaled) ms);
+        keeps = keeping v (machineAt g) (g .state .journaled) (g .budget) ms (e .entries) (g .journal) (omega (arith, e .few));
       })
 
   by-verdict : (x : Verdict) (q s k : ℕ) → runLeftBy v x g .reply ≡ stopped q s k → Reported v g (runLeftBy v x g) q s k
   by-verdict accepted q s k h =
       let m = machineAt g in
       let places : length (g .log) ≡ length (m .L) + length (g .log) = omega arith in
-      ended _ (subst (λ f. Ends v known (g .budget) (length (g .log)) 0 m (runFrom v (g .budget) f m)) places (ends v known _ _ (g .budget) 0 m (omega arith))) q s k h
+      ended _ _
+      (subst (λ f. Ends v known g 0 m (runFrom v (allowed g) f m) (traceFrom v (allowed g) f m)) places (ends v known g (allowed g) 0 m (omega arith)))
+      q s k h
   by-verdict (refused j) q s k h = clash (cc)
 
   reported : (q s k : ℕ) → runLeft v g .reply ≡ stopped q s k → Reported v g (runLeft v g) q s k

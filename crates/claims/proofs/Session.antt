@@ -17,7 +17,7 @@ use Rattle.claims.proofs.Lengths.{Fit, calls-fit}
 
 -- ---- An accepted load
 
-memory-length : (file : List ℕ) (offset count : ℕ) → count ≤ 65536 → offset + count ≤ length file → length (memoryOf file offset count) ≡ 65536
+pub memory-length : (file : List ℕ) (offset count : ℕ) → count ≤ 65536 → offset + count ≤ length file → length (memoryOf file offset count) ≡ 65536
 memory-length file offset count small inside = simp (length-append, length-take, length-drop, length-replicate) (omega arith)
 
 loaded-fits : (g : LoadGiven) → loadReply g ≡ accepted → Fit (loaded (g .file))
@@ -30,7 +30,7 @@ loaded-fits g e =
     (λ i. (p i, d i, 256, 256), refl)
 
 -- it left the machine that 01 loads from the file
-accepted-load : (g : LoadGiven) (l : LoadLeft) → l ≡ loadLeft g → l .reply ≡ accepted → (loadReply g ≡ accepted) × (machineOn (hostOf l) [] ≡ loaded (g .file))
+pub accepted-load : (g : LoadGiven) (l : LoadLeft) → l ≡ loadLeft g → l .reply ≡ accepted → (loadReply g ≡ accepted) × (machineOn (hostOf l) [] ≡ loaded (g .file))
 unfolding loadLeft loaded
 accepted-load g l e ok = go (loadReply g) e
   where

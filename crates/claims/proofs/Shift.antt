@@ -3,7 +3,7 @@
 -- Assumes nothing.
 use mathlib.Core.Path.{_≡_, refl, _∙_, ap}
 use mathlib.Core.Bool.{Bool, true, false, _&&_}
-use mathlib.Core.List.{List}
+use mathlib.Core.List.{List, [], _∷_, map}
 use Prim.Native.Nat.{ℕ, zero, suc, _+_}
 use native.Mathlib.Omega.{arith}
 use borrow.Author.Tests.{le-leb, lt-leb, leb-true, leb-false}
@@ -13,9 +13,10 @@ use Rattle.machine.specs.Machine.{Machine}
 use Rattle.machine.specs.Step.{fetched, Next, cannot, to}
 use Rattle.machine.specs.Run.{byRules, Outcome, noPlace, runFrom, traceFrom}
 use Rattle.machine.proofs.Runs.{run-none, run-cannot, run-full, run-on, trace-none, trace-cannot, trace-full, trace-on}
-use Rattle.usage.specs.declared.Usage.{Usage}
+use Rattle.journal.specs.Journal.{overwritten, entryOf}
 use Rattle.usage.specs.Usage.{doesKind, masksAt, counted, usageOf}
 use Rattle.control.proofs.Laws.{shift, shiftNext, local-rules}
+use Rattle.run.specs.Runs.{Journal, no-journal, lent-journal, placed, keptIn}
 
 abbrev pub shiftOutcome : List ℕ → Outcome → Outcome
 shiftOutcome l z = record { reason = z .reason; after = shift l (z .after) }
@@ -32,47 +33,63 @@ unfolding noPlace
 place-shift full l m =
     ap (λ w. w && leb (length l + full) (length (shift l m .L))) (local-rules .writes-shift l m) ∙ simp (length-append, leb-shift)
 
-pub run-shift : (k full : ℕ) (l : List ℕ) (m : Machine) → runFrom byRules k (length l + full) (shift l m) ≡ shiftOutcome l (runFrom byRules k full m)
-run-shift zero full l m = rw (run-none byRules full m, run-none byRules (length l + full) (shift l m))
-run-shift (suc k) full l m = by-next (byRules .steps m) refl (noPlace byRules full m) refl (λ next. run-shift k full l next)
+-- the run from m, and its steps
+pub record Alike (k full : ℕ) (l : List ℕ) (m : Machine) : Type 0 where
+  pub ends : runFrom byRules k (length l + full) (shift l m) ≡ shiftOutcome l (runFrom byRules k full m)
+  pub traces : traceFrom byRules k (length l + full) (shift l m) ≡ map (shift l) (traceFrom byRules k full m)
+
+pub goes-alike : (k full : ℕ) (l : List ℕ) (m : Machine) → Alike k full l m
+goes-alike zero full l m =
+    let f = length l + full in
+    record {
+      ends = rw (run-none byRules full m, run-none byRules f (shift l m));
+      traces = rw (trace-none byRules full m, trace-none byRules f (shift l m));
+    }
+goes-alike (suc k) full l m = by-next (byRules .steps m) refl (noPlace byRules full m) refl (goes-alike k full l)
   where
     s : {x : Next} → byRules .steps m ≡ x → byRules .steps (shift l m) ≡ shiftNext l x
     s e = local-rules .steps-shift l m ∙ ap (shiftNext l) e
 
     p : {t : Bool} → noPlace byRules full m ≡ t → noPlace byRules (length l + full) (shift l m) ≡ t
-    p f = place-shift full l m ∙ f
+    p e = place-shift full l m ∙ e
 
-    by-next : (x : Next) → byRules .steps m ≡ x → (t : Bool) → noPlace byRules full m ≡ t
-        → ((next : Machine) → runFrom byRules k (length l + full) (shift l next) ≡ shiftOutcome l (runFrom byRules k full next))
-        → runFrom byRules (suc k) (length l + full) (shift l m) ≡ shiftOutcome l (runFrom byRules (suc k) full m)
-    by-next (cannot q) e t f ih = rw (run-cannot byRules k full m q e, run-cannot byRules k (length l + full) (shift l m) q (s e))
-    by-next (to next) e true f ih = rw (run-full byRules k full m next e f, run-full byRules k (length l + full) (shift l m) (shift l next) (s e) (p f))
-    by-next (to next) e false f ih = rw (run-on byRules k full m next e f, run-on byRules k (length l + full) (shift l m) (shift l next) (s e) (p f)) (ih next)
+    by-next : (x : Next) → byRules .steps m ≡ x → (t : Bool) → noPlace byRules full m ≡ t → ((next : Machine) → Alike k full l next) → Alike (suc k) full l m
+    by-next (cannot q) e t h ih =
+        let f = length l + full in
+        record {
+          ends = rw (run-cannot byRules k full m q e, run-cannot byRules k f (shift l m) q (s e));
+          traces = rw (trace-cannot byRules k full m q e, trace-cannot byRules k f (shift l m) q (s e));
+        }
+    by-next (to next) e true h ih =
+        let f = length l + full in
+        record {
+          ends = rw (run-full byRules k full m next e h, run-full byRules k f (shift l m) (shift l next) (s e) (p h));
+          traces = rw (trace-full byRules k full m next e h, trace-full byRules k f (shift l m) (shift l next) (s e) (p h));
+        }
+    by-next (to next) e false h ih =
+        let f = length l + full in
+        record {
+          ends = rw (run-on byRules k full m next e h, run-on byRules k f (shift l m) (shift l next) (s e) (p h)) (ih next .ends);
+          traces = rw (trace-on byRules k full m next e h, trace-on byRules k f (shift l m) (shift l next) (s e) (p h))
+              (ap (λ ms. shift l m ∷ ms) (ih next .traces));
+        }
 
--- ---- The trace goes alike, so the counts are the same
+-- ---- So its counts and its journal are the same
 
-counts-shift : (l : List ℕ) (m : Machine) {u u′ : Usage} → u ≡ u′ → counted (doesKind (shift l m)) (masksAt (shift l m)) u ≡ counted (doesKind m) (masksAt m) u′
-unfolding fetched
-counts-shift l m e = ap (counted (doesKind m) (masksAt m)) e
+module _ (l : List ℕ) where
+  pub usage-shift : (ms : List Machine) → usageOf (map (shift l) ms) ≡ usageOf ms
+  unfolding usageOf fetched
+  usage-shift [] = refl
+  usage-shift (m ∷ ms) = ap (counted (doesKind m) (masksAt m)) (usage-shift ms)
 
-pub usage-shift : (k full : ℕ) (l : List ℕ) (m : Machine) → usageOf (traceFrom byRules k (length l + full) (shift l m)) ≡ usageOf (traceFrom byRules k full m)
-unfolding usageOf
-usage-shift zero full l m = rw (trace-none byRules full m, trace-none byRules (length l + full) (shift l m))
-usage-shift (suc k) full l m = by-next (byRules .steps m) refl (noPlace byRules full m) refl (λ next. usage-shift k full l next)
-  where
-    s : {x : Next} → byRules .steps m ≡ x → byRules .steps (shift l m) ≡ shiftNext l x
-    s e = local-rules .steps-shift l m ∙ ap (shiftNext l) e
+  entries-shift : (ms : List Machine) → map entryOf (map (shift l) ms) ≡ map entryOf ms
+  unfolding entryOf overwritten fetched
+  entries-shift [] = refl
+  entries-shift (m ∷ ms) = ap (λ es. entryOf m ∷ es) (entries-shift ms)
 
-    p : {t : Bool} → noPlace byRules full m ≡ t → noPlace byRules (length l + full) (shift l m) ≡ t
-    p f = place-shift full l m ∙ f
-
-    by-next : (x : Next) → byRules .steps m ≡ x → (t : Bool) → noPlace byRules full m ≡ t
-        → ((next : Machine) → usageOf (traceFrom byRules k (length l + full) (shift l next)) ≡ usageOf (traceFrom byRules k full next))
-        → usageOf (traceFrom byRules (suc k) (length l + full) (shift l m)) ≡ usageOf (traceFrom byRules (suc k) full m)
-    by-next (cannot q) e t f ih = rw (trace-cannot byRules k full m q e, trace-cannot byRules k (length l + full) (shift l m) q (s e))
-    by-next (to next) e true f ih = rw (trace-full byRules k full m next e f, trace-full byRules k (length l + full) (shift l m) (shift l next) (s e) (p f))
-    by-next (to next) e false f ih =
-        rw (trace-on byRules k full m next e f, trace-on byRules k (length l + full) (shift l m) (shift l next) (s e) (p f)) (counts-shift l m (ih next))
+  pub kept-shift : (x : Journal) (count : ℕ) (ms : List Machine) → keptIn x count (map (shift l) ms) ≡ keptIn x count ms
+  kept-shift no-journal count ms = refl
+  kept-shift (lent-journal xs) count ms = ap (λ es. lent-journal (placed count es xs)) (entries-shift ms)
 
 -- what each step keeps
 module _ (Q : Machine → Type 0) (steps : (m next : Machine) → byRules .steps m ≡ to next → Q m → Q next) where

@@ -2,30 +2,33 @@
 -- Assumes nothing.
 use mathlib.Core.Path.{_≡_, refl, sym, ap, subst, _∙_}
 use mathlib.Core.Bool.{Bool, true, false}
-use mathlib.Core.List.{List, [], _∷_, _++_, append-assoc, append-nil}
+use mathlib.Core.List.{List, [], _∷_, _++_, map, append-assoc, append-nil}
 use Prim.Native.Nat.{ℕ, _+_, _-_}
 use native.Mathlib.Omega.{arith}
 use native.Mathlib.Nat.{zero-add}
 use lib.Dec.{eqb}
-use lib.ListN.{length, set, take, drop, length-append}
+use lib.ListN.{length, set, take, drop, length-append, length-map}
 use lib.Seq.{take-append-seam, drop-append-seam}
 use Rattle.refusal.specs.Refusals.{Verdict, accepted, refused}
 use Rattle.word.specs.Word.{pick}
-use Rattle.machine.specs.Machine.{Machine, putI}
-use Rattle.machine.specs.Run.{byRules, Outcome, runFrom, traceFrom, trace}
-use Rattle.usage.specs.declared.Usage.{Usage}
+use Rattle.machine.specs.Machine.{Machine, putI, onState}
+use Rattle.machine.specs.Run.{byRules, Outcome, runFrom, traceFrom}
 use Rattle.usage.specs.Usage.{usageOf}
 use Rattle.panel.specs.Calls.{SetLeft, setLeft}
 use Rattle.control.proofs.Laws.{shift}
-use Rattle.run.specs.Runs.{Given, Left, stopped, verdictOn, leftOf, CountedLeft, countedBy, countedLeft, CountedMeets}
-use Rattle.claims.specs.Session.{Engine, by-rules, by-table, stepperOf, Lent, Call, runs, sets, Reply, of-run, of-set, Host, givenTo, afterRun, afterSet, CallMeets, a-run, a-setting, Calls, none, more, wrote, joined, outcome, runBy, machineCall, machineCalls, saidBy, machineSays, machineReplies, machineOn}
+use Rattle.run.specs.Runs.{Given, Left, stopped, verdictOn, countedIn, keptIn, leftOf, CountedLeft, countedBy, countedLeft, CountedMeets}
+use Rattle.claims.specs.Session.{Engine, by-rules, by-table, stepperOf, Lent, Call, runs, sets, Reply, of-run, of-set, Host, givenTo, afterRun, afterSet, CallMeets, a-run, a-setting, Calls, none, more, wrote, joined, allowedTo, started, outcome, taken, runBy, machineCall, machineCalls, saidBy, machineSays, machineReplies, machineOn}
 use Rattle.claims.proofs.Agreement.{same-run}
-use Rattle.claims.proofs.Shift.{shiftOutcome, run-shift, usage-shift}
+use Rattle.claims.proofs.Shift.{shiftOutcome, goes-alike, usage-shift, kept-shift}
 
 -- both engines promise the same
 pub both : (e : Engine) (g : Given) (x : CountedLeft) → CountedMeets (stepperOf e) g x → x ≡ countedLeft byRules g
 both by-rules g x p = p
 both by-table g x p = p ∙ same-run g
+
+-- what is told of a run
+abbrev pub told : CountedLeft → Reply
+told x = of-run (x .left .reply) (x .usage) (x .left .log) (x .left .journal)
 
 -- one call
 record Together (h : Host) (l : List ℕ) (c : Call) (r : Reply) (h′ : Host) : Type 0 where
@@ -35,55 +38,66 @@ record Together (h : Host) (l : List ℕ) (c : Call) (r : Reply) (h′ : Host) :
 -- ---- A run
 
 -- the run on the machine whose L is empty, with l in front
-outcome-shift : (h : Host) (l : List ℕ) (lent : Lent) → outcome (machineOn h l) lent ≡ shiftOutcome l (outcome (machineOn h []) lent)
-outcome-shift h l lent =
-    subst
-    (λ (x : List ℕ).
-    runFrom byRules (lent .budget) (length l + length (lent .log)) (machineOn h x)
-    ≡ shiftOutcome l (runFrom byRules (lent .budget) (0 + length (lent .log)) (machineOn h [])))
-    (append-nil l) (rw (zero-add (length (lent .log))) (run-shift (lent .budget) (length (lent .log)) l (machineOn h [])))
+module _ (h : Host) (l : List ℕ) (lent : Lent) where
+  record Shifted : Type 0 where
+    outcomes : outcome (machineOn h l) lent ≡ shiftOutcome l (outcome (machineOn h []) lent)
+    traces : taken (machineOn h l) lent ≡ map (shift l) (taken (machineOn h []) lent)
 
--- and its counts
-counts-alike : (h : Host) (l : List ℕ) (lent : Lent)
-    → usageOf (trace byRules (lent .budget) (length (lent .log)) (machineOn h l)) ≡ usageOf (trace byRules (lent .budget) (length (lent .log)) (machineOn h []))
-counts-alike h l lent =
-    subst
-    (λ (x : List ℕ).
-    usageOf (traceFrom byRules (lent .budget) (length l + length (lent .log)) (machineOn h x))
-    ≡ usageOf (traceFrom byRules (lent .budget) (0 + length (lent .log)) (machineOn h [])))
-    (append-nil l) (rw (zero-add (length (lent .log))) (usage-shift (lent .budget) (length (lent .log)) l (machineOn h [])))
+  shifted : Shifted
+  shifted =
+      let k = allowedTo (machineOn h []) lent in
+      let n = length (lent .log) in
+      let on : List ℕ → Machine = λ x. started (machineOn h x) lent in
+      let t = goes-alike k n l (on []) in
+      record {
+        outcomes = subst (λ (x : List ℕ). runFrom byRules k (length l + n) (on x) ≡ shiftOutcome l (runFrom byRules k (0 + n) (on []))) (append-nil l)
+            (rw (zero-add n) (t .ends));
+        traces = subst (λ (x : List ℕ). traceFrom byRules k (length l + n) (on x) ≡ map (shift l) (traceFrom byRules k (0 + n) (on []))) (append-nil l)
+            (rw (zero-add n) (t .traces));
+      }
 
--- what a machine with l in its L says of a run that came to y, with counts u
-abbrev saying : Host → List ℕ → Lent → Usage → Outcome → Reply
-saying h l lent u y =
+-- what a machine with l in its L says of a run that took the steps ms and came to y
+abbrev saying : Host → List ℕ → Lent → List Machine → Outcome → Reply
+saying h l lent ms y =
     let new = drop (length l) (y .after .L) in
-    of-run (stopped (y .reason) (y .after .state .n - h .state .n) (length (y .after .L) - length l)) u (new ++ drop (length new) (lent .log))
+    of-run (stopped (y .reason) (y .after .state .n - h .state .n) (length (y .after .L) - length l)) (usageOf ms)
+    (new ++ drop (length new) (lent .log)) (keptIn (lent .journal) (h .state .journaled) ms)
 
-module _ (h : Host) (l : List ℕ) (lent : Lent) (z : Outcome) where
+module _ (h : Host) (l : List ℕ) (lent : Lent) (ms : List Machine) (z : Outcome) where
   abbrev left : Left
-  left = leftOf (givenTo h lent) z
+  left = leftOf (givenTo h lent) ms z
 
-  left-held : machineOn (afterRun left) (l ++ take (length (z .after .L)) (left .log)) ≡ shift l (z .after)
+  abbrev counted : ℕ → Machine → Machine
+  counted k m = onState (countedIn (lent .journal) k) m
+
+  left-held : machineOn (afterRun left) (l ++ take (length (z .after .L)) (left .log)) ≡ counted (length ms) (shift l (z .after))
   left-held = rw (take-append-seam (z .after .L) (drop (length (z .after .L)) (lent .log)))
 
-  left-says : (u : Usage) → of-run (left .reply) u (left .log) ≡ saying h l lent u (shiftOutcome l z)
-  left-says u =
+  left-says : of-run (left .reply) (usageOf ms) (left .log) (left .journal) ≡ saying h l lent ms (shiftOutcome l z)
+  left-says =
       let k : length (l ++ z .after .L) - length l ≡ length (z .after .L) = rw (length-append l (z .after .L)) (omega arith) in
       rw (drop-append-seam l (z .after .L), k)
 
+  -- the same, of the machine with l in its L
+  module _ (y : Outcome) (e : y ≡ shiftOutcome l z) (ns : List Machine) (t : ns ≡ map (shift l) ms) where
+    held-alike : counted (length ms) (shift l (z .after)) ≡ counted (length ns) (y .after)
+    held-alike = rw (e, t, length-map ms (shift l))
+
+    says-alike : saying h l lent ms (shiftOutcome l z) ≡ saying h l lent ns y
+    says-alike = rw (e, t, usage-shift l ms, kept-shift l (lent .journal) (h .state .journaled) ms)
+
 run-together :
     (h : Host) (l : List ℕ) (lent : Lent) (v : Verdict)
-    → (let c = countedBy byRules v (givenTo h lent) in
-    let x = c .left in
-    (machineOn (afterRun x) (l ++ wrote (of-run (x .reply) (c .usage) (x .log))) ≡ runBy v (machineOn h l) lent)
-    × (of-run (x .reply) (c .usage) (x .log) ≡ saidBy v (machineOn h l) lent))
+    → (let r = told (countedBy byRules v (givenTo h lent)) in
+    (machineOn (afterRun (countedBy byRules v (givenTo h lent) .left)) (l ++ wrote r) ≡ runBy v (machineOn h l) lent)
+    × (r ≡ saidBy v (machineOn h l) lent))
 run-together h l lent (refused k) = (rw append-nil, refl)
 run-together h l lent accepted =
     let z = outcome (machineOn h []) lent in
-    let e = sym (outcome-shift h l lent) in
-    let u = usageOf (trace byRules (lent .budget) (length (lent .log)) (machineOn h [])) in (
-      left-held h l lent z ∙ ap (λ y. y .after) e,
-      left-says h l lent z u ∙ ap (saying h l lent u) e ∙ ap (λ (x : Usage). saying h l lent x (outcome (machineOn h l) lent)) (sym (counts-alike h l lent)),
+    let ms = taken (machineOn h []) lent in
+    let s = shifted h l lent in (
+      left-held h l lent ms z ∙ held-alike h l lent ms z _ (s .outcomes) _ (s .traces),
+      left-says h l lent ms z ∙ says-alike h l lent ms z _ (s .outcomes) _ (s .traces),
     )
 
 -- ---- A setting
@@ -101,8 +115,7 @@ set-together h l port value false = (rw append-nil, refl)
 does-together : {h h′ : Host} {c : Call} {r : Reply} → CallMeets h c r h′ → (l : List ℕ) → Together h l c r h′
 unfolding machineCall machineSays countedLeft setLeft
 does-together (a-run h e lent x promise) l =
-    subst (λ (y : CountedLeft). Together h l (runs e lent) (of-run (y .left .reply) (y .usage) (y .left .log)) (afterRun (y .left)))
-    (sym (both e (givenTo h lent) x promise))
+    subst (λ (y : CountedLeft). Together h l (runs e lent) (told y) (afterRun (y .left))) (sym (both e (givenTo h lent) x promise))
     (let t = run-together h l lent (verdictOn (givenTo h lent)) in record { held = t .0; says = t .1 })
 does-together (a-setting h port value x promise) l =
     subst (λ (y : SetLeft). Together h l (sets port value) (of-set (y .reply)) (afterSet h y)) (sym promise)

@@ -11,12 +11,12 @@ use lib.ListN.{length, getD}
 use Rattle.refusal.specs.Refusals.{Verdict, accepted, refused}
 use Rattle.word.specs.Word.{flag}
 use Rattle.word.proofs.Tests.{never}
-use Rattle.machine.specs.Run.{byRules, run}
+use Rattle.machine.specs.Run.{byRules}
 use Rattle.control.proofs.Agreement.{same-stepper}
 use Rattle.usage.specs.declared.Usage.{Usage}
 use Rattle.usage.specs.Usage.{unused, plusCounts, plusUsage}
 use Rattle.usage.proofs.Sums.{unused-plus}
-use Rattle.run.specs.Runs.{Given, verdictOn, machineAt, runLeftBy, runLeft, CountedLeft, countedBy, countedLeft, CountedMeets}
+use Rattle.run.specs.Runs.{Given, verdictOn, allowed, machineAt, outcomeOn, runLeftBy, runLeft, CountedLeft, countedBy, countedLeft, CountedMeets}
 use Rattle.sheet.specs.declared.Sheet.{Sheet}
 use Rattle.sheet.specs.Sheet.{empty, sums, wasAccepted, feedLeft}
 use Rattle.claims.specs.Session.{Engine, by-rules, by-table, stepperOf}
@@ -25,6 +25,7 @@ use Rattle.claims.specs.Usage.{Run, stepRun, Fed, Returned, none, more, 
 use Rattle.claims.proofs.Counts.{at-total, Counts, counts-none, counts-plus, traced}
 use Rattle.claims.proofs.Feeding.{nextBy, turned, next, into, takenOf, feeds, fed-into, fed-few, any-into, any-taken, any-steps, first-last}
 use Rattle.claims.proofs.CReplies.{host-step}
+use Rattle.claims.proofs.Journaled.{start-is, allowed-few}
 use Rattle.claims.proofs.Refusals.{refusals}
 
 -- ---- A run, by its verdict
@@ -46,15 +47,15 @@ fits g e =
 
 by-verdict : (g : Given) (x : Verdict) → x ≡ verdictOn g → Ran x g (countedBy byRules x g)
 by-verdict g accepted e =
-    let z = run byRules (g .budget) (length (g .log)) (machineAt g) in
-    let t = traced (g .budget) (length (machineAt g .L) + length (g .log)) (machineAt g) in
-    let steps : t .steps ≡ z .after .state .n - g .state .n = omega (arith, t .grew) in
+    let z = outcomeOn byRules g in
+    let t = traced (allowed g) (length (machineAt g .L) + length (g .log)) (machineAt g) in
+    let steps : t .steps ≡ z .after .state .n - g .state .n = omega (arith, t .grew, ap (λ s. s .n) (start-is (g .journal) (g .state))) in
     record {
       usage = refl;
       once = refl;
       refused-none = λ f. never (sym f);
       counts = rw steps at (t .counts);
-      few = omega (arith, t .few, fits g e, steps);
+      few = omega (arith, t .few, allowed-few (g .journal) (g .state .journaled) (g .budget), fits g e, steps);
     }
 by-verdict g (refused k) e = record { usage = refl; once = refl; refused-none = λ f. refl; counts = counts-none; few = omega arith }
 

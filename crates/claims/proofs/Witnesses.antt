@@ -19,7 +19,7 @@ use Rattle.isa.specs.Sheet.{sheetLine, kindAt}
 use Rattle.isa.specs.Instructions.{registerPart, Register, a-register, b-register, d-register, wordOf, word, writeOf}
 use Rattle.isa.specs.Masks.{inMask, masksOf}
 use Rattle.isa.proofs.Every.{every}
-use Rattle.machine.specs.Machine.{Machine, R, wordAt}
+use Rattle.machine.specs.Machine.{Machine, R, reset, putRegisters, wordAt}
 use Rattle.machine.specs.Step.{PC, write, Next, cannot, to, fetched}
 use Rattle.claims.specs.Rules.{stepAs}
 use Rattle.usage.specs.Usage.{masksAt}
@@ -52,7 +52,7 @@ machine k rs =
     let i = example k in
     let w = wordOf (sheetLine k) (i .a) (i .b) (i .d) (natAbs (i .n)) in
     record {
-      state = record { r = rs; pc = 0; n = 0 };
+      state = putRegisters rs reset;
       P = w % 256 ∷ w / 256 ∷ zeros 65534;
       D = 10 ∷ 20 ∷ 30 ∷ 40 ∷ zeros 65532;
       I = 0 ∷ 0 ∷ zeros 254;

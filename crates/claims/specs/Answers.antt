@@ -14,6 +14,7 @@ use Rattle.save.specs.Saved.{shownSaving}
 use Rattle.assembler.specs.Passes.{shownAssembly}
 use Rattle.run.specs.declared.Answer.{Answer}
 use Rattle.run.specs.Runs.{shownAnswer}
+use Rattle.back.specs.Backs.{shownGoing}
 use Rattle.sheet.specs.Sheet.{shownFeeding}
 use Rattle.kinds.specs.Kinds.{kindNumber}
 use Rattle.isa.specs.Instructions.{shownWriting}
@@ -32,4 +33,5 @@ pub record Answers : Type 0 where
   pub assembly : Injective shownAssembly
   pub setting : Injective shownSetting
   pub answer : Injective shownAnswer
+  pub going : Injective shownGoing
   pub feeding : Injective shownFeeding

@@ -23,20 +23,22 @@ use Rattle.assembler.specs.Text.{Reply, words, text-refused, AssembleLeft, asse
 use Rattle.control.specs.Control.{byTable}
 use Rattle.usage.specs.declared.Usage.{Usage}
 use Rattle.usage.specs.Usage.{unused}
-use Rattle.run.specs.Runs.{Given, left, RunReply, CountedLeft, countedLeft}
+use Rattle.run.specs.Runs.{no-journal, Given, left, RunReply, CountedLeft, countedLeft}
+use Rattle.back.specs.Backs.{BackReply, gone-back, back-refused, BackGiven, BackLeft, backLeft}
 use Rattle.sheet.specs.declared.Sheet.{Sheet}
 use Rattle.sheet.specs.Sheet.{FeedLeft, feedLeft}
 use Rattle.replies.specs.declared.SisaSaved.{SisaSaved}
 use Rattle.replies.specs.declared.SisaAssembly.{SisaAssembly}
 use Rattle.replies.specs.declared.SisaRun.{SisaRun}
 use Rattle.replies.specs.declared.SisaAnswer.{SisaAnswer}
+use Rattle.replies.specs.declared.SisaBack.{SisaBack}
 use Rattle.replies.specs.declared.SisaInstruction.{SisaInstruction}
 use Rattle.replies.specs.declared.SisaWord.{SisaWord}
 use Rattle.replies.specs.declared.SisaFed.{SisaFed}
-use Rattle.replies.specs.Sisa.{SisaLoadLeft, sisaLoadLeft, SisaSaveLeft, sisaSaveLeft, SisaAssembleLeft, sisaAssembleLeft, SisaSetLeft, sisaSetLeft, SisaRunLeft, sisaLeft, sisaRunLeft, HostLent, withState, HostStepMeets, sisaInstruction, sisaWrite, sisaFeed}
+use Rattle.replies.specs.Sisa.{SisaLoadLeft, sisaLoadLeft, SisaSaveLeft, sisaSaveLeft, SisaAssembleLeft, sisaAssembleLeft, SisaSetLeft, sisaSetLeft, SisaRunLeft, sisaLeft, sisaRunLeft, HostLent, withState, HostStepMeets, SisaBackLeft, sisaBackLeft, sisaInstruction, sisaWrite, sisaFeed}
 use Rattle.claims.specs.HostSteps.{stepGiven, replyOf}
 use Rattle.claims.specs.Instructions.{cleared}
-use Rattle.claims.specs.Refusals.{Accepts}
+use Rattle.claims.specs.Refusals.{Accepts, AcceptsBack}
 
 -- refusal 0 is an accepted call
 abbrev pub verdictOf : ℕ → Verdict
@@ -87,7 +89,7 @@ pub record SetReplies (g : SetGiven) : Type 0 where
   pub gives-back : setOf (sisaSetLeft g) ≡ setLeft g
   pub refusal-0 : (sisaSetLeft g .refusal ≡ 0) ↔ (setLeft g .reply ≡ accepted)
 
--- ---- sisa_run_by_rules, sisa_run_by_table and sisa_host_step
+-- ---- sisa_run_by_rules, sisa_run_by_table, both with a journal, and sisa_host_step
 
 -- a run's reply without its state is a host step's
 abbrev pub answerOf : SisaRun → SisaAnswer
@@ -96,7 +98,7 @@ answerOf r = record { refusal = r .refusal; stop = r .stop; steps = r .steps; en
 abbrev pub runOf : SisaRunLeft → CountedLeft
 runOf l =
     record {
-      left = left (replyOf (answerOf (l .reply))) (l .reply .state) (l .P) (l .D) (l .I) (l .O) (l .log);
+      left = left (replyOf (answerOf (l .reply))) (l .reply .state) (l .P) (l .D) (l .I) (l .O) (l .log) (l .journal);
       usage = l .reply .usage;
     }
 
@@ -110,7 +112,23 @@ pub record RunReplies (v : Stepper) (g : Given) (l : SisaRunLeft) : Type 0 where
 
 -- a host step's answer, and what it left in the host's registers and in what was lent
 abbrev pub stepLeft : SisaAnswer → HostLent → SisaRunLeft
-stepLeft a after = sisaLeft (withState (after .state) a) (after .P) (after .D) (after .I) (after .O) (after .log)
+stepLeft a after = sisaLeft (withState (after .state) a) (after .P) (after .D) (after .I) (after .O) (after .log) no-journal
+
+-- ---- sisa_step_back
+
+abbrev pub wentBack : SisaBack → BackReply
+wentBack r = pick (eqb (r .refusal) 0) (gone-back (r .entries)) (back-refused (r .refusal))
+
+abbrev pub backOf : SisaBackLeft → BackLeft
+backOf l =
+    record { reply = wentBack (l .reply); state = l .reply .state; P = l .P; D = l .D; I = l .I; O = l .O; journal = l .journal }
+
+pub record BackReplies (g : BackGiven) : Type 0 where
+  pub gives-back : backOf (sisaBackLeft g) ≡ backLeft g
+  pub refusal-0 : (sisaBackLeft g .reply .refusal ≡ 0) ↔ AcceptsBack g
+  pub others-0 :
+      (sisaBackLeft g .reply .refusal ≡ 0 → ⊥)
+      → sisaBackLeft g .reply ≡ record { state = g .state; refusal = sisaBackLeft g .reply .refusal; entries = 0 }
 
 -- ---- sisa_feed
 
@@ -167,6 +185,7 @@ pub record CReplies : Type 0 where
   -- a host step, known by its contract
   pub host-step :
       (h after : HostLent) (a : SisaAnswer) → HostStepMeets h a after → RunReplies byTable (stepGiven h) (stepLeft a after)
+  pub back : (g : BackGiven) → BackReplies g
   -- Feeding any numbers is feeding the reply that they stand for;
   pub feed : (s : Sheet) (a : SisaAnswer) → FeedReplies s a (replyOf a) (a .usage)
   -- so feeding what a run or a host step replied in C is feeding that run.

@@ -21,7 +21,8 @@ use Rattle.control.specs.Control.{byControl, byTable}
 use Rattle.usage.specs.declared.Usage.{Usage}
 use Rattle.run.specs.declared.Answer.{Answer}
 use Rattle.run.specs.declared.Counted.{Counted}
-use Rattle.run.specs.Runs.{Given, given, Left, left, shownAnswer, RunMeets, CountedMeets}
+use Rattle.run.specs.Runs.{Journal, no-journal, lent-journal, Given, given, Left, left, shownAnswer, RunMeets, CountedMeets}
+use Rattle.back.specs.Backs.{BackGiven, BackLeft, shownGoing, backLeft}
 use Rattle.sheet.specs.declared.Sheet.{Sheet}
 use Rattle.sheet.specs.Sheet.{empty, FeedLeft, shownFeeding, feedLeft}
 use Rattle.printing.specs.Text.{inArray}
@@ -39,7 +40,10 @@ use Rattle.save.proofs.save.Reads as save
 use Rattle.assembler.proofs.assemble.Reads as assemble
 use Rattle.engine.proofs.run_by_rules.Reads as run-by-rules
 use Rattle.engine.proofs.run_by_table.Reads as run-by-table
+use Rattle.engine.proofs.run_by_rules_with_journal.Reads as run-by-rules-with-journal
+use Rattle.engine.proofs.run_by_table_with_journal.Reads as run-by-table-with-journal
 use Rattle.engine.proofs.run_by_control.Reads as run-by-control
+use Rattle.back.proofs.step_back.Reads as step-back
 use Rattle.sheet.proofs.Sheet.empty.Reads as sheet-empty
 use Rattle.sheet.proofs.feed.Reads as feed
 use Rattle.report.proofs.report.Reads as report
@@ -51,22 +55,49 @@ use Rattle.trimfile.proofs.from_text.Reads as from-text
 abbrev pub LentSlice : Type 0
 LentSlice = RefT (List ℕ)
 
--- a run's arguments: state, program, memory, inputs, outputs, budget, log
-abbrev pub RunArguments : Type 0
-RunArguments = State × (LentSlice × (LentSlice × (LentSlice × (LentSlice × (ℕ × (LentSlice × Unit {0}))))))
+-- a run's arguments: state, program, memory, inputs, outputs, budget, log, and what follows the log
+abbrev pub RunArguments : Type 0 → Type 0
+RunArguments X = State × (LentSlice × (LentSlice × (LentSlice × (LentSlice × (ℕ × (LentSlice × X))))))
+
+-- the journal that follows it: none, or one
+abbrev pub noJournal : Unit {0} → Journal
+noJournal x = no-journal
+
+abbrev pub withJournal : LentSlice × Unit {0} → Journal
+withJournal x = lent-journal (now (x .0))
 
 -- what it is given
-abbrev pub givenBy : RunArguments → Given
-givenBy a = given (a .0) (now (a .1 .0)) (now (a .1 .1 .0)) (now (a .1 .1 .1 .0)) (now (a .1 .1 .1 .1 .0)) (a .1 .1 .1 .1 .1 .0) (now (a .1 .1 .1 .1 .1 .1 .0))
+abbrev pub givenBy : {X : Type 0} → (X → Journal) → RunArguments X → Given
+givenBy journal a =
+    given (a .0) (now (a .1 .0)) (now (a .1 .1 .0)) (now (a .1 .1 .1 .0)) (now (a .1 .1 .1 .1 .0)) (a .1 .1 .1 .1 .1 .0)
+    (now (a .1 .1 .1 .1 .1 .1 .0)) (journal (a .1 .1 .1 .1 .1 .1 .1))
 
 -- what it leaves, with its answer and state
-abbrev pub leftAfter : Answer → State → RunArguments → Left
-leftAfter r state s =
-    left (shownAnswer r) state (now (s .1 .0)) (now (s .1 .1 .0)) (now (s .1 .1 .1 .0)) (now (s .1 .1 .1 .1 .0)) (now (s .1 .1 .1 .1 .1 .1 .0))
+abbrev pub leftAfter : {X : Type 0} → (X → Journal) → Answer → State → RunArguments X → Left
+leftAfter journal r state s =
+    left (shownAnswer r) state (now (s .1 .0)) (now (s .1 .1 .0)) (now (s .1 .1 .1 .0)) (now (s .1 .1 .1 .1 .0))
+    (now (s .1 .1 .1 .1 .1 .1 .0)) (journal (s .1 .1 .1 .1 .1 .1 .1))
 
 -- what a run that goes by v says, with its counts
-abbrev pub RunSays : Stepper → RunArguments → Counted → RunArguments → Type 0
-RunSays v a r s = CountedMeets v (givenBy a) (record { left = leftAfter (r .answer) (r .state) s; usage = r .usage })
+abbrev pub RunSays : {X : Type 0} → (X → Journal) → Stepper → RunArguments X → Counted → RunArguments X → Type 0
+RunSays journal v a r s =
+    CountedMeets v (givenBy journal a) (record { left = leftAfter journal (r .answer) (r .state) s; usage = r .usage })
+
+-- the arguments of going back: state, program, memory, inputs, outputs, journal, k
+abbrev pub BackArguments : Type 0
+BackArguments = State × (LentSlice × (LentSlice × (LentSlice × (LentSlice × (LentSlice × (ℕ × Unit {0}))))))
+
+abbrev pub backGivenBy : BackArguments → BackGiven
+backGivenBy a =
+    record {
+      state = a .0;
+      P = now (a .1 .0);
+      D = now (a .1 .1 .0);
+      I = now (a .1 .1 .1 .0);
+      O = now (a .1 .1 .1 .1 .0);
+      journal = now (a .1 .1 .1 .1 .1 .0);
+      k = a .1 .1 .1 .1 .1 .1 .0;
+    }
 
 pub record Contracts : Type 1 where
   -- State::reset()
@@ -130,13 +161,37 @@ pub record Contracts : Type 1 where
       ↔ (now r ≡ windowOf (now (a .0)) (now (a .1 .0)) (a .1 .1 .0) (a .1 .1 .1 .0) (a .1 .1 .1 .1 .0))
   -- run_by_rules(state, program, memory, inputs, outputs, budget, log)
   pub run-by-rules-asks : (κs : Lfts 5) (a : _) → run-by-rules.Asked κs a
-  pub run-by-rules : (κs : Lfts 5) (a : _) (r : _) (s : _) → run-by-rules.Learnt κs a r s ↔ RunSays byRules a r s
+  pub run-by-rules : (κs : Lfts 5) (a : _) (r : _) (s : _) → run-by-rules.Learnt κs a r s ↔ RunSays noJournal byRules a r s
   -- run_by_table, the same
   pub run-by-table-asks : (κs : Lfts 5) (a : _) → run-by-table.Asked κs a
-  pub run-by-table : (κs : Lfts 5) (a : _) (r : _) (s : _) → run-by-table.Learnt κs a r s ↔ RunSays byTable a r s
-  -- run_by_control, with its words before these; it reports no counts
+  pub run-by-table : (κs : Lfts 5) (a : _) (r : _) (s : _) → run-by-table.Learnt κs a r s ↔ RunSays noJournal byTable a r s
+  -- run_by_rules_with_journal, with a journal after these
+  pub run-by-rules-with-journal-asks : (κs : Lfts 6) (a : _) → run-by-rules-with-journal.Asked κs a
+  pub run-by-rules-with-journal :
+      (κs : Lfts 6) (a : _) (r : _) (s : _) → run-by-rules-with-journal.Learnt κs a r s ↔ RunSays withJournal byRules a r s
+  -- run_by_table_with_journal, the same
+  pub run-by-table-with-journal-asks : (κs : Lfts 6) (a : _) → run-by-table-with-journal.Asked κs a
+  pub run-by-table-with-journal :
+      (κs : Lfts 6) (a : _) (r : _) (s : _) → run-by-table-with-journal.Learnt κs a r s ↔ RunSays withJournal byTable a r s
+  -- run_by_control, with its words before those of run_by_table; it reports no counts
   pub run-by-control-asks : (κs : Lfts 6) (a : _) → run-by-control.Asked κs a
-  pub run-by-control : (κs : Lfts 6) (a : _) (r : _) (s : _) → run-by-control.Learnt κs a r s ↔ RunMeets (byControl (now (a .0))) (givenBy (a .1)) (leftAfter (r .answer) (r .state) (s .1))
+  pub run-by-control : (κs : Lfts 6) (a : _) (r : _) (s : _) → run-by-control.Learnt κs a r s ↔ RunMeets (byControl (now (a .0))) (givenBy noJournal (a .1)) (leftAfter noJournal (r .answer) (r .state) (s .1))
+  -- step_back(state, program, memory, inputs, outputs, journal, k)
+  pub step-back-asks : (κs : Lfts 5) (a : _) → step-back.Asked κs a
+  pub step-back :
+      (κs : Lfts 5) (a : _) (r : _) (s : _)
+      → step-back.Learnt κs a r s
+      ↔ (_≡_ {A = BackLeft}
+      (record {
+        reply = shownGoing (r .reply);
+        state = r .state;
+        P = now (s .1 .0);
+        D = now (s .1 .1 .0);
+        I = now (s .1 .1 .1 .0);
+        O = now (s .1 .1 .1 .1 .0);
+        journal = now (s .1 .1 .1 .1 .1 .0);
+      })
+      (backLeft (backGivenBy a)))
   -- Sheet::empty()
   pub sheet-empty-asks : (κs : Lfts 0) (a : _) → sheet-empty.Asked κs a
   pub sheet-empty : (κs : Lfts 0) (a : _) (r : _) (s : _) → sheet-empty.Learnt κs a r s ↔ (r ≡ empty)

@@ -10,25 +10,30 @@ use Rattle.machine.specs.Run.{Stepper, byRules}
 use Rattle.panel.specs.Calls.{windowOf}
 use Rattle.isa.specs.Masks.{decodingOf}
 use Rattle.control.specs.Control.{byTable}
+use Rattle.run.specs.Runs.{Journal}
 use Rattle.replies.specs.declared.SisaRun.{SisaRun}
-use Rattle.replies.specs.Sisa.{SisaLoadLeft, sisaLoadLeft, SisaSaveLeft, sisaSaveLeft, SisaAssembleLeft, sisaAssembleLeft, SisaSetLeft, sisaSetLeft, sisaLeft, SisaRunMeets, sisaInstruction, sisaWrite, sisaFeed, sisaWindow, chosen, bytesOf}
+use Rattle.replies.specs.Sisa.{SisaLoadLeft, sisaLoadLeft, SisaSaveLeft, sisaSaveLeft, SisaAssembleLeft, sisaAssembleLeft, SisaSetLeft, sisaSetLeft, sisaLeft, SisaRunMeets, SisaBackLeft, sisaBackLeft, sisaInstruction, sisaWrite, sisaFeed, sisaWindow, chosen, bytesOf}
 use Rattle.sisa.proofs.sisa_load.Reads as load
 use Rattle.sisa.proofs.sisa_save.Reads as save
 use Rattle.sisa.proofs.sisa_assemble.Reads as assemble
 use Rattle.sisa.proofs.sisa_set_input.Reads as set-input
 use Rattle.sisa.proofs.sisa_run_by_rules.Reads as run-by-rules
 use Rattle.sisa.proofs.sisa_run_by_table.Reads as run-by-table
+use Rattle.sisa.proofs.sisa_run_by_rules_with_journal.Reads as run-by-rules-with-journal
+use Rattle.sisa.proofs.sisa_run_by_table_with_journal.Reads as run-by-table-with-journal
+use Rattle.sisa.proofs.sisa_step_back.Reads as step-back
 use Rattle.sisa.proofs.sisa_feed.Reads as feed
 use Rattle.sisa.proofs.sisa_read.Reads as read
 use Rattle.sisa.proofs.sisa_write.Reads as write
 use Rattle.sisa.proofs.sisa_window.Reads as window
-use Rattle.claims.specs.Contracts.{RunArguments, givenBy}
+use Rattle.claims.specs.Contracts.{RunArguments, noJournal, withJournal, givenBy, backGivenBy}
 
 -- what a run that goes by v says
-abbrev pub RunSays : Stepper → RunArguments → SisaRun → RunArguments → Type 0
-RunSays v a r s =
-    SisaRunMeets v (givenBy a)
-    (sisaLeft r (now (s .1 .0)) (now (s .1 .1 .0)) (now (s .1 .1 .1 .0)) (now (s .1 .1 .1 .1 .0)) (now (s .1 .1 .1 .1 .1 .1 .0)))
+abbrev pub RunSays : {X : Type 0} → (X → Journal) → Stepper → RunArguments X → SisaRun → RunArguments X → Type 0
+RunSays journal v a r s =
+    SisaRunMeets v (givenBy journal a)
+    (sisaLeft r (now (s .1 .0)) (now (s .1 .1 .0)) (now (s .1 .1 .1 .0)) (now (s .1 .1 .1 .1 .0)) (now (s .1 .1 .1 .1 .1 .1 .0))
+    (journal (s .1 .1 .1 .1 .1 .1 .1)))
 
 pub record Exports : Type 1 where
   -- sisa_load(file, program, memory, inputs, outputs)
@@ -74,10 +79,33 @@ pub record Exports : Type 1 where
       ↔ (_≡_ {A = SisaSetLeft} (record { refusal = r; I = now (s .0) }) (sisaSetLeft (record { I = now (a .0); port = a .1 .0; value = a .1 .1 .0 })))
   -- sisa_run_by_rules(state, program, memory, inputs, outputs, budget, log)
   pub run-by-rules-asks : (κs : Lfts 5) (a : _) → run-by-rules.Asked κs a
-  pub run-by-rules : (κs : Lfts 5) (a : _) (r : _) (s : _) → run-by-rules.Learnt κs a r s ↔ RunSays byRules a r s
+  pub run-by-rules : (κs : Lfts 5) (a : _) (r : _) (s : _) → run-by-rules.Learnt κs a r s ↔ RunSays noJournal byRules a r s
   -- sisa_run_by_table, the same
   pub run-by-table-asks : (κs : Lfts 5) (a : _) → run-by-table.Asked κs a
-  pub run-by-table : (κs : Lfts 5) (a : _) (r : _) (s : _) → run-by-table.Learnt κs a r s ↔ RunSays byTable a r s
+  pub run-by-table : (κs : Lfts 5) (a : _) (r : _) (s : _) → run-by-table.Learnt κs a r s ↔ RunSays noJournal byTable a r s
+  -- sisa_run_by_rules_with_journal, with a journal after these
+  pub run-by-rules-with-journal-asks : (κs : Lfts 6) (a : _) → run-by-rules-with-journal.Asked κs a
+  pub run-by-rules-with-journal :
+      (κs : Lfts 6) (a : _) (r : _) (s : _) → run-by-rules-with-journal.Learnt κs a r s ↔ RunSays withJournal byRules a r s
+  -- sisa_run_by_table_with_journal, the same
+  pub run-by-table-with-journal-asks : (κs : Lfts 6) (a : _) → run-by-table-with-journal.Asked κs a
+  pub run-by-table-with-journal :
+      (κs : Lfts 6) (a : _) (r : _) (s : _) → run-by-table-with-journal.Learnt κs a r s ↔ RunSays withJournal byTable a r s
+  -- sisa_step_back(state, program, memory, inputs, outputs, journal, k)
+  pub step-back-asks : (κs : Lfts 5) (a : _) → step-back.Asked κs a
+  pub step-back :
+      (κs : Lfts 5) (a : _) (r : _) (s : _)
+      → step-back.Learnt κs a r s
+      ↔ (_≡_ {A = SisaBackLeft}
+      (record {
+        reply = r;
+        P = now (s .1 .0);
+        D = now (s .1 .1 .0);
+        I = now (s .1 .1 .1 .0);
+        O = now (s .1 .1 .1 .1 .0);
+        journal = now (s .1 .1 .1 .1 .1 .0);
+      })
+      (sisaBackLeft (backGivenBy a)))
   -- sisa_feed(sheet, run_refusal, usage)
   pub feed-asks : (κs : Lfts 0) (a : _) → feed.Asked κs a
   pub feed : (κs : Lfts 0) (a : _) (r : _) (s : _) → feed.Learnt κs a r s ↔ (r ≡ sisaFeed (a .0) (a .1 .0) (a .1 .1 .0))

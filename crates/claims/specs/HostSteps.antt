@@ -1,11 +1,12 @@
--- Lists of calls with host steps in them. A host step is a run by the table with budget 1 over registers that the host holds.
+-- Lists of calls with host steps in them. A host step is a run by the table with budget 1 and no journal over registers that the host
+-- holds.
 use mathlib.Core.Path.{_≡_}
 use mathlib.Core.List.{List, [], _∷_, map}
 use Prim.Native.Nat.{ℕ}
 use lib.Dec.{eqb}
 use Rattle.word.specs.Word.{pick}
 use Rattle.machine.specs.declared.State.{State}
-use Rattle.run.specs.Runs.{Given, given, RunReply, stopped, run-refused}
+use Rattle.run.specs.Runs.{no-journal, Given, given, RunReply, stopped, run-refused}
 use Rattle.replies.specs.declared.SisaAnswer.{SisaAnswer}
 use Rattle.replies.specs.Sisa.{HostLent, hostLent, HostStepMeets}
 use Rattle.claims.specs.Session.{by-table, Lent, Call, runs, Reply, of-run, Host, CallMeets, Calls}
@@ -16,7 +17,7 @@ pub data HostCall : Type 0 where
   host-step : List ℕ → HostCall
 
 abbrev pub budget1 : List ℕ → Lent
-budget1 log = record { budget = 1; log = log }
+budget1 log = record { budget = 1; log = log; journal = no-journal }
 
 -- the table run in a host step's place
 abbrev pub asRun : HostCall → Call
@@ -25,7 +26,7 @@ asRun (host-step log) = runs by-table (budget1 log)
 
 -- what that run is given, where the host holds and lends h
 abbrev pub stepGiven : HostLent → Given
-stepGiven h = given (h .state) (h .P) (h .D) (h .I) (h .O) 1 (h .log)
+stepGiven h = given (h .state) (h .P) (h .D) (h .I) (h .O) 1 (h .log) no-journal
 
 -- a host step's answer as a run's reply: refusal 0 is an accepted one
 abbrev pub replyOf : SisaAnswer → RunReply
@@ -38,7 +39,8 @@ pub data HostCallMeets : Host → HostCall → Reply → Host → Type 0 where
   a-step :
       (h : Host) (log : List ℕ) (answer : SisaAnswer) (state : State) (P D I O returned : List ℕ)
       → HostStepMeets (hostLent (h .state) (h .P) (h .D) (h .I) (h .O) log) answer (hostLent state P D I O returned)
-      → HostCallMeets h (host-step log) (of-run (replyOf answer) (answer .usage) returned) (record { state = state; P = P; D = D; I = I; O = O })
+      → HostCallMeets h (host-step log) (of-run (replyOf answer) (answer .usage) returned no-journal)
+      (record { state = state; P = P; D = D; I = I; O = O })
 
 -- a list of calls, one after the other
 pub data HostCalls : Host → List HostCall → List Reply → Host → Type 0 where
@@ -48,8 +50,8 @@ pub data HostCalls : Host → List HostCall → List Reply → Host → Type 0 w
       → HostCallMeets h c r h₁ → HostCalls h₁ cs rs h₂ → HostCalls h (c ∷ cs) (r ∷ rs) h₂
 
 pub record HostSteps : Type 0 where
-  -- the list with table runs of budget 1 in place of the host steps gets the same replies and logs and leaves the same states,
-  -- memories and ports
+  -- the list with table runs of budget 1 and no journal in place of the host steps gets the same replies, logs and journals and leaves
+  -- the same states, memories and ports
   pub same :
       (h h₁ h₂ : Host) (cs : List HostCall) (rs₁ rs₂ : List Reply) → HostCalls h cs rs₁ h₁ → Calls h (map asRun cs) rs₂ h₂
       → (rs₁ ≡ rs₂) × (h₁ ≡ h₂)

@@ -5,6 +5,7 @@ pub mod CReplies
 pub mod Contracts
 pub mod Examples
 pub mod Exports
+pub mod History
 pub mod HostSteps
 pub mod Instructions
 pub mod Listings
@@ -16,6 +17,7 @@ pub mod Rules
 pub mod Runs
 pub mod Saved
 pub mod Session
+pub mod StepBack
 pub mod Steps
 pub mod Texts
 pub mod Usage

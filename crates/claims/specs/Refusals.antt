@@ -6,12 +6,14 @@ use mathlib.Core.List.{List}
 use Prim.Native.Nat.{ℕ, _+_, _*_, _%_, _<_}
 use lib.ListN.{length}
 use Rattle.refusal.specs.Refusals.{accepted, refused}
+use Rattle.machine.specs.declared.State.{State}
 use Rattle.machine.specs.Machine.{reset}
 use Rattle.machine.specs.Run.{Stepper}
 use Rattle.panel.specs.Calls.{SetGiven, SetLeft, setLeft}
 use Rattle.image.specs.Image.{W, programOffset, C, dataOffset, LoadGiven, LoadLeft, loadLeft}
 use Rattle.usage.specs.Usage.{unused}
 use Rattle.run.specs.Runs.{Given, left, stopped, run-refused, runLeft, countedLeft}
+use Rattle.back.specs.Backs.{BackGiven, gone-back, back-refused, backLeft}
 
 -- ---- The conditions, as 01's table has them
 
@@ -33,6 +35,20 @@ abbrev pub PartOutside : List ℕ → Type 0
 PartOutside file =
     ((programOffset file < 16) ⊎ (length file < programOffset file + 2 * W file))
     ⊎ ((dataOffset file < 16) ⊎ (length file < dataOffset file + C file))
+
+-- 5: PC odd
+abbrev pub OddPC : State → Type 0
+OddPC s = s .pc % 2 ≡ 0 → ⊥
+
+-- 6: n plus budget over 4,294,967,295
+abbrev pub TooMany : Given → Type 0
+TooMany g = 4294967295 < g .state .n + g .budget
+
+-- 14 (02, L7): the journal holds fewer than k steps: it is shorter than the count of its entries and so holds none, or k is over that
+-- count or over n
+abbrev pub ShortJournal : BackGiven → Type 0
+ShortJournal g =
+    ((length (g .journal) < g .state .journaled) × (0 < g .k)) ⊎ (g .state .journaled < g .k) ⊎ (g .state .n < g .k)
 
 -- ---- Load: 1 to 4
 
@@ -63,35 +79,45 @@ pub record SetRefusals (g : SetGiven) : Type 0 where
   pub no-other : (k : ℕ) → setLeft g .reply ≡ refused k → k ≡ 1
   pub nothing-changes : (k : ℕ) → setLeft g .reply ≡ refused k → setLeft g ≡ record { reply = refused k; I = g .I }
 
--- ---- Runs: 1, 5, 6, whatever the run goes by: the rules, the control table, or another table. `run_by_control` promises
--- `runLeft`; `run_by_rules` and `run_by_table`, which also count, promise `countedLeft`.
-
--- 5: PC odd
-abbrev pub OddPC : Given → Type 0
-OddPC g = g .state .pc % 2 ≡ 0 → ⊥
-
--- 6: n plus budget over 4,294,967,295
-abbrev pub TooMany : Given → Type 0
-TooMany g = 4294967295 < g .state .n + g .budget
+-- ---- Runs: 1, 5, 6, whatever the run goes by: the rules, the control table, or another table, with a journal or without.
+-- `run_by_control` promises `runLeft`; the other runs, which also count, promise `countedLeft`.
 
 abbrev pub Accepts : Stepper → Given → Type 0
 Accepts v g = (q : ℕ) × (s : ℕ) × (k : ℕ) × (runLeft v g .reply ≡ stopped q s k)
 
 pub record RunRefusals (v : Stepper) (g : Given) : Type 0 where
   pub number-1 : (runLeft v g .reply ≡ run-refused 1) ↔ Lengths (g .P) (g .D) (g .I) (g .O)
-  pub number-5 : (runLeft v g .reply ≡ run-refused 5) ↔ ((Lengths (g .P) (g .D) (g .I) (g .O) → ⊥) × OddPC g)
-  pub number-6 : (runLeft v g .reply ≡ run-refused 6) ↔ ((Lengths (g .P) (g .D) (g .I) (g .O) → ⊥) × (OddPC g → ⊥) × TooMany g)
-  pub accepts : Accepts v g ↔ ((Lengths (g .P) (g .D) (g .I) (g .O) → ⊥) × (OddPC g → ⊥) × (TooMany g → ⊥))
+  pub number-5 : (runLeft v g .reply ≡ run-refused 5) ↔ ((Lengths (g .P) (g .D) (g .I) (g .O) → ⊥) × OddPC (g .state))
+  pub number-6 : (runLeft v g .reply ≡ run-refused 6) ↔ ((Lengths (g .P) (g .D) (g .I) (g .O) → ⊥) × (OddPC (g .state) → ⊥) × TooMany g)
+  pub accepts : Accepts v g ↔ ((Lengths (g .P) (g .D) (g .I) (g .O) → ⊥) × (OddPC (g .state) → ⊥) × (TooMany g → ⊥))
   pub no-other : (k : ℕ) → runLeft v g .reply ≡ run-refused k → (k ≡ 1) ⊎ (k ≡ 5) ⊎ (k ≡ 6)
   -- Nothing lent changes, and the state is as handed.
   pub nothing-changes :
       (k : ℕ) → runLeft v g .reply ≡ run-refused k
-      → runLeft v g ≡ left (run-refused k) (g .state) (g .P) (g .D) (g .I) (g .O) (g .log)
+      → runLeft v g ≡ left (run-refused k) (g .state) (g .P) (g .D) (g .I) (g .O) (g .log) (g .journal)
   -- A run that counts leaves the same besides its counts, which are zero where it is refused.
   pub without-counts : countedLeft v g .left ≡ runLeft v g
   pub no-counts : (k : ℕ) → runLeft v g .reply ≡ run-refused k → countedLeft v g .usage ≡ unused
+
+-- ---- Going back: 1, 5, 14
+
+abbrev pub AcceptsBack : BackGiven → Type 0
+AcceptsBack g = (entries : ℕ) × (backLeft g .reply ≡ gone-back entries)
+
+pub record BackRefusals (g : BackGiven) : Type 0 where
+  pub number-1 : (backLeft g .reply ≡ back-refused 1) ↔ Lengths (g .P) (g .D) (g .I) (g .O)
+  pub number-5 : (backLeft g .reply ≡ back-refused 5) ↔ ((Lengths (g .P) (g .D) (g .I) (g .O) → ⊥) × OddPC (g .state))
+  pub number-14 :
+      (backLeft g .reply ≡ back-refused 14)
+      ↔ ((Lengths (g .P) (g .D) (g .I) (g .O) → ⊥) × (OddPC (g .state) → ⊥) × ShortJournal g)
+  pub accepts : AcceptsBack g ↔ ((Lengths (g .P) (g .D) (g .I) (g .O) → ⊥) × (OddPC (g .state) → ⊥) × (ShortJournal g → ⊥))
+  pub no-other : (k : ℕ) → backLeft g .reply ≡ back-refused k → (k ≡ 1) ⊎ (k ≡ 5) ⊎ (k ≡ 14)
+  pub nothing-changes :
+      (k : ℕ) → backLeft g .reply ≡ back-refused k
+      → backLeft g ≡ record { reply = back-refused k; state = g .state; P = g .P; D = g .D; I = g .I; O = g .O; journal = g .journal }
 
 pub record Refusals : Type 0 where
   pub load : (g : LoadGiven) → LoadRefusals g
   pub setting : (g : SetGiven) → SetRefusals g
   pub run : (v : Stepper) (g : Given) → RunRefusals v g
+  pub back : (g : BackGiven) → BackRefusals g

@@ -8,7 +8,7 @@ use lib.ListN.{length, take, drop, replicate}
 use Rattle.refusal.specs.Refusals.{Verdict, accepted, refused}
 use Rattle.word.specs.Word.{pick}
 use Rattle.machine.specs.declared.State.{State}
-use Rattle.machine.specs.Machine.{Machine, putI}
+use Rattle.machine.specs.Machine.{Machine, putI, onState}
 use Rattle.machine.specs.Run.{Stepper, byRules, Outcome, run, trace}
 use Rattle.usage.specs.declared.Usage.{Usage}
 use Rattle.usage.specs.Usage.{unused, usageOf}
@@ -16,7 +16,7 @@ use Rattle.panel.specs.Calls.{SetGiven, SetLeft, setLeft}
 use Rattle.image.specs.Image.{LoadGiven, LoadLeft, loaded, loadLeft}
 use Rattle.report.specs.Example.{exampleFile}
 use Rattle.control.specs.Control.{byTable}
-use Rattle.run.specs.Runs.{Given, given, Left, RunReply, stopped, run-refused, verdictOn, CountedLeft, CountedMeets}
+use Rattle.run.specs.Runs.{Journal, Given, given, Left, RunReply, stopped, run-refused, verdictOn, allowedIn, startIn, countedIn, keptIn, CountedLeft, CountedMeets}
 
 -- ---- The calls
 
@@ -28,21 +28,22 @@ abbrev pub stepperOf : Engine → Stepper
 stepperOf by-rules = byRules
 stepperOf by-table = byTable
 
--- what a run is lent besides what the host holds
+-- what a run is lent besides what the host holds, a journal or none
 pub record Lent : Type 0 where
   pub budget : ℕ
   pub log : List ℕ
+  pub journal : Journal
 
 pub data Call : Type 0 where
   runs : Engine → Lent → Call
   sets : ℕ → ℕ → Call
 
--- what comes back: a run's reply, its counts and the log as it was returned; a setting's reply
+-- what comes back: a run's reply, its counts, the log and the journal as they were returned; a setting's reply
 pub data Reply : Type 0 where
-  of-run : RunReply → Usage → List ℕ → Reply
+  of-run : RunReply → Usage → List ℕ → Journal → Reply
   of-set : Verdict → Reply
 
--- Lists that are alike have the same settings, budgets and lent logs: the engines are forgotten.
+-- Lists that are alike have the same settings, budgets, lent logs and lent journals: the engines are forgotten.
 abbrev pub plain : Call → Call
 plain (runs e lent) = runs by-rules lent
 plain (sets port value) = sets port value
@@ -66,7 +67,7 @@ hostOf l = record { state = l .state; P = l .P; D = l .D; I = l .I; O = l .O }
 
 -- Each call gets what it takes of state, memories and ports as the load and the calls before it last returned or left it.
 abbrev pub givenTo : Host → Lent → Given
-givenTo h lent = given (h .state) (h .P) (h .D) (h .I) (h .O) (lent .budget) (lent .log)
+givenTo h lent = given (h .state) (h .P) (h .D) (h .I) (h .O) (lent .budget) (lent .log) (lent .journal)
 
 abbrev pub afterRun : Left → Host
 afterRun l = record { state = l .state; P = l .P; D = l .D; I = l .I; O = l .O }
@@ -78,7 +79,7 @@ afterSet h l = record { state = h .state; P = h .P; D = h .D; I = l .I; O = h .O
 pub data CallMeets : Host → Call → Reply → Host → Type 0 where
   a-run :
       (h : Host) (e : Engine) (lent : Lent) (l : CountedLeft) → CountedMeets (stepperOf e) (givenTo h lent) l
-      → CallMeets h (runs e lent) (of-run (l .left .reply) (l .usage) (l .left .log)) (afterRun (l .left))
+      → CallMeets h (runs e lent) (of-run (l .left .reply) (l .usage) (l .left .log) (l .left .journal)) (afterRun (l .left))
   a-setting :
       (h : Host) (port value : ℕ) (l : SetLeft) → l ≡ setLeft (record { I = h .I; port = port; value = value })
       → CallMeets h (sets port value) (of-set (l .reply)) (afterSet h l)
@@ -92,8 +93,8 @@ pub data Calls : Host → List Call → List Reply → Host → Type 0 where
 
 -- the joining, in the order of the calls, of what the accepted runs wrote, each taken as its run returned
 abbrev pub wrote : Reply → List ℕ
-wrote (of-run (stopped q steps entries) u log) = take entries log
-wrote (of-run (run-refused k) u log) = []
+wrote (of-run (stopped q steps entries) u log journal) = take entries log
+wrote (of-run (run-refused k) u log journal) = []
 wrote (of-set r) = []
 
 unfoldable pub joined : List Reply → List ℕ
@@ -103,14 +104,27 @@ joined (r ∷ rs) = wrote r ++ joined rs
 -- ---- The plain machine, given the same calls
 
 abbrev pub givenOf : Machine → Lent → Given
-givenOf m lent = given (m .state) (m .P) (m .D) (m .I) (m .O) (lent .budget) (lent .log)
+givenOf m lent = given (m .state) (m .P) (m .D) (m .I) (m .O) (lent .budget) (lent .log) (lent .journal)
+
+-- A full journal counts as a used budget: it takes as many steps as the lesser of the budget and the journal's places left allows,
+abbrev pub allowedTo : Machine → Lent → ℕ
+allowedTo m lent = allowedIn (lent .journal) (m .state .journaled) (lent .budget)
+
+-- and counts from 0 where no journal is lent.
+abbrev pub started : Machine → Lent → Machine
+started m lent = onState (startIn (lent .journal)) m
 
 abbrev pub outcome : Machine → Lent → Outcome
-outcome m lent = run byRules (lent .budget) (length (lent .log)) m
+outcome m lent = run byRules (allowedTo m lent) (length (lent .log)) (started m lent)
 
--- In an accepted run it takes steps until one of the tests holds. A call that the refusal table turns away changes nothing.
+-- the machines before each step that it takes
+abbrev pub taken : Machine → Lent → List Machine
+taken m lent = trace byRules (allowedTo m lent) (length (lent .log)) (started m lent)
+
+-- In an accepted run it takes steps until one of the tests holds, and counts those kept in a journal. A call that the refusal table
+-- turns away changes nothing.
 abbrev pub runBy : Verdict → Machine → Lent → Machine
-runBy accepted m lent = outcome m lent .after
+runBy accepted m lent = onState (countedIn (lent .journal) (length (taken m lent))) (outcome m lent .after)
 runBy (refused k) m lent = m
 
 -- An accepted set is its Set.
@@ -123,14 +137,15 @@ machineCalls m [] = m
 machineCalls m (c ∷ cs) = machineCalls (machineCall m c) cs
 
 -- What it says of a run: the first test that held is the stop reason, the steps and entries are by how much n and L grew, and the
--- counts are over the steps that it took; the log as returned has the new entries, then the lent places as they were.
+-- counts are over the steps that it took; the log as returned has the new entries, then the lent places as they were; the journal has
+-- the steps' entries from the place of the count on.
 abbrev pub saidBy : Verdict → Machine → Lent → Reply
 saidBy accepted m lent =
     let z = outcome m lent in
     let new = drop (length (m .L)) (z .after .L) in
     of-run (stopped (z .reason) (z .after .state .n - m .state .n) (length (z .after .L) - length (m .L)))
-    (usageOf (trace byRules (lent .budget) (length (lent .log)) m)) (new ++ drop (length new) (lent .log))
-saidBy (refused k) m lent = of-run (run-refused k) unused (lent .log)
+    (usageOf (taken m lent)) (new ++ drop (length new) (lent .log)) (keptIn (lent .journal) (m .state .journaled) (taken m lent))
+saidBy (refused k) m lent = of-run (run-refused k) unused (lent .log) (lent .journal)
 
 unfoldable pub machineSays : Machine → Call → Reply
 machineSays m (runs e lent) = saidBy (verdictOn (givenOf m lent)) m lent
@@ -149,16 +164,16 @@ machineOn h L = record { state = h .state; P = h .P; D = h .D; I = h .I; O = h .
 pub record Mirrors (file : List ℕ) (cs : List Call) (rs₁ rs₂ : List Reply) (h₁ h₂ : Host) : Type 0 where
   -- state (with n), P, D, I, O, and L are the machine's, started as 01 loads that file and given the same calls
   pub machine : machineOn h₁ (joined rs₁) ≡ machineCalls (loaded file) cs
-  -- every reply, with its log as returned, is what that machine says of the call
+  -- every reply, with its log and journal as returned, is what that machine says of the call
   pub replies : rs₁ ≡ machineReplies (loaded file) cs
-  -- the other list, alike in all but the engines, got the same replies and logs and left the same states, memories and ports
+  -- the other list, alike in all but the engines, got the same replies, logs and journals and left the same states, memories and ports
   pub same-replies : rs₁ ≡ rs₂
   pub same-host : h₁ ≡ h₂
 
 -- a refused run in a list is refused with 6, and no setting is refused
 abbrev pub Only6 : Reply → Type 0
-Only6 (of-run (stopped q s k) u log) = Unit {0}
-Only6 (of-run (run-refused k) u log) = k ≡ 6
+Only6 (of-run (stopped q s k) u log journal) = Unit {0}
+Only6 (of-run (run-refused k) u log journal) = k ≡ 6
 Only6 (of-set r) = r ≡ accepted
 
 pub data All (Q : Reply → Type 0) : List Reply → Type 0 where

@@ -5,12 +5,12 @@ use mathlib.Core.Bool.{true}
 use mathlib.Core.Path.{_≡_}
 use mathlib.Core.List.{List, [], _∷_}
 use Prim.Native.Nat.{ℕ, _+_, _*_, _≤_}
-use lib.ListN.{length, getD}
+use lib.ListN.{getD}
 use Rattle.refusal.specs.Refusals.{Verdict, accepted, refused}
-use Rattle.machine.specs.Run.{byRules, trace}
+use Rattle.machine.specs.Run.{byRules}
 use Rattle.usage.specs.declared.Usage.{Usage}
 use Rattle.usage.specs.Usage.{unused, usageOf, plusUsage}
-use Rattle.run.specs.Runs.{Given, RunReply, stopped, run-refused, verdictOn, machineAt, CountedLeft, CountedMeets}
+use Rattle.run.specs.Runs.{Given, RunReply, stopped, run-refused, verdictOn, traceOn, CountedLeft, CountedMeets}
 use Rattle.sheet.specs.declared.Sheet.{Sheet}
 use Rattle.sheet.specs.Sheet.{empty, wasAccepted, feedLeft}
 use Rattle.replies.specs.declared.SisaAnswer.{SisaAnswer}
@@ -20,12 +20,12 @@ use Rattle.claims.specs.HostSteps.{stepGiven, replyOf}
 
 -- ---- Runs, and what each returned
 
--- a run, by the rules or by the table, of whatever it is given
+-- a run, by the rules or by the table, of whatever it is given, a journal or none
 pub record Run : Type 0 where
   pub engine : Engine
   pub of : Given
 
--- a host step is a run by the table with budget 1
+-- a host step is a run by the table with budget 1 and no journal
 abbrev pub stepRun : HostLent → Run
 stepRun h = record { engine = by-table; of = stepGiven h }
 
@@ -48,7 +48,7 @@ pub data Returned : List Run → List Fed → Type 0 where
 
 -- an accepted run counts its steps, a refused one adds nothing
 abbrev pub countsBy : Verdict → Given → Usage
-countsBy accepted g = usageOf (trace byRules (g .budget) (length (g .log)) (machineAt g))
+countsBy accepted g = usageOf (traceOn byRules g)
 countsBy (refused k) g = unused
 
 abbrev pub oneBy : Verdict → ℕ

@@ -26,11 +26,10 @@ pub fn start_line(what: &[u8], c: u16, i: u16) {
     print::field(i as u64);
 }
 
-fn set_port(c: u16, i: u16, inputs: &mut [u16]) {
-    let port = (of_call(c, i, 1) % 256) as u8;
-    let value = of_call(c, i, 2);
-    let words = all_but(of_call(c, i, 3) % 16 == 0, inputs.len());
-    let refusal = sisa::sisa_set_input(&mut inputs[0..words], port, value);
+// Sets a port, with so many of the inputs lent, and prints the line but for its digest.
+pub fn set_port(c: u16, i: u16, port: u16, value: u16, words: usize, inputs: &mut [u16]) {
+    let most = least(words, inputs.len());
+    let refusal = sisa::sisa_set_input(&mut inputs[0..most], (port % 256) as u8, value);
     start_line(b"set", c, i);
     print::field(refusal as u64);
 }
@@ -45,7 +44,8 @@ fn set(
     outputs: &Ports,
     log: &Log,
 ) {
-    set_port(c, i, inputs);
+    let words = all_but(of_call(c, i, 3) % 16 == 0, State::PORTS);
+    set_port(c, i, of_call(c, i, 1), of_call(c, i, 2), words, inputs);
     print::left(kept, program, memory, inputs, outputs, log);
 }
 
@@ -108,6 +108,9 @@ pub fn call(
             instructions::read_and_write(c, i);
             kept
         }
-        engine => runs::run(engine, c, i, kept, program, memory, inputs, outputs, log),
+        choice => {
+            let engine = runs::engine_of(choice);
+            runs::run(engine, c, i, kept, program, memory, inputs, outputs, log)
+        }
     }
 }

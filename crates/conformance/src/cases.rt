@@ -1,4 +1,5 @@
-// A case: its load, its calls and its saves.
+// A case: its load, its calls, its saves and its going back.
+use crate::backs;
 use crate::calls;
 use crate::calls::Kept;
 use crate::saves;
@@ -86,6 +87,9 @@ pub fn play(
     print_load(b"load", c, load, program, memory, inputs, outputs, log);
     if load.refusal == 0 {
         play_calls(c, load.state, program, memory, inputs, outputs, log);
-        saves::play(c, program, memory, inputs, outputs, log);
+        let again = saves::play(c, program, memory, inputs, outputs, log);
+        if again.refusal == 0 {
+            backs::play(c, again.state, program, memory, inputs, outputs, log);
+        }
     }
 }

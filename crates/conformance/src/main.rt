@@ -1,10 +1,12 @@
 // Plays pseudo-random calls on pseudo-random files, and prints what docs/CONFORMANCE.md says.
 use machine::State;
 
+mod backs;
 mod calls;
 mod cases;
 mod host;
 mod instructions;
+mod journals;
 mod printed;
 mod runs;
 mod saves;

@@ -87,11 +87,13 @@ fn load_again(
     inputs: &mut Ports,
     outputs: &mut Ports,
     log: &Log,
-) {
+) -> SisaLoad {
     let load = load(length, destination, program, memory, inputs, outputs);
     cases::print_load(b"again", c, load, program, memory, inputs, outputs, log);
+    load
 }
 
+// Answers what the load of the saved file replied.
 pub fn play(
     c: u16,
     program: &mut Memory,
@@ -99,11 +101,11 @@ pub fn play(
     inputs: &mut Ports,
     outputs: &mut Ports,
     log: &Log,
-) {
+) -> SisaLoad {
     let mut destination = [0u8; DESTINATION_BYTES];
     let length = save(c, 0, 0, program, memory, &mut destination);
     save(c, 1, length, program, memory, &mut destination);
-    load_again(
+    let again = load_again(
         c,
         length,
         &destination,
@@ -115,4 +117,5 @@ pub fn play(
     );
     save(c, 2, length, program, memory, &mut destination);
     save(c, 3, length, program, memory, &mut destination);
+    again
 }

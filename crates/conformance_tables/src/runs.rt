@@ -10,6 +10,7 @@ use player::lent::Memory;
 use player::lent::Ports;
 use player::lent::least;
 use player::print;
+use player::runs::LATE;
 use player::runs::Reply;
 use player::runs::Request;
 use player::runs::finish;
@@ -78,7 +79,7 @@ fn run(
     log: &mut Log,
 ) -> State {
     let places = (of_call(c, i, 2) % 8) as usize;
-    let request = request_of(c, i, kept, 4294967000, places);
+    let request = request_of(c, i, kept, LATE, places);
     let reply = run_request(words, request, program, memory, inputs, outputs, log);
     print::text(b"run control");
     finish(t, i, kept, reply, program, memory, inputs, outputs, log)

@@ -1,5 +1,6 @@
--- What holds of a step by any control word: it adds 1 to n, keeps an even PC even, drops no entry of L, keeps P and the lengths, and
--- does not look at L. So it holds of a run by any table, and of the plain machine, whose steps are the table's.
+-- What holds of a step by any control word: it adds 1 to n, keeps an even PC even, drops no entry of L, leaves the count of journal
+-- entries, keeps P and the lengths, and does not look at L. So it holds of a run by any table, and of the plain machine, whose steps are the
+-- table's.
 -- Assumes nothing.
 use mathlib.Core.Path.{_≡_, refl, ap, subst, _∙_}
 use mathlib.Core.Bool.{Bool, true, false}
@@ -23,12 +24,15 @@ use Rattle.control.proofs.Agreement.{same-stepper}
 
 -- ---- The parts
 
--- the destination's write keeps PC and n
-written-keeps : (c w v : ℕ) (s : State) → (written c w v s .pc ≡ s .pc) × (written c w v s .n ≡ s .n)
+-- the destination's write keeps PC and the counts
+abbrev apart : State → ℕ × ℕ × ℕ
+apart s = (s .pc, s .n, s .journaled)
+
+written-keeps : (c w v : ℕ) (s : State) → apart (written c w v s) ≡ apart s
 unfolding written
 written-keeps c w v s =
-    looked-up (λ t. (t .pc ≡ s .pc) × (t .n ≡ s .n)) (s ∷ putR (d5-3 w) v s ∷ putR (d8-6 w) v s ∷ putR (d11-9 w) v s ∷ [])
-    ((refl, refl), ((refl, refl), ((refl, refl), ((refl, refl), tt)))) (refl, refl) (field (bits 1 0) c)
+    looked-up (λ t. apart t ≡ apart s) (s ∷ putR (d5-3 w) v s ∷ putR (d8-6 w) v s ∷ putR (d11-9 w) v s ∷ []) (refl, (refl, (refl, (refl, tt)))) refl
+    (field (bits 1 0) c)
 
 added : (x y : ℕ) → x % 2 ≡ 0 → add x (y * 2) % 2 ≡ 0
 added x y h = omega arith
@@ -83,6 +87,7 @@ record Keeps (m after : Machine) : Type 0 where
   counts : after .state .n ≡ m .state .n + 1
   even : PC m % 2 ≡ 0 → PC after % 2 ≡ 0
   grows : length (m .L) ≤ length (after .L)
+  journaled : after .state .journaled ≡ m .state .journaled
   lent : kept after ≡ kept m
 
 step-keeps : (c w : ℕ) (m : Machine) → Keeps m (performed c w m)
@@ -95,9 +100,10 @@ step-keeps c w m =
     let s = store-keeps c w x (Rb w m) u m in
     let r = written-keeps c w v (putPC p (count (stored c w x (Rb w m) u m .state))) in
     record {
-      counts = r .1 ∙ ap (λ (t : State). t .n + 1) (s .state);
-      even = λ h. ap (λ k. k % 2) (r .0) ∙ next-even c w x (PC m) h;
+      counts = ap (λ z. z .1) r ∙ ap (λ (t : State). t .n + 1) (s .state);
+      even = λ h. ap (λ z. z .0 % 2) r ∙ next-even c w x (PC m) h;
       grows = s .grows;
+      journaled = ap (λ z. z .2) r ∙ ap (λ (t : State). t .journaled) (s .state);
       lent = s .lent;
     }
 
@@ -158,6 +164,7 @@ module _ (words : List ℕ) where
         counts = λ m next e. stepped m next e .counts;
         even = λ m next e. stepped m next e .even;
         grows = λ m next e. stepped m next e .grows;
+        journaled = λ m next e. stepped m next e .journaled;
       }
 
   local-control : Local (byControl words)

@@ -1,2 +1,4 @@
+mod Chosen
 mod Counts
+mod Kept
 mod Loop

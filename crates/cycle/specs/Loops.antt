@@ -9,10 +9,10 @@ use Rattle.machine.specs.Step.{choice, stepBy, Next}
 use Rattle.machine.specs.Run.{Stepper, isOut, byRules}
 use Rattle.control.specs.Control.{controlIn, controlStep, writesPort, byControl}
 use Rattle.machine.specs.declared.State.{State}
-use Rattle.machine.specs.Slices.{Slice, after}
+use Rattle.machine.specs.Slices.{Slice, before, after}
 use Rattle.places.specs.Places.{tallied}
 use Rattle.run.specs.declared.Counted.{Counted}
-use Rattle.run.specs.Runs.{Given, CountedLeft, CountedMeets, lentTo, leftWith, acceptedCounted}
+use Rattle.run.specs.Runs.{Journal, Given, startIn, allowed, CountedLeft, CountedMeets, journalIf, lentTo, leftWith, RunsWith, acceptedCounted}
 
 -- what the loop of an accepted run needs, which the refusals leave
 pub record CanRun (g : Given) : Type 0 where
@@ -22,6 +22,11 @@ pub record CanRun (g : Given) : Type 0 where
   pub outputs : length (g .O) ≡ 256
   pub even : g .state .pc % 2 ≡ 0
   pub counts : g .state .n + g .budget ≤ 4294967295
+  -- the state is the one that a run starts from, and its journal has room for so many steps
+  pub starts : startIn (g .journal) (g .state) ≡ g .state
+  pub room : allowed g ≡ g .budget
+  -- the count of its entries can't overflow
+  pub fits : g .state .journaled + g .budget ≤ 18446744073709551615
 
 -- what the loop goes by: a table, or the rules
 abbrev pub chosen : Bool → List ℕ → Stepper
@@ -38,16 +43,23 @@ writesOf true words w = writesPort (controlIn words w)
 writesOf false words w = isOut w
 
 -- what a run leaves with its reply, where its counts are those replied or, where places are lent, what is counted there
-abbrev pub leftTallied : Slice → Slice → Slice → Slice → Slice → Slice → Counted → CountedLeft
-leftTallied program memory inputs outputs log counts r =
-    record { left = leftWith program memory inputs outputs log (r .answer) (r .state); usage = tallied (after counts) (r .usage) }
+abbrev pub leftTallied : Slice → Slice → Slice → Slice → Slice → Journal → Slice → Counted → CountedLeft
+leftTallied program memory inputs outputs log journal counts r =
+    record { left = leftWith program memory inputs outputs log journal (r .answer) (r .state); usage = tallied (after counts) (r .usage) }
 
--- the contract of the loop of an accepted run
-abbrev pub RunsAccepted : Stepper → State → Slice → Slice → Slice → Slice → ℕ → Slice → Slice → Counted → Type 0
-RunsAccepted v start program memory inputs outputs budget log counts r =
-    leftTallied program memory inputs outputs log counts r ≡ acceptedCounted v (lentTo start program memory inputs outputs budget log)
+-- the contract of the loop of an accepted run, with a journal where it keeps one
+abbrev pub RunsAccepted : Stepper → State → Slice → Slice → Slice → Slice → ℕ → Slice → Bool → Slice → Slice → Counted → Type 0
+RunsAccepted v start program memory inputs outputs budget log keeps journal counts r =
+    leftTallied program memory inputs outputs log (journalIf keeps (after journal)) counts r
+    ≡ acceptedCounted v (lentTo start program memory inputs outputs budget log (journalIf keeps (before journal)))
 
 -- that of a run with its refusals
-abbrev pub RunsTallied : Stepper → State → Slice → Slice → Slice → Slice → ℕ → Slice → Slice → Counted → Type 0
-RunsTallied v state program memory inputs outputs budget log counts r =
-    CountedMeets v (lentTo state program memory inputs outputs budget log) (leftTallied program memory inputs outputs log counts r)
+abbrev pub RunsTallied : Stepper → State → Slice → Slice → Slice → Slice → ℕ → Slice → Bool → Slice → Slice → Counted → Type 0
+RunsTallied v state program memory inputs outputs budget log keeps journal counts r =
+    CountedMeets v (lentTo state program memory inputs outputs budget log (journalIf keeps (before journal)))
+    (leftTallied program memory inputs outputs log (journalIf keeps (after journal)) counts r)
+
+-- that of a run that lends no places
+abbrev pub RunsIf : Stepper → State → Slice → Slice → Slice → Slice → ℕ → Slice → Bool → Slice → Counted → Type 0
+RunsIf v state program memory inputs outputs budget log keeps journal r =
+    RunsWith v state program memory inputs outputs budget log (journalIf keeps (before journal)) (journalIf keeps (after journal)) r

@@ -1,6 +1,6 @@
 // The loop of a run: fetch, step and count.
 ghost use Rattle.machine.specs.Held.{held, Ready, StepsAs};
-ghost use Rattle.run.specs.Runs.{given};
+ghost use Rattle.run.specs.Runs.{given, journalIf};
 ghost use Rattle.places.specs.Places.{Cleared};
 ghost use Rattle.cycle.specs.Loops.{CanRun, RunsAccepted, chosen, stepOf, writesOf};
 use machine::State;
@@ -33,8 +33,8 @@ fn step(
     }
 }
 
-// The loop of an accepted run, by a table or by the rules. PC stays even. Where `counts` has all places, a step adds one at its word's
-// place, and usage stays zero.
+// The loop of an accepted run, by a table or by the rules, from the state it starts from, with the steps it may take. PC stays even.
+// Where `keeps`, a step's entry goes to the journal. Where `counts` has all places, a step adds one at its word's place, and usage stays zero.
 pub fn run_accepted(
     by_table: bool,
     table: &[u16; 32],
@@ -45,20 +45,27 @@ pub fn run_accepted(
     outputs: &mut [u16],
     budget: u32,
     log: &mut [u64],
+    keeps: bool,
+    journal: &mut [u64],
     counts: &mut [u32],
 ) -> Counted
     requires { ⌜ Cleared (now counts) ⌝ }
-    requires { ⌜ CanRun (given start (now program) (now memory) (now inputs) (now outputs) budget (now log)) ⌝ }
-    ensures { λ r. ⌜ RunsAccepted (chosen «by_table» (now (table .entry))) start program memory inputs outputs budget log counts r ⌝ }
+    requires { ⌜ CanRun (given start (now program) (now memory) (now inputs) (now outputs) budget (now log) (journalIf «keeps» (now journal))) ⌝ }
+    ensures { λ r. ⌜ RunsAccepted (chosen «by_table» (now (table .entry))) start program memory inputs outputs budget log «keeps» journal counts r ⌝ }
 {
     let mut state = start;
     let mut steps: u32 = 0;
     let mut entries: usize = 0;
+    let count = start.journaled as usize;
+    let mut entry: u64 = 0;
     let mut kinds = [0u64; kinds::COUNT];
     let mut reads = [0u64; 8];
     let mut writes = [0u64; 8];
     while steps < budget {
         let w = bus::fetch(program, state.pc);
+        if keeps {
+            entry = journal::entry(w, state, memory, outputs);
+        }
         let done = step(
             by_table,
             table,
@@ -74,7 +81,7 @@ pub fn run_accepted(
         entries = done.entries;
         if done.stop != 0 {
             return Counted {
-                state,
+                state: run::ending(state, steps, keeps),
                 answer: Answer::Stopped(Report {
                     stop: done.stop,
                     steps,
@@ -87,6 +94,10 @@ pub fn run_accepted(
                 },
             };
         }
+        if keeps {
+            let place = count + steps as usize;
+            journal[place] = entry;
+        }
         if places::PLACES <= counts.len() {
             let at = places::place_of(w);
             counts[at] += 1;
@@ -96,7 +107,7 @@ pub fn run_accepted(
         steps = steps + 1;
     }
     Counted {
-        state,
+        state: run::ending(state, steps, keeps),
         answer: Answer::Stopped(Report {
             stop: 0,
             steps,

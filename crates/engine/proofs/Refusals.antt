@@ -1,55 +1,69 @@
 -- What a verdict makes of a run.
 -- Assumes nothing.
-use mathlib.Core.Path.{_≡_, refl, sym, ap, _∙_}
-use mathlib.Core.Bool.{true, false, _&&_, and-eq-true-iff}
+use mathlib.Core.Path.{_≡_, refl, sym, ap, subst, _∙_}
+use mathlib.Core.Bool.{Bool, _&&_, and-eq-true-iff}
 use mathlib.Core.List.{List}
-use Prim.Native.Nat.{ℕ, zero, suc, _+_, _%_}
+use Prim.Native.Nat.{ℕ, zero, suc, _+_, _%_, _≤_}
 use native.Mathlib.Omega.{arith}
 use borrow.Author.Tests.{eqb-true, leb-true}
 use lib.Dec.{eqb, leb}
 use lib.ListN.{length, getD, replicate}
 use Rattle.refusal.specs.Refusals.{accepted, refused}
 use Rattle.word.proofs.Tests.{clash, passed}
+use Rattle.machine.specs.declared.State.{State}
 use Rattle.machine.specs.Lengths.{lengthsFit}
 use Rattle.machine.specs.Run.{Stepper}
-use Rattle.control.specs.Control.{table, byControl, byTable}
 use Rattle.usage.specs.declared.Usage.{Usage}
 use Rattle.usage.specs.Usage.{unused}
-use Rattle.run.specs.Runs.{Given, Left, left, run-refused, verdict, verdictOn, CountedLeft, acceptedCounted, countedLeft, CountedMeets}
+use Rattle.run.specs.Runs.{Given, given, Left, left, run-refused, startIn, allowed, verdict, verdictOn, CountedLeft, acceptedCounted, countedLeft, CountedMeets}
+use Rattle.run.proofs.Journals.{started, is-started}
 use Rattle.places.specs.Places.{folded, tallied}
 use Rattle.places.proofs.Tallied.{at-once, by-place}
-use Rattle.cycle.specs.Loops.{CanRun}
-
--- what an accepted verdict says
-pub accepted-fits : (g : Given) → accepted ≡ verdictOn g → CanRun g
-unfolding verdict
-accepted-fits g e =
-    let lent = passed (lengthsFit (g .P) (g .D) (g .I) (g .O)) (λ x. clash (cc)) (sym e) in
-    let even = passed (eqb (g .state .pc % 2) 0) (λ x. clash (cc)) (lent .1) in
-    let few = passed (leb (g .state .n + g .budget) 4294967295) (λ x. clash (cc)) (even .1) in
-    let o = and-eq-true-iff (eqb (length (g .P)) 65536 && eqb (length (g .D)) 65536 && eqb (length (g .I)) 256) (eqb (length (g .O)) 256) .0 (lent .0) in
-    let i = and-eq-true-iff (eqb (length (g .P)) 65536 && eqb (length (g .D)) 65536) (eqb (length (g .I)) 256) .0 (o .0) in
-    let d = and-eq-true-iff (eqb (length (g .P)) 65536) (eqb (length (g .D)) 65536) .0 (i .0) in
-    record {
-      program = eqb-true _ _ (d .0);
-      memory = eqb-true _ _ (d .1);
-      inputs = eqb-true _ _ (i .1);
-      outputs = eqb-true _ _ (o .1);
-      even = eqb-true _ _ (even .0);
-      counts = leb-true _ _ (few .0);
-    }
+use Rattle.control.specs.Control.{table}
+use Rattle.cycle.specs.Loops.{CanRun, chosen}
 
 -- ---- The run, by its verdict
 
-module _ (v : Stepper) (g : Given) where
-  pub refused-run : {k : ℕ} {u : Usage} → refused k ≡ verdictOn g → u ≡ unused
-      → CountedMeets v g (record { left = left (run-refused k) (g .state) (g .P) (g .D) (g .I) (g .O) (g .log); usage = u })
-  unfolding countedLeft
-  refused-run e c = rw (← e, c)
+module _ (g : Given) (e : accepted ≡ verdictOn g) where
+  -- where the verdict is accepted, the loop can run from the state that the run starts from, with the steps that it may take
+  started-fits : started g .state .journaled + started g .budget ≤ 18446744073709551615 → CanRun (started g)
+  unfolding verdict
+  started-fits fits =
+      let lent = passed (lengthsFit (g .P) (g .D) (g .I) (g .O)) (λ x. clash (cc)) (sym e) in
+      let even = passed (eqb (g .state .pc % 2) 0) (λ x. clash (cc)) (lent .1) in
+      let few = passed (leb (g .state .n + g .budget) 4294967295) (λ x. clash (cc)) (even .1) in
+      let o = and-eq-true-iff (eqb (length (g .P)) 65536 && eqb (length (g .D)) 65536 && eqb (length (g .I)) 256) (eqb (length (g .O)) 256) .0 (lent .0) in
+      let i = and-eq-true-iff (eqb (length (g .P)) 65536 && eqb (length (g .D)) 65536) (eqb (length (g .I)) 256) .0 (o .0) in
+      let d = and-eq-true-iff (eqb (length (g .P)) 65536) (eqb (length (g .D)) 65536) .0 (i .0) in
+      let below : g .state .n + g .budget ≤ 4294967295 = leb-true _ _ (few .0) in
+      let s = is-started g in
+      record {
+        program = eqb-true _ _ (d .0);
+        memory = eqb-true _ _ (d .1);
+        inputs = eqb-true _ _ (i .1);
+        outputs = eqb-true _ _ (o .1);
+        even = ap (λ k. k % 2) (s .pc) ∙ eqb-true _ _ (even .0);
+        counts = omega (arith, s .n, s .few, below);
+        starts = ap (λ (x : Given). x .state) (s .starts);
+        room = ap (λ (x : Given). x .budget) (s .starts);
+        fits = fits;
+      }
 
-  pub run-accepted : {l : CountedLeft} → accepted ≡ verdictOn g → l ≡ acceptedCounted v g → CountedMeets v g l
-  unfolding countedLeft
-  run-accepted e h = rw (← e) h
+  module _ {s : State} {budget : ℕ} (start : s ≡ startIn (g .journal) (g .state)) (allows : budget ≡ allowed g) where
+    begun : started g ≡ given s (g .P) (g .D) (g .I) (g .O) budget (g .log) (g .journal)
+    begun = λ i. given (sym start i) (g .P) (g .D) (g .I) (g .O) (sym allows i) (g .log) (g .journal)
+
+    pub can-run : started g .state .journaled + started g .budget ≤ 18446744073709551615 → CanRun (given s (g .P) (g .D) (g .I) (g .O) budget (g .log) (g .journal))
+    can-run fits = subst CanRun begun (started-fits fits)
+
+    pub run-accepted : (v : Stepper) {l : CountedLeft} → l ≡ acceptedCounted v (given s (g .P) (g .D) (g .I) (g .O) budget (g .log) (g .journal)) → CountedMeets v g l
+    unfolding countedLeft
+    run-accepted v h = rw (← e) (h ∙ ap (acceptedCounted v) (sym begun) ∙ is-started g .same v)
+
+pub refused-run : (v : Stepper) (g : Given) {k : ℕ} {u : Usage} → refused k ≡ verdictOn g → u ≡ unused
+    → CountedMeets v g (record { left = left (run-refused k) (g .state) (g .P) (g .D) (g .I) (g .O) (g .log) (g .journal); usage = u })
+unfolding countedLeft
+refused-run v g e c = rw (← e, c)
 
 -- ---- Its counts, where no places are lent and where all are
 
@@ -65,6 +79,6 @@ zeros zero k = refl
 zeros (suc n) zero = refl
 zeros (suc n) (suc k) = zeros n k
 
--- a run by a table that is the paper's
-pub by-paper : (words : List ℕ) (g : Given) {l : CountedLeft} → words ≡ table → CountedMeets (byControl words) g l → CountedMeets byTable g l
-by-paper words g e h = h ∙ ap (λ ws. countedLeft (byControl ws) g) e
+-- a run where the table that is lent is the paper's
+pub by-paper : (t : Bool) (g : Given) {words : List ℕ} {l : CountedLeft} → words ≡ table → CountedMeets (chosen t words) g l → CountedMeets (chosen t table) g l
+by-paper t g e h = h ∙ ap (λ ws. countedLeft (chosen t ws) g) e

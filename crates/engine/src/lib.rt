@@ -1,9 +1,9 @@
 // Runs of a trim, by the rules or by a control table.
 ghost use Rattle.machine.specs.Run.{byRules};
-ghost use Rattle.control.specs.Control.{byControl, byTable};
-ghost use Rattle.run.specs.Runs.{RunsCounted, RunsOnly};
+ghost use Rattle.control.specs.Control.{table, byControl, byTable};
+ghost use Rattle.run.specs.Runs.{RunsCounted, RunsJournaled, RunsOnly};
 ghost use Rattle.places.specs.Places.{Cleared};
-ghost use Rattle.cycle.specs.Loops.{chosen, RunsTallied};
+ghost use Rattle.cycle.specs.Loops.{chosen, RunsTallied, RunsIf};
 use control::control_table;
 use machine::State;
 use run::Answer;
@@ -15,7 +15,7 @@ use usage::Usage;
 // From this budget on a run counts by place, with 68 KiB of stack, cleared and folded in some 2 microseconds; below it each step at once.
 const LONG: u32 = 2048;
 
-// A run by a table or by the rules: its refusals, then its loop.
+// A run by a table or by the rules, with a journal where it keeps one: its refusals, then its loop.
 fn run(
     by_table: bool,
     table: &[u16; 32],
@@ -26,22 +26,26 @@ fn run(
     outputs: &mut [u16],
     budget: u32,
     log: &mut [u64],
+    keeps: bool,
+    journal: &mut [u64],
     counts: &mut [u32],
 ) -> Counted
     requires { ⌜ Cleared (now counts) ⌝ }
-    ensures { λ r. ⌜ RunsTallied (chosen «by_table» (now (table .entry))) state program memory inputs outputs budget log counts r ⌝ }
+    ensures { λ r. ⌜ RunsTallied (chosen «by_table» (now (table .entry))) state program memory inputs outputs budget log «keeps» journal counts r ⌝ }
 {
     match run::checked(state, program, memory, inputs, outputs, budget) {
         Check::Accepted => cycle::run_accepted(
             by_table,
             table,
-            state,
+            run::starting(state, keeps),
             program,
             memory,
             inputs,
             outputs,
-            budget,
+            run::allowed(budget, state.journaled, keeps, journal),
             log,
+            keeps,
+            journal,
             counts,
         ),
         Check::Refused(refusal) => Counted {
@@ -64,8 +68,10 @@ fn long(
     outputs: &mut [u16],
     budget: u32,
     log: &mut [u64],
+    keeps: bool,
+    journal: &mut [u64],
 ) -> Counted
-    ensures { λ r. ⌜ RunsCounted (chosen «by_table» (now (table .entry))) state program memory inputs outputs budget log r ⌝ }
+    ensures { λ r. ⌜ RunsIf (chosen «by_table» (now (table .entry))) state program memory inputs outputs budget log «keeps» journal r ⌝ }
 {
     let mut counts = [0u32; places::PLACES];
     let ran = run(
@@ -78,6 +84,8 @@ fn long(
         outputs,
         budget,
         log,
+        keeps,
+        journal,
         &mut counts,
     );
     let state = ran.state;
@@ -86,6 +94,54 @@ fn long(
         state,
         answer,
         usage: places::fold(&counts),
+    }
+}
+
+// A run by the rules or by the paper's table, with a journal.
+fn journaled(
+    by_table: bool,
+    state: State,
+    program: &[u8],
+    memory: &mut [u8],
+    inputs: &mut [u16],
+    outputs: &mut [u16],
+    budget: u32,
+    log: &mut [u64],
+    journal: &mut [u64],
+) -> Counted
+    ensures { λ r. ⌜ RunsJournaled (chosen «by_table» table) state program memory inputs outputs budget log journal r ⌝ }
+{
+    let words = control_table();
+    if budget < LONG {
+        let mut counts = [0u32; 0];
+        run(
+            by_table,
+            &words,
+            state,
+            program,
+            memory,
+            inputs,
+            outputs,
+            budget,
+            log,
+            true,
+            journal,
+            &mut counts,
+        )
+    } else {
+        long(
+            by_table,
+            &words,
+            state,
+            program,
+            memory,
+            inputs,
+            outputs,
+            budget,
+            log,
+            true,
+            journal,
+        )
     }
 }
 
@@ -101,11 +157,13 @@ pub fn run_by_rules(
 ) -> Counted
     ensures { λ r. ⌜ RunsCounted byRules state program memory inputs outputs budget log r ⌝ }
 {
+    let words = control_table();
+    let mut journal = [0u64; 0];
     if budget < LONG {
-        let mut none = [0u32; 0];
+        let mut counts = [0u32; 0];
         run(
             false,
-            &control_table(),
+            &words,
             state,
             program,
             memory,
@@ -113,12 +171,14 @@ pub fn run_by_rules(
             outputs,
             budget,
             log,
-            &mut none,
+            false,
+            &mut journal,
+            &mut counts,
         )
     } else {
         long(
             false,
-            &control_table(),
+            &words,
             state,
             program,
             memory,
@@ -126,39 +186,10 @@ pub fn run_by_rules(
             outputs,
             budget,
             log,
+            false,
+            &mut journal,
         )
     }
-}
-
-// A run by any table of 32 control words. Its counts are not reported.
-pub fn run_by_control(
-    words: &[u16; 32],
-    state: State,
-    program: &[u8],
-    memory: &mut [u8],
-    inputs: &mut [u16],
-    outputs: &mut [u16],
-    budget: u32,
-    log: &mut [u64],
-) -> Ran
-    ensures { λ r. ⌜ RunsOnly (byControl (now (words .entry))) state program memory inputs outputs budget log r ⌝ }
-{
-    let mut none = [0u32; 0];
-    let ran = run(
-        true,
-        words,
-        state,
-        program,
-        memory,
-        inputs,
-        outputs,
-        budget,
-        log,
-        &mut none,
-    );
-    let state = ran.state;
-    let answer = ran.answer;
-    Ran { state, answer }
 }
 
 // A run by the control table.
@@ -173,11 +204,13 @@ pub fn run_by_table(
 ) -> Counted
     ensures { λ r. ⌜ RunsCounted byTable state program memory inputs outputs budget log r ⌝ }
 {
+    let words = control_table();
+    let mut journal = [0u64; 0];
     if budget < LONG {
-        let mut none = [0u32; 0];
+        let mut counts = [0u32; 0];
         run(
             true,
-            &control_table(),
+            &words,
             state,
             program,
             memory,
@@ -185,12 +218,14 @@ pub fn run_by_table(
             outputs,
             budget,
             log,
-            &mut none,
+            false,
+            &mut journal,
+            &mut counts,
         )
     } else {
         long(
             true,
-            &control_table(),
+            &words,
             state,
             program,
             memory,
@@ -198,6 +233,94 @@ pub fn run_by_table(
             outputs,
             budget,
             log,
+            false,
+            &mut journal,
         )
     }
+}
+
+// A run by the rules with a journal.
+pub fn run_by_rules_with_journal(
+    state: State,
+    program: &[u8],
+    memory: &mut [u8],
+    inputs: &mut [u16],
+    outputs: &mut [u16],
+    budget: u32,
+    log: &mut [u64],
+    journal: &mut [u64],
+) -> Counted
+    ensures { λ r. ⌜ RunsJournaled byRules state program memory inputs outputs budget log journal r ⌝ }
+{
+    journaled(
+        false,
+        state,
+        program,
+        memory,
+        inputs,
+        outputs,
+        budget,
+        log,
+        journal,
+    )
+}
+
+// A run by the control table with a journal.
+pub fn run_by_table_with_journal(
+    state: State,
+    program: &[u8],
+    memory: &mut [u8],
+    inputs: &mut [u16],
+    outputs: &mut [u16],
+    budget: u32,
+    log: &mut [u64],
+    journal: &mut [u64],
+) -> Counted
+    ensures { λ r. ⌜ RunsJournaled byTable state program memory inputs outputs budget log journal r ⌝ }
+{
+    journaled(
+        true,
+        state,
+        program,
+        memory,
+        inputs,
+        outputs,
+        budget,
+        log,
+        journal,
+    )
+}
+
+// A run by any table of 32 control words. It keeps no journal, and its counts are not reported.
+pub fn run_by_control(
+    words: &[u16; 32],
+    state: State,
+    program: &[u8],
+    memory: &mut [u8],
+    inputs: &mut [u16],
+    outputs: &mut [u16],
+    budget: u32,
+    log: &mut [u64],
+) -> Ran
+    ensures { λ r. ⌜ RunsOnly (byControl (now (words .entry))) state program memory inputs outputs budget log r ⌝ }
+{
+    let mut journal = [0u64; 0];
+    let mut counts = [0u32; 0];
+    let ran = run(
+        true,
+        words,
+        state,
+        program,
+        memory,
+        inputs,
+        outputs,
+        budget,
+        log,
+        false,
+        &mut journal,
+        &mut counts,
+    );
+    let state = ran.state;
+    let answer = ran.answer;
+    Ran { state, answer }
 }

@@ -69,6 +69,8 @@ pub record Lawful (v : Stepper) : Type 0 where
   pub counts : (m next : Machine) → v .steps m ≡ to next → next .state .n ≡ m .state .n + 1
   pub even : (m next : Machine) → v .steps m ≡ to next → PC m % 2 ≡ 0 → PC next % 2 ≡ 0
   pub grows : (m next : Machine) → v .steps m ≡ to next → length (m .L) ≤ length (next .L)
+  -- and leaves the count of journal entries
+  pub journaled : (m next : Machine) → v .steps m ≡ to next → next .state .journaled ≡ m .state .journaled
 
 -- ---- By what a step function answers
 

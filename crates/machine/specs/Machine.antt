@@ -1,31 +1,43 @@
 -- The plain machine (01): its state, and what may be written in it.
-use Prim.Native.Nat.{ℕ, _+_, _*_, _/_, _%_}
+use Prim.Native.Nat.{ℕ, _+_, _-_, _*_, _/_, _%_}
 use mathlib.Core.List.{List, [], _∷_, _++_}
 use lib.ListN.{getD, set, replicate}
 use Rattle.word.specs.Word.{add}
 use Rattle.machine.specs.declared.State.{State}
 
--- ---- The register state: R0 to R7 and PC (16 bits each); n, the steps done (32 bits).
+-- ---- The register state: R0 to R7 and PC (16 bits each); n, the steps done (32 bits); the count of journal entries (02, L7; 64 bits).
 
--- A reset machine has every register, PC and n at zero.
+-- A reset machine has every register, PC and n at zero. The count of journal entries is 0 at a load.
 abbrev pub reset : State
-reset = record { r = replicate 8 0; pc = 0; n = 0 }
+reset = record { r = replicate 8 0; pc = 0; n = 0; journaled = 0 }
 
 -- Rk
 abbrev pub R : State → ℕ → ℕ
 R s k = getD (s .r) k 0
 
+-- R0 to R7 become r
+abbrev pub putRegisters : List ℕ → State → State
+putRegisters r s = record { r = r; pc = s .pc; n = s .n; journaled = s .journaled }
+
 -- Rd becomes v
 abbrev pub putR : ℕ → ℕ → State → State
-putR d v s = record { r = set (s .r) d v; pc = s .pc; n = s .n }
+putR d v s = putRegisters (set (s .r) d v) s
 
 -- PC becomes v
 abbrev pub putPC : ℕ → State → State
-putPC v s = record { r = s .r; pc = v; n = s .n }
+putPC v s = record { r = s .r; pc = v; n = s .n; journaled = s .journaled }
+
+-- n becomes v
+abbrev pub putN : ℕ → State → State
+putN v s = record { r = s .r; pc = s .pc; n = v; journaled = s .journaled }
+
+-- the count of journal entries becomes v
+abbrev pub putJournaled : ℕ → State → State
+putJournaled v s = record { r = s .r; pc = s .pc; n = s .n; journaled = v }
 
 -- n grows by 1
 abbrev pub count : State → State
-count s = record { r = s .r; pc = s .pc; n = s .n + 1 }
+count s = putN (s .n + 1) s
 
 -- ---- The machine: program P and data D, 65,536 bytes each; inputs I and outputs O, 256 words of 16 bits each; the log L.
 pub record Machine : Type 0 where

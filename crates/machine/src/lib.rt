@@ -1,17 +1,18 @@
 // The register state, memories and ports of the SISA trim processor.
 ghost use mathlib.Core.Path.{_≡_};
-ghost use Prim.Native.Nat.{_+_, _%_, _<_};
+ghost use Prim.Native.Nat.{_+_, _-_, _%_, _<_};
 ghost use Rattle.word.specs.Fields.{a-of, b-of};
 ghost use Rattle.word.specs.Word.{pick, add};
 ghost use lib.Dec.{eqb};
-ghost use Rattle.machine.specs.Machine.{reset, R, putR, putPC, count};
+ghost use Rattle.machine.specs.Machine.{reset, R, putR, putPC, putN, putJournaled, count};
 
-// R0 to R7, PC, and n, the count of steps done.
+// R0 to R7, PC, n, the count of steps done, and the count of journal entries.
 #[repr(C)]
 pub struct State {
     pub r: [u16; 8],
     pub pc: u16,
     pub n: u32,
+    pub journaled: u64,
 }
 
 // What an engine's step hands back: stop 0, the register state, and how many places of the log are filled; or why it can't be
@@ -58,6 +59,12 @@ fn choose(d: u16, i: u16, v: u16, old: u16) -> u16
     if d == i { v } else { old }
 }
 
+fn one_less(n: u32) -> u32
+    ensures { λ r. ⌜ r ≡ n - 1 ⌝ }
+{
+    if n == 0 { 0 } else { n - 1 }
+}
+
 impl State {
     // The bytes of a memory, and the words of an array of ports.
     pub const MEMORY_BYTES: usize = 65536;
@@ -71,6 +78,7 @@ impl State {
             r: [0; 8],
             pc: 0,
             n: 0,
+            journaled: 0,
         }
     }
 
@@ -126,6 +134,7 @@ impl State {
             r: written,
             pc: self.pc,
             n: self.n,
+            journaled: self.journaled,
         }
     }
 
@@ -138,6 +147,7 @@ impl State {
             r,
             pc: v,
             n: self.n,
+            journaled: self.journaled,
         }
     }
 
@@ -146,12 +156,7 @@ impl State {
         requires { ⌜ self .n < 4294967295 ⌝ }
         ensures { λ s. ⌜ s ≡ count self ⌝ }
     {
-        let r = self.r;
-        State {
-            r,
-            pc: self.pc,
-            n: self.n + 1,
-        }
+        self.with_n(self.n + 1)
     }
 
     // PC+2, and one step more is done.
@@ -160,5 +165,36 @@ impl State {
         ensures { λ s. ⌜ s ≡ putPC (add (self .pc) 2) (count self) ⌝ }
     {
         self.counted().with_pc(word::sum(self.pc, 2))
+    }
+
+    pub fn with_n(self, v: u32) -> Self
+        ensures { λ s. ⌜ s ≡ putN v self ⌝ }
+    {
+        let r = self.r;
+        State {
+            r,
+            pc: self.pc,
+            n: v,
+            journaled: self.journaled,
+        }
+    }
+
+    // PC is v, and one step less is done.
+    pub fn retreated(self, v: u16) -> Self
+        ensures { λ s. ⌜ s ≡ putPC v (putN (self .n - 1) self) ⌝ }
+    {
+        self.with_n(one_less(self.n)).with_pc(v)
+    }
+
+    pub fn with_journaled(self, v: u64) -> Self
+        ensures { λ s. ⌜ s ≡ putJournaled v self ⌝ }
+    {
+        let r = self.r;
+        State {
+            r,
+            pc: self.pc,
+            n: self.n,
+            journaled: v,
+        }
     }
 }

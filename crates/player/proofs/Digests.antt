@@ -50,9 +50,9 @@ unfolding digestFrom
 digest-append h [] ys = refl
 digest-append h (x ∷ xs) ys = digest-append (takenIn h x) xs ys
 
-pub state-digest : (state : State) → takenIn (takenIn (digestFrom 0 (state .r)) (state .pc)) (state .n) ≡ digestFrom 0 (stateNumbers state)
+pub state-digest : (r : List ℕ) (pc n : ℕ) → takenIn (takenIn (digestFrom 0 r) pc) n ≡ digestFrom 0 (r ++ (pc ∷ n ∷ []))
 unfolding digestFrom
-state-digest state = sym (digest-append 0 (state .r) (state .pc ∷ state .n ∷ []))
+state-digest r pc n = sym (digest-append 0 r (pc ∷ n ∷ []))
 
 pub left-digest : (state : State) (P D I O log : List ℕ)
     → digestFrom (digestFrom (digestFrom (digestFrom (digestFrom (digestFrom 0 (stateNumbers state)) P) D) I) O) (halves log) ≡ digestOfLeft state P D I O log

@@ -7,7 +7,7 @@ use lib.ListN.{getD}
 use Rattle.word.specs.Word.{pick, add}
 use Rattle.numbers.specs.Numbers.{numberOf}
 use Rattle.machine.specs.declared.State.{State}
-use Rattle.machine.specs.Machine.{putPC}
+use Rattle.machine.specs.Machine.{putPC, putN, putJournaled}
 use Rattle.player.specs.declared.runs.Request.{Request}
 use Rattle.player.specs.declared.runs.Reply.{Reply}
 use Rattle.player.specs.Lent.{allBut}
@@ -15,10 +15,6 @@ use Rattle.player.specs.Lent.{allBut}
 -- number(c, q + k) of call i, with q = 5,000 + 16·i. On the page i and k are under 16.
 unfoldable pub ofCall : ℕ → ℕ → ℕ → ℕ
 ofCall c i k = numberOf c (5000 + 16 * (i % 16) + k % 16)
-
--- n becomes another
-abbrev pub putN : ℕ → State → State
-putN n s = record { r = s .r; pc = s .pc; n = n }
 
 -- The state handed is the one kept, but where the change is 0, PC handed is (the kept one + 1) mod 65,536; 1, n handed is the one that
 -- the program gives.
@@ -28,22 +24,26 @@ changed n kept = putPC (add (kept .pc) 1) kept ∷ putN n kept ∷ []
 unfoldable pub handedOf : ℕ → ℕ → State → State
 handedOf change n kept = getD (changed n kept) change kept
 
--- The change is number(c, q + 3) mod 16: where it is 2, the memory lent is all but a byte; 3, the outputs lent are all but a word. The
--- budget of a run is number(c, q + 1) mod 2,000. How many places of the log are lent the program says.
-unfoldable pub requestOf : ℕ → ℕ → State → ℕ → ℕ → Request
-requestOf c i kept n places =
-    let change = ofCall c i 3 % 16 in
+-- What is handed and lent by a change: where it is 2, the memory lent is all but a byte; 3, the outputs lent are all but a word. The budget, and
+-- how many places of the log are lent, the program says.
+unfoldable pub requestBy : ℕ → State → ℕ → ℕ → ℕ → Request
+requestBy change kept n budget places =
     record {
       state = handedOf change n kept;
-      budget = ofCall c i 1 % 2000;
+      budget = budget;
       bytes = allBut (eqb change 2) 65536;
       ports = allBut (eqb change 3) 256;
       places = places;
     }
 
--- Where the call was accepted the host keeps that state, after a stop 1 or 3 with PC moved on by 2 (modulo 65,536); where it was refused
--- it keeps the one it had.
+-- The change is number(c, q + 3) mod 16. The budget of a run is number(c, q + 1) mod 2,000.
+abbrev pub requestOf : ℕ → ℕ → State → ℕ → ℕ → Request
+requestOf c i kept n places = requestBy (ofCall c i 3 % 16) kept n (ofCall c i 1 % 2000) places
+
+-- Where the call was accepted the host keeps that state, after a stop 1 or 3 with PC moved on by 2 (modulo 65,536) and the count of journal
+-- entries made 0 (a run without a journal leaves it 0); where it was refused it keeps the one it had.
 unfoldable pub keptAfter : State → Reply → State
 keptAfter kept reply =
     let state = reply .state in
-    pick (eqb (reply .refusal) 0) (pick (eqb (reply .stop) 1 || eqb (reply .stop) 3) (putPC (add (state .pc) 2) state) state) kept
+    let moved = putJournaled 0 (putPC (add (state .pc) 2) state) in
+    pick (eqb (reply .refusal) 0) (pick (eqb (reply .stop) 1 || eqb (reply .stop) 3) moved state) kept

@@ -1,6 +1,6 @@
 // The runs of both programs: what is handed and lent, what is printed, and what the host keeps.
 ghost use mathlib.Core.Path.{_≡_};
-ghost use Rattle.player.specs.Runs.{ofCall, handedOf, requestOf, keptAfter};
+ghost use Rattle.player.specs.Runs.{ofCall, handedOf, requestBy, requestOf, keptAfter};
 use crate::lent::Log;
 use crate::lent::Memory;
 use crate::lent::Ports;
@@ -9,6 +9,9 @@ use crate::print;
 use machine::State;
 use numbers::number;
 use std::num::wrapping_add_u16;
+
+// What n becomes where a run is handed another.
+pub const LATE: u32 = 4294967000;
 
 // What a run is handed, and how much of the memory, the outputs and the log it is lent.
 pub struct Request {
@@ -50,20 +53,29 @@ fn handed(kept: State, change: u16, n: u32) -> State
     }
 }
 
-pub fn request_of(c: u16, i: u16, kept: State, n: u32, places: usize) -> Request
-    ensures { λ r. ⌜ r ≡ requestOf c i kept n places ⌝ }
+// What is handed and lent by a change. Where n is exchanged it becomes n.
+pub fn request_by(change: u16, kept: State, n: u32, budget: u32, places: usize) -> Request
+    ensures { λ r. ⌜ r ≡ requestBy change kept n budget places ⌝ }
 {
-    let change = of_call(c, i, 3) % 16;
     Request {
         state: handed(kept, change, n),
-        budget: (of_call(c, i, 1) % 2000) as u32,
+        budget,
         bytes: all_but(change == 2, State::MEMORY_BYTES),
         ports: all_but(change == 3, State::PORTS),
         places,
     }
 }
 
-// The state that the host keeps.
+// The request for a run that is call i.
+pub fn request_of(c: u16, i: u16, kept: State, n: u32, places: usize) -> Request
+    ensures { λ r. ⌜ r ≡ requestOf c i kept n places ⌝ }
+{
+    let change = of_call(c, i, 3) % 16;
+    let budget = (of_call(c, i, 1) % 2000) as u32;
+    request_by(change, kept, n, budget, places)
+}
+
+// The state that the host keeps. Moving PC on ends what can be stepped back.
 pub fn kept_after(kept: State, reply: Reply) -> State
     ensures { λ r. ⌜ r ≡ keptAfter kept reply ⌝ }
 {
@@ -72,7 +84,9 @@ pub fn kept_after(kept: State, reply: Reply) -> State
     }
     let state = reply.state;
     if (reply.stop == 1) | (reply.stop == 3) {
-        return state.with_pc(wrapping_add_u16(state.pc, 2));
+        return state
+            .with_pc(wrapping_add_u16(state.pc, 2))
+            .with_journaled(0);
     }
     state
 }

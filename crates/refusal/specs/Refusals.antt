@@ -2,7 +2,7 @@
 -- accepted or refused with a number.
 use Prim.Native.Nat.{ℕ}
 use Rattle.refusal.specs.declared.Refusal.{Refusal}
-use Rattle.refusal.specs.declared.Refusal.the-variants.{LentLength, ShortFile, LargePart, PartOutside, OddPc, StepCount, InstructionPart, LongFile, ShortDestination, TextLine, TextName, TextValue, FullSheet}
+use Rattle.refusal.specs.declared.Refusal.the-variants.{LentLength, ShortFile, LargePart, PartOutside, OddPc, StepCount, InstructionPart, LongFile, ShortDestination, TextLine, TextName, TextValue, FullSheet, ShortJournal}
 
 abbrev pub refusalNumber : Refusal → ℕ
 -- P or D not 65,536 bytes, or I or O not 256 words (set looks at I only)
@@ -31,6 +31,8 @@ refusalNumber TextName = 11
 refusalNumber TextValue = 12
 -- an accepted run fed after 65,535 such (02, L5)
 refusalNumber FullSheet = 13
+-- the journal holds fewer than k steps (02, L7)
+refusalNumber ShortJournal = 14
 
 -- whether a call is accepted: it is, or it is refused with this number
 pub data Verdict : Type 0 where

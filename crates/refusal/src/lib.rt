@@ -16,6 +16,7 @@ pub enum Refusal {
     TextName,
     TextValue,
     FullSheet,
+    ShortJournal,
 }
 
 // The refusal's number in the table.
@@ -36,5 +37,6 @@ pub fn number(refusal: Refusal) -> u8
         Refusal::TextName => 11,
         Refusal::TextValue => 12,
         Refusal::FullSheet => 13,
+        Refusal::ShortJournal => 14,
     }
 }

@@ -1,5 +1,5 @@
 -- What each function of include/sisa.h replies and leaves, of what it is given. The crates that do the work decide it
--- (`loadLeft`, `saveLeft`, `assembleLeft`, `setLeft`, `countedLeft`, `decodingOf`, `writeOf`, `windowOf`); here their replies become the numbers of the header's
+-- (`loadLeft`, `saveLeft`, `assembleLeft`, `setLeft`, `countedLeft`, `backLeft`, `decodingOf`, `writeOf`, `windowOf`); here their replies become the numbers of the header's
 -- structs. A refusal of 0 is an accepted call; a field that a case does not speak of is 0.
 use Prim.Native.Nat.{ℕ, _+_}
 use denote.Ref.{RefT, now}
@@ -27,12 +27,14 @@ use Rattle.control.specs.Control.{byTable}
 use Rattle.usage.specs.declared.Usage.{Usage}
 use Rattle.sheet.specs.declared.Sheet.{Sheet}
 use Rattle.sheet.specs.Sheet.{FeedLeft, feedBy}
-use Rattle.run.specs.Runs.{Given, given, RunReply, stopped, run-refused, CountedLeft, countedLeft, lentTo}
+use Rattle.run.specs.Runs.{Journal, no-journal, lent-journal, Given, given, RunReply, stopped, run-refused, CountedLeft, countedLeft, lentTo}
+use Rattle.back.specs.Backs.{BackReply, gone-back, back-refused, BackGiven, BackLeft, backLeft, lentBack}
 use Rattle.replies.specs.declared.SisaLoad.{SisaLoad}
 use Rattle.replies.specs.declared.SisaSaved.{SisaSaved}
 use Rattle.replies.specs.declared.SisaAssembly.{SisaAssembly}
 use Rattle.replies.specs.declared.SisaRun.{SisaRun}
 use Rattle.replies.specs.declared.SisaAnswer.{SisaAnswer}
+use Rattle.replies.specs.declared.SisaBack.{SisaBack}
 use Rattle.replies.specs.declared.SisaInstruction.{SisaInstruction}
 use Rattle.replies.specs.declared.SisaWord.{SisaWord}
 use Rattle.replies.specs.declared.SisaWindow.{SisaWindow}
@@ -125,7 +127,7 @@ abbrev pub SisaSets : Slice → ℕ → ℕ → ℕ → Type 0
 SisaSets inputs port value r =
     _≡_ {A = SisaSetLeft} (record { refusal = r; I = after inputs }) (sisaSetLeft (record { I = before inputs; port = port; value = value }))
 
--- ---- sisa_run_by_rules, sisa_run_by_table and sisa_host_step
+-- ---- sisa_run_by_rules, sisa_run_by_table, both with a journal, and sisa_host_step
 
 -- q is the stop reason, s the steps, e the entries, u the counts
 abbrev pub sisaRun : RunReply → State → Usage → SisaRun
@@ -139,24 +141,32 @@ pub record SisaRunLeft : Type 0 where
   pub I : List ℕ
   pub O : List ℕ
   pub log : List ℕ
+  pub journal : Journal
 
-abbrev pub sisaLeft : SisaRun → List ℕ → List ℕ → List ℕ → List ℕ → List ℕ → SisaRunLeft
-sisaLeft reply P D I O log = record { reply = reply; P = P; D = D; I = I; O = O; log = log }
+abbrev pub sisaLeft : SisaRun → List ℕ → List ℕ → List ℕ → List ℕ → List ℕ → Journal → SisaRunLeft
+sisaLeft reply P D I O log journal = record { reply = reply; P = P; D = D; I = I; O = O; log = log; journal = journal }
 
 abbrev pub runInNumbers : CountedLeft → SisaRunLeft
-runInNumbers c = let l = c .left in sisaLeft (sisaRun (l .reply) (l .state) (c .usage)) (l .P) (l .D) (l .I) (l .O) (l .log)
+runInNumbers c =
+    let l = c .left in
+    sisaLeft (sisaRun (l .reply) (l .state) (c .usage)) (l .P) (l .D) (l .I) (l .O) (l .log) (l .journal)
 
 unfoldable pub sisaRunLeft : Stepper → Given → SisaRunLeft
 sisaRunLeft v g = runInNumbers (countedLeft v g)
 
--- the contract of both runs, where v is what the run goes by
+-- the contract of the runs, where v is what the run goes by
 abbrev pub SisaRunMeets : Stepper → Given → SisaRunLeft → Type 0
 SisaRunMeets v g l = l ≡ sisaRunLeft v g
 
 abbrev pub SisaRuns : Stepper → State → Slice → Slice → Slice → Slice → ℕ → Slice → SisaRun → Type 0
 SisaRuns v state program memory inputs outputs budget log r =
-    SisaRunMeets v (lentTo state program memory inputs outputs budget log)
-    (sisaLeft r (after program) (after memory) (after inputs) (after outputs) (after log))
+    SisaRunMeets v (lentTo state program memory inputs outputs budget log no-journal)
+    (sisaLeft r (after program) (after memory) (after inputs) (after outputs) (after log) no-journal)
+
+abbrev pub SisaRunsJournaled : Stepper → State → Slice → Slice → Slice → Slice → ℕ → Slice → Slice → SisaRun → Type 0
+SisaRunsJournaled v state program memory inputs outputs budget log journal r =
+    SisaRunMeets v (lentTo state program memory inputs outputs budget log (lent-journal (before journal)))
+    (sisaLeft r (after program) (after memory) (after inputs) (after outputs) (after log) (lent-journal (after journal)))
 
 -- what the host holds and lends to a host step, before or after it
 pub record HostLent : Type 0 where
@@ -174,17 +184,44 @@ hostLent state P D I O log = record { state = state; P = P; D = D; I = I; O = O;
 abbrev pub withState : State → SisaAnswer → SisaRun
 withState s a = record { state = s; refusal = a .refusal; stop = a .stop; steps = a .steps; entries = a .entries; usage = a .usage }
 
--- A host step is a run by the table with budget 1 over registers that the host holds: its contract.
+-- A host step is a run by the table with budget 1 and no journal over registers that the host holds: its contract.
 abbrev pub HostStepMeets : HostLent → SisaAnswer → HostLent → Type 0
 HostStepMeets h answer kept =
-    SisaRunMeets byTable (given (h .state) (h .P) (h .D) (h .I) (h .O) 1 (h .log))
-    (sisaLeft (withState (kept .state) answer) (kept .P) (kept .D) (kept .I) (kept .O) (kept .log))
+    SisaRunMeets byTable (given (h .state) (h .P) (h .D) (h .I) (h .O) 1 (h .log) no-journal)
+    (sisaLeft (withState (kept .state) answer) (kept .P) (kept .D) (kept .I) (kept .O) (kept .log) no-journal)
 
 -- the same of its parameters, the state by reference
 abbrev pub HostSteps : Both (RefT State) (RefT State) → Slice → Slice → Slice → Slice → Slice → SisaAnswer → Type 0
 HostSteps state program memory inputs outputs log r =
     HostStepMeets (hostLent (now (state .entry)) (before program) (before memory) (before inputs) (before outputs) (before log)) r
     (hostLent (now (state .exit)) (after program) (after memory) (after inputs) (after outputs) (after log))
+
+-- ---- sisa_step_back
+
+abbrev pub sisaBack : BackReply → State → SisaBack
+sisaBack (gone-back e) state = record { state = state; refusal = 0; entries = e }
+sisaBack (back-refused k) state = record { state = state; refusal = k; entries = 0 }
+
+pub record SisaBackLeft : Type 0 where
+  pub reply : SisaBack
+  pub P : List ℕ
+  pub D : List ℕ
+  pub I : List ℕ
+  pub O : List ℕ
+  pub journal : List ℕ
+
+abbrev pub backInNumbers : BackLeft → SisaBackLeft
+backInNumbers l =
+    record { reply = sisaBack (l .reply) (l .state); P = l .P; D = l .D; I = l .I; O = l .O; journal = l .journal }
+
+unfoldable pub sisaBackLeft : BackGiven → SisaBackLeft
+sisaBackLeft g = backInNumbers (backLeft g)
+
+abbrev pub SisaGoesBack : State → Slice → Slice → Slice → Slice → Slice → ℕ → SisaBack → Type 0
+SisaGoesBack state program memory inputs outputs journal k r =
+    _≡_ {A = SisaBackLeft}
+    (record { reply = r; P = after program; D = after memory; I = after inputs; O = after outputs; journal = after journal })
+    (sisaBackLeft (lentBack state program memory inputs outputs journal k))
 
 -- ---- sisa_read
 

@@ -8,10 +8,13 @@ ghost use Rattle.assembler.specs.Passes.{shownAssembly};
 ghost use Rattle.panel.specs.Calls.{shownSetting};
 ghost use Rattle.run.specs.Runs.{shownAnswer};
 ghost use Rattle.sheet.specs.Sheet.{shownFeeding};
+ghost use Rattle.back.specs.Backs.{shownGoing};
 ghost use Rattle.isa.specs.Instructions.{shownWriting};
 ghost use Rattle.isa.specs.Masks.{shownDecoded};
-ghost use Rattle.replies.specs.Sisa.{sisaLoad, sisaSaved, sisaAssembly, verdictNumber, sisaRun, sisaInstruction, sisaWord, sisaWrite, sisaFed};
+ghost use Rattle.replies.specs.Sisa.{sisaLoad, sisaSaved, sisaAssembly, verdictNumber, sisaRun, sisaInstruction, sisaWord, sisaWrite, sisaFed, sisaBack};
 use assembler::Assembly;
+use back::Backed;
+use back::Going;
 use image::Loaded;
 use image::Loading;
 use isa::Decoded;
@@ -52,6 +55,13 @@ pub struct SisaAnswer {
     pub steps: u32,
     pub entries: u64,
     pub usage: Usage,
+}
+
+#[repr(C)]
+pub struct SisaBack {
+    pub state: State,
+    pub refusal: u8,
+    pub entries: u64,
 }
 
 #[repr(C)]
@@ -171,6 +181,25 @@ pub fn run(ran: Counted) -> SisaRun
             steps: 0,
             entries: 0,
             usage,
+        },
+    }
+}
+
+pub fn back(backed: Backed) -> SisaBack
+    ensures { λ r. ⌜ r ≡ sisaBack (shownGoing (backed .reply)) (backed .state) ⌝ }
+{
+    let state = backed.state;
+    let reply = backed.reply;
+    match reply {
+        Going::Gone(entries) => SisaBack {
+            state,
+            refusal: 0,
+            entries,
+        },
+        Going::Refused(refusal) => SisaBack {
+            state,
+            refusal: refusal::number(refusal),
+            entries: 0,
         },
     }
 }

@@ -8,7 +8,7 @@ use borrow.Author.Tests.{le-leb, lt-leb}
 use Rattle.refusal.specs.Refusals.{Verdict, accepted, refused}
 use Rattle.image.specs.Image.{LoadLeft, loadLeft}
 use Rattle.control.specs.Control.{byTable}
-use Rattle.run.specs.Runs.{given, runLeft}
+use Rattle.run.specs.Runs.{no-journal, given, runLeft}
 use Rattle.printing.specs.declared.Printed.{Printed}
 use Rattle.printing.specs.Text.{inArray}
 use Rattle.report.specs.Printed.{refusedLine, ranLines, loadedBy, printed}
@@ -26,7 +26,7 @@ module _ (file : List ℕ) {l : LoadLeft} (h : length file ≤ 65536)
       (p ∙ ap (λ reply. inArray (loadedBy reply l)) (sym k) ∙ ap (λ (x : LoadLeft). inArray (loadedBy (x .reply) x)) e)
 
   pub accepted-lines : {r : Printed} → l .reply ≡ accepted
-      → r ≡ inArray (ranLines (runLeft byTable (given (l .state) (l .P) (l .D) (l .I) (l .O) 1000 (replicate 64 0))))
+      → r ≡ inArray (ranLines (runLeft byTable (given (l .state) (l .P) (l .D) (l .I) (l .O) 1000 (replicate 64 0) no-journal)))
       → r ≡ inArray (printed file)
   accepted-lines k p = loaded k p
 

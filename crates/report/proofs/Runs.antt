@@ -8,15 +8,15 @@ use lib.ListN.{length, take, drop, length-append}
 use lib.Seq.{length-take-le}
 use Rattle.refusal.specs.Refusals.{Verdict, accepted, refused}
 use Rattle.word.proofs.Tests.{clash}
-use Rattle.machine.specs.Run.{Stepper, run}
-use Rattle.run.specs.Runs.{Given, RunReply, stopped, run-refused, Left, machineAt, verdictOn, runLeftBy, runLeft}
+use Rattle.machine.specs.Run.{Stepper}
+use Rattle.run.specs.Runs.{Given, RunReply, stopped, run-refused, Left, outcomeOn, verdictOn, runLeftBy, runLeft}
 use Rattle.printing.specs.declared.Printed.{Printed}
 use Rattle.printing.specs.Text.{inArray}
 use Rattle.report.specs.Printed.{refusedLine, stoppedLines, linesBy, ranLines}
 
 by-verdict : (v : Stepper) (g : Given) (x : Verdict) {stop steps entries : ℕ} → runLeftBy v x g .reply ≡ stopped stop steps entries → entries ≤ length (runLeftBy v x g .log)
 by-verdict v g accepted {stop} {steps} {entries} e =
-    let L = run v (g .budget) (length (g .log)) (machineAt g) .after .L in
+    let L = outcomeOn v g .after .L in
     let k : length L ≡ entries = cc in
     rw (length-append L (drop (length L) (g .log))) (omega arith)
 by-verdict v g (refused j) e = clash (cc)

@@ -9,7 +9,7 @@ use Rattle.token.specs.Ascii.{ascii}
 use Rattle.machine.specs.declared.State.{State}
 use Rattle.image.specs.Image.{LoadLeft, loadLeft}
 use Rattle.control.specs.Control.{byTable}
-use Rattle.run.specs.Runs.{given, RunReply, stopped, run-refused, Left, runLeft}
+use Rattle.run.specs.Runs.{no-journal, given, RunReply, stopped, run-refused, Left, runLeft}
 use Rattle.printing.specs.Text.{decimal, hex4, each}
 
 -- ---- Lines
@@ -60,9 +60,10 @@ linesBy (run-refused number) l = refusedLine number
 unfoldable pub ranLines : Left → List ℕ
 ranLines l = linesBy (l .reply) l
 
--- what a load prints; `panelrun` runs the table engine with inputs zero, as the load left them, budget 1,000 and a 64-place log
+-- what a load prints; `panelrun` runs the table engine with inputs zero, as the load left them, budget 1,000, a 64-place log and no
+-- journal
 abbrev pub loadedBy : Verdict → LoadLeft → List ℕ
-loadedBy accepted l = ranLines (runLeft byTable (given (l .state) (l .P) (l .D) (l .I) (l .O) 1000 (replicate 64 0)))
+loadedBy accepted l = ranLines (runLeft byTable (given (l .state) (l .P) (l .D) (l .I) (l .O) 1000 (replicate 64 0) no-journal))
 loadedBy (refused number) l = refusedLine number
 
 -- 8: the program's file exceeds 65,536 bytes. The program tests 8 before its load.

@@ -3,7 +3,7 @@ ghost use mathlib.Core.Path.{_≡_};
 ghost use lib.ListN.{replicate};
 ghost use Rattle.refusal.specs.Refusals.{refusalNumber};
 ghost use Rattle.control.specs.Control.{byTable};
-ghost use Rattle.run.specs.Runs.{given, runLeft};
+ghost use Rattle.run.specs.Runs.{no-journal, given, runLeft};
 ghost use Rattle.printing.specs.Text.{inArray};
 ghost use Rattle.report.specs.Printed.{refusedLine, ranLines, printed};
 use image::Loading;
@@ -40,7 +40,7 @@ fn run_loaded(
     inputs: &mut [u16],
     outputs: &mut [u16],
 ) -> Printed
-    ensures { λ r. ⌜ r ≡ inArray (ranLines (runLeft byTable (given state (now (program .entry)) (now (memory .entry)) (now (inputs .entry)) (now (outputs .entry)) 1000 (replicate 64 0)))) ⌝ }
+    ensures { λ r. ⌜ r ≡ inArray (ranLines (runLeft byTable (given state (now (program .entry)) (now (memory .entry)) (now (inputs .entry)) (now (outputs .entry)) 1000 (replicate 64 0) no-journal))) ⌝ }
 {
     let mut log = [0u64; LOG_PLACES];
     let ran = engine::run_by_table(state, program, memory, inputs, outputs, BUDGET, &mut log);

@@ -1,2 +1,3 @@
 pub mod Uncounted
 mod Refusals
+pub mod Journals

@@ -1,6 +1,8 @@
 // What a run replies, and the tests that refuse it.
 ghost use mathlib.Core.Path.{_≡_};
-ghost use Rattle.run.specs.Runs.{shownVerdict, verdict};
+ghost use Prim.Native.Nat.{_+_, _≤_};
+ghost use Rattle.run.specs.Runs.{shownVerdict, verdict, journalIf, allowedIn};
+ghost use Rattle.run.specs.Parts.{StartsFrom, EndsWith};
 use machine::State;
 use refusal::Refusal;
 use usage::Usage;
@@ -58,4 +60,44 @@ pub fn checked(
         return Check::Refused(Refusal::StepCount);
     }
     Check::Accepted
+}
+
+// The state that an accepted run starts from.
+pub fn starting(state: State, keeps: bool) -> State
+    ensures { λ r. ⌜ StartsFrom «keeps» state r ⌝ }
+{
+    if keeps {
+        state
+    } else {
+        state.with_journaled(0)
+    }
+}
+
+// The steps that it may take, where the state counts so many entries of the journal.
+pub fn allowed(budget: u32, count: u64, keeps: bool, journal: &[u64]) -> u32
+    ensures { λ r. ⌜ r ≡ allowedIn (journalIf «keeps» (now (journal .entry))) count budget ⌝ }
+{
+    if !keeps {
+        return budget;
+    }
+    let places = journal.len() as u64;
+    if places <= count {
+        return 0;
+    }
+    if places - count < budget as u64 {
+        return (places - count) as u32;
+    }
+    budget
+}
+
+// The state that it ends with, after so many steps.
+pub fn ending(state: State, steps: u32, keeps: bool) -> State
+    requires { ⌜ state .journaled + steps ≤ 18446744073709551615 ⌝ }
+    ensures { λ r. ⌜ EndsWith «keeps» steps state r ⌝ }
+{
+    if keeps {
+        state.with_journaled(state.journaled + steps as u64)
+    } else {
+        state
+    }
 }

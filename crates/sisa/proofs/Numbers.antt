@@ -11,12 +11,14 @@ use Rattle.image.specs.Image.{LoadGiven, LoadLeft, loadLeft}
 use Rattle.save.specs.Saved.{SaveReply, SaveGiven, SaveLeft, saveLeft}
 use Rattle.assembler.specs.Text.{Reply, AssembleLeft, assembleLeft}
 use Rattle.usage.specs.declared.Usage.{Usage}
-use Rattle.run.specs.Runs.{Given, left, RunReply, CountedMeets}
+use Rattle.run.specs.Runs.{Journal, Given, left, RunReply, CountedMeets}
+use Rattle.back.specs.Backs.{BackReply, BackGiven, BackLeft, backLeft}
 use Rattle.replies.specs.declared.SisaLoad.{SisaLoad}
 use Rattle.replies.specs.declared.SisaSaved.{SisaSaved}
 use Rattle.replies.specs.declared.SisaAssembly.{SisaAssembly}
 use Rattle.replies.specs.declared.SisaRun.{SisaRun}
-use Rattle.replies.specs.Sisa.{sisaLoad, SisaLoadLeft, loadInNumbers, sisaLoadLeft, sisaSaved, SisaSaveLeft, saveInNumbers, sisaSaveLeft, sisaAssembly, SisaAssembleLeft, assemblyInNumbers, sisaAssembleLeft, verdictNumber, SisaSetLeft, setInNumbers, sisaSetLeft, sisaRun, sisaLeft, runInNumbers, sisaRunLeft, SisaRunMeets}
+use Rattle.replies.specs.declared.SisaBack.{SisaBack}
+use Rattle.replies.specs.Sisa.{sisaLoad, SisaLoadLeft, loadInNumbers, sisaLoadLeft, sisaSaved, SisaSaveLeft, saveInNumbers, sisaSaveLeft, sisaAssembly, SisaAssembleLeft, assemblyInNumbers, sisaAssembleLeft, verdictNumber, SisaSetLeft, setInNumbers, sisaSetLeft, sisaRun, sisaLeft, runInNumbers, sisaRunLeft, SisaRunMeets, sisaBack, SisaBackLeft, backInNumbers, sisaBackLeft}
 
 pub load-meets : (g : LoadGiven) {reply : Verdict} {state : State} {P D I O : List ℕ} {r : SisaLoad}
     → _≡_ {A = LoadLeft} (record { reply = reply; state = state; P = P; D = D; I = I; O = O }) (loadLeft g)
@@ -46,9 +48,16 @@ pub set-meets : (g : SetGiven) {reply : Verdict} {I : List ℕ} {r : ℕ}
 unfolding sisaSetLeft
 set-meets g e h = rw h (ap setInNumbers e)
 
-pub run-meets : (v : Stepper) (g : Given) {reply : RunReply} {state : State} {P D I O log : List ℕ} {u : Usage} {r : SisaRun}
-    → CountedMeets v g (record { left = left reply state P D I O log; usage = u })
+pub run-meets : (v : Stepper) (g : Given) {reply : RunReply} {state : State} {P D I O log : List ℕ} {journal : Journal} {u : Usage} {r : SisaRun}
+    → CountedMeets v g (record { left = left reply state P D I O log journal; usage = u })
     → r ≡ sisaRun reply state u
-    → SisaRunMeets v g (sisaLeft r P D I O log)
+    → SisaRunMeets v g (sisaLeft r P D I O log journal)
 unfolding sisaRunLeft
 run-meets v g e h = rw h (ap runInNumbers e)
+
+pub back-meets : (g : BackGiven) {reply : BackReply} {state : State} {P D I O journal : List ℕ} {r : SisaBack}
+    → _≡_ {A = BackLeft} (record { reply = reply; state = state; P = P; D = D; I = I; O = O; journal = journal }) (backLeft g)
+    → r ≡ sisaBack reply state
+    → _≡_ {A = SisaBackLeft} (record { reply = r; P = P; D = D; I = I; O = O; journal = journal }) (sisaBackLeft g)
+unfolding sisaBackLeft
+back-meets g e h = rw h (ap backInNumbers e)

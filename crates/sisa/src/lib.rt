@@ -4,10 +4,11 @@ ghost use mathlib.Core.Path.{_≡_};
 ghost use Rattle.machine.specs.Run.{byRules};
 ghost use Rattle.control.specs.Control.{byTable};
 ghost use Rattle.isa.specs.Masks.{decodingOf};
-ghost use Rattle.replies.specs.Sisa.{SisaLoads, SisaSaves, SisaAssembles, SisaSets, SisaRuns, sisaInstruction, sisaWrite, sisaFeed, SisaShows};
+ghost use Rattle.replies.specs.Sisa.{SisaLoads, SisaSaves, SisaAssembles, SisaSets, SisaRuns, SisaRunsJournaled, SisaGoesBack, sisaInstruction, sisaWrite, sisaFeed, SisaShows};
 use machine::Port;
 use machine::State;
 use replies::SisaAssembly;
+use replies::SisaBack;
 use replies::SisaFed;
 use replies::SisaInstruction;
 use replies::SisaLoad;
@@ -88,6 +89,74 @@ pub extern "C" fn sisa_run_by_table(
 {
     let ran = engine::run_by_table(state, program, memory, inputs, outputs, budget, log);
     replies::run(ran)
+}
+
+#[no_mangle]
+pub extern "C" fn sisa_run_by_rules_with_journal(
+    state: State,
+    program: &[u8],
+    memory: &mut [u8],
+    inputs: &mut [u16],
+    outputs: &mut [u16],
+    budget: u32,
+    log: &mut [u64],
+    journal: &mut [u64],
+) -> SisaRun
+    ensures { λ r. ⌜ SisaRunsJournaled byRules state program memory inputs outputs budget log journal r ⌝ }
+{
+    let ran = engine::run_by_rules_with_journal(
+        state,
+        program,
+        memory,
+        inputs,
+        outputs,
+        budget,
+        log,
+        journal,
+    );
+    replies::run(ran)
+}
+
+#[no_mangle]
+pub extern "C" fn sisa_run_by_table_with_journal(
+    state: State,
+    program: &[u8],
+    memory: &mut [u8],
+    inputs: &mut [u16],
+    outputs: &mut [u16],
+    budget: u32,
+    log: &mut [u64],
+    journal: &mut [u64],
+) -> SisaRun
+    ensures { λ r. ⌜ SisaRunsJournaled byTable state program memory inputs outputs budget log journal r ⌝ }
+{
+    let ran = engine::run_by_table_with_journal(
+        state,
+        program,
+        memory,
+        inputs,
+        outputs,
+        budget,
+        log,
+        journal,
+    );
+    replies::run(ran)
+}
+
+#[no_mangle]
+pub extern "C" fn sisa_step_back(
+    state: State,
+    program: &[u8],
+    memory: &mut [u8],
+    inputs: &mut [u16],
+    outputs: &mut [u16],
+    journal: &[u64],
+    k: u64,
+) -> SisaBack
+    ensures { λ r. ⌜ SisaGoesBack state program memory inputs outputs journal k r ⌝ }
+{
+    let backed = back::step_back(state, program, memory, inputs, outputs, journal, k);
+    replies::back(backed)
 }
 
 // A run_refusal that is not 0: a refused run.

@@ -2,6 +2,7 @@
 //!
 //! Sentences in quotation marks are that page's.
 
+mod backs;
 mod calls;
 mod files;
 mod host;
@@ -23,17 +24,24 @@ pub fn number(c: u64, k: u64) -> u64 {
     u * 73_244_475 % 4_294_967_296 / 65_536
 }
 
-/// Call i of case c.
+/// Call i of case c, whose numbers are from q on.
 #[derive(Clone, Copy)]
 struct Call {
     c: u64,
     i: u64,
+    q: u64,
 }
 
 impl Call {
-    /// number(c, q + k), "With q = 5,000 + 16·i".
+    /// "With q = 5,000 + 16·i"
+    fn of_case(c: u64, i: u64) -> Call {
+        let q = 5_000 + 16 * i;
+        Call { c, i, q }
+    }
+
+    /// number(c, q + k)
     fn number(self, k: u64) -> u64 {
-        number(self.c, 5_000 + 16 * self.i + k)
+        number(self.c, self.q + k)
     }
 }
 

@@ -14,17 +14,29 @@ pub struct State {
     pub r: [u16; 8],
     pub pc: u16,
     pub n: u32,
+    /// L7: "The state counts these entries", those of the journal.
+    pub journaled: u64,
 }
 
 impl State {
-    /// "A reset machine has every register, PC and n at zero."
+    /// "A reset machine has every register, PC and n at zero." L7's count is
+    /// "from 0 at a load".
     pub fn reset() -> State {
         State {
             r: [0; 8],
             pc: 0,
             n: 0,
+            journaled: 0,
         }
     }
+}
+
+/// P, D, I and O as a host lends them, of any lengths.
+pub struct Lent<'a> {
+    pub p: &'a [u8],
+    pub d: &'a mut [u8],
+    pub i: &'a [u16],
+    pub o: &'a mut [u16],
 }
 
 /// P, D, I and O of exactly the machine's lengths.
@@ -37,12 +49,12 @@ pub struct Places<'a> {
 
 impl<'a> Places<'a> {
     /// None if "P or D not 65,536 bytes, or I or O not 256 words".
-    pub fn of(p: &'a [u8], d: &'a mut [u8], i: &'a [u16], o: &'a mut [u16]) -> Option<Places<'a>> {
+    pub fn of(lent: Lent<'a>) -> Option<Places<'a>> {
         Some(Places {
-            p: p.try_into().ok()?,
-            d: d.try_into().ok()?,
-            i: i.try_into().ok()?,
-            o: o.try_into().ok()?,
+            p: lent.p.try_into().ok()?,
+            d: lent.d.try_into().ok()?,
+            i: lent.i.try_into().ok()?,
+            o: lent.o.try_into().ok()?,
         })
     }
 }

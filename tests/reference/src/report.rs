@@ -1,7 +1,7 @@
 //! The printed lines of the program `panelrun`.
 
 use crate::load::load;
-use crate::machine::{State, MEMORY, PORTS};
+use crate::machine::{Lent, State, MEMORY, PORTS};
 use crate::run::{run, Engine, Reply};
 
 /// The lines for a file's bytes, without line ends.
@@ -38,8 +38,13 @@ fn outcome(file: &[u8]) -> Result<Vec<String>, u8> {
     let mut log = [0; 64];
     let state = load(file, &mut p, &mut d, &mut i, &mut o)?;
     // "runs the table engine with inputs zero, budget 1,000 and a 64-place log"
-    let table = Engine::PAPER_TABLE;
-    match run(table, state, &p, &mut d, &i, &mut o, 1_000, &mut log) {
+    let lent = Lent {
+        p: &p,
+        d: &mut d,
+        i: &i,
+        o: &mut o,
+    };
+    match run(Engine::PAPER_TABLE, state, lent, 1_000, &mut log) {
         Reply::Refused { number, .. } => Err(number),
         Reply::Done {
             state,

@@ -1,7 +1,8 @@
 //! A run, by the rules or by a control table, and the host step.
 
 use crate::control::{self, control_word, Table};
-use crate::machine::{self, word, Places, State, Stepped};
+use crate::journal::{self, Journal};
+use crate::machine::{self, word, Lent, Places, State, Stepped};
 use crate::usage::Usage;
 
 /// What decides a step: "one engine from the rules, one from the control
@@ -115,45 +116,45 @@ pub struct Returned {
     pub usage: Usage,
 }
 
-/// The tests of the refusal table, "run 1, 5, 6": the places, or the number.
-fn admit<'a>(
-    state: State,
-    p: &'a [u8],
-    d: &'a mut [u8],
-    i: &'a [u16],
-    o: &'a mut [u16],
-    budget: u32,
-) -> Result<Places<'a>, u8> {
+/// The tests that a run and going back share: the places, or the number.
+pub(crate) fn admit(state: State, lent: Lent<'_>) -> Result<Places<'_>, u8> {
     // "1 | P or D not 65,536 bytes, or I or O not 256 words"
-    let Some(places) = Places::of(p, d, i, o) else {
-        return Err(1);
-    };
+    let places = Places::of(lent).ok_or(1)?;
     // "5 | PC odd"
-    if state.pc % 2 == 1 {
-        return Err(5);
+    match state.pc % 2 {
+        0 => Ok(places),
+        _ => Err(5),
     }
+}
+
+/// The tests of the refusal table, "run 1, 5, 6": the places, or the number.
+fn admit_run(state: State, lent: Lent<'_>, budget: u32) -> Result<Places<'_>, u8> {
+    let places = admit(state, lent)?;
     // "6 | n plus budget over 4,294,967,295"
-    if u64::from(state.n) + u64::from(budget) > 4_294_967_295 {
-        return Err(6);
+    match u64::from(state.n) + u64::from(budget) {
+        0..=4_294_967_295 => Ok(places),
+        _ => Err(6),
     }
-    Ok(places)
 }
 
 /// "A run gets a state, the memories and ports, a 32-bit budget and a log of
-/// any length that it fills from place 0." Here by any engine, without counts.
-#[allow(clippy::too_many_arguments)] // the paper's, and the engine
-pub fn run(
+/// any length that it fills from place 0." Here by any engine, without counts
+/// and without a journal.
+pub fn run(engine: Engine, state: State, lent: Lent, budget: u32, log: &mut [u64]) -> Reply {
+    run_keeping(engine, state, lent, budget, log, None)
+}
+
+/// The same with a journal, or none.
+fn run_keeping(
     engine: Engine,
     state: State,
-    p: &[u8],
-    d: &mut [u8],
-    i: &[u16],
-    o: &mut [u16],
+    lent: Lent,
     budget: u32,
     log: &mut [u64],
+    journal: Journal,
 ) -> Reply {
-    match admit(state, p, d, i, o, budget) {
-        Ok(mut places) => admitted(engine, state, &mut places, budget, log),
+    match admit_run(state, lent, budget) {
+        Ok(mut places) => admitted(engine, state, &mut places, budget, log, journal),
         Err(number) => Reply::Refused { state, number },
     }
 }
@@ -165,13 +166,15 @@ fn admitted(
     places: &mut Places,
     budget: u32,
     log: &mut [u64],
+    mut journal: Journal,
 ) -> Reply {
     let mut steps: u32 = 0;
     let mut entries: u32 = 0;
+    journal::begin(&journal, &mut state);
     // "Before each step, in this order:"
     let stop = loop {
-        // "budget used, stop 0"
-        if steps == budget {
+        // "budget used, stop 0"; L7: "a full journal counts as a used budget"
+        if steps == budget || journal::is_full(&journal, &state) {
             break 0;
         }
         let w = word(places.p, state.pc);
@@ -179,6 +182,7 @@ fn admitted(
         if let Some(stop) = engine.stop(w, &state, free_place) {
             break stop;
         }
+        let overwritten = journal.as_ref().map(|_| journal::entry(&state, places));
         let Some(stepped) = engine.step(state, places) else {
             break 1;
         };
@@ -187,6 +191,7 @@ fn admitted(
             entries += 1;
         }
         state = stepped.state;
+        journal::add(&mut journal, &mut state, overwritten);
         steps += 1;
     };
     Reply::Done {
@@ -199,62 +204,50 @@ fn admitted(
 
 /// The run, and the counts of the plain machine's steps from the same start, as
 /// many as the run took.
-#[allow(clippy::too_many_arguments)] // as for `run`
 fn counted(
     engine: Engine,
     state: State,
-    p: &[u8],
-    d: &mut [u8],
-    i: &[u16],
-    o: &mut [u16],
+    lent: Lent,
     budget: u32,
     log: &mut [u64],
+    journal: Journal,
 ) -> Returned {
-    let (mut first_d, mut first_o) = (d.to_vec(), o.to_vec());
-    let reply = run(engine, state, p, d, i, o, budget, log);
-    let usage = Places::of(p, &mut first_d, i, &mut first_o)
+    let (p, i) = (lent.p, lent.i);
+    let (mut d, mut o) = (lent.d.to_vec(), lent.o.to_vec());
+    let reply = run_keeping(engine, state, lent, budget, log, journal);
+    let (d, o) = (&mut d[..], &mut o[..]);
+    let usage = Places::of(Lent { p, d, i, o })
         .map(|mut places| Usage::of_steps(state, &mut places, reply.steps()))
         .unwrap_or_default();
     Returned { reply, usage }
 }
 
-/// A run by the rules, and its counts.
+/// A run by the rules, with a journal or none, and its counts.
 pub fn run_by_rules(
     state: State,
-    p: &[u8],
-    d: &mut [u8],
-    i: &[u16],
-    o: &mut [u16],
+    lent: Lent,
     budget: u32,
     log: &mut [u64],
+    journal: Journal,
 ) -> Returned {
-    counted(Engine::Rules, state, p, d, i, o, budget, log)
+    counted(Engine::Rules, state, lent, budget, log, journal)
 }
 
-/// A run by the paper's table, and its counts.
+/// A run by the paper's table, with a journal or none, and its counts.
 pub fn run_by_table(
     state: State,
-    p: &[u8],
-    d: &mut [u8],
-    i: &[u16],
-    o: &mut [u16],
+    lent: Lent,
     budget: u32,
     log: &mut [u64],
+    journal: Journal,
 ) -> Returned {
-    counted(Engine::PAPER_TABLE, state, p, d, i, o, budget, log)
+    counted(Engine::PAPER_TABLE, state, lent, budget, log, journal)
 }
 
 /// "A host step is a run by the table with budget 1 over registers that the
 /// host holds."
-pub fn host_step(
-    held: &mut State,
-    p: &[u8],
-    d: &mut [u8],
-    i: &[u16],
-    o: &mut [u16],
-    log: &mut [u64],
-) -> Returned {
-    let returned = run_by_table(*held, p, d, i, o, 1, log);
+pub fn host_step(held: &mut State, lent: Lent, log: &mut [u64]) -> Returned {
+    let returned = run_by_table(*held, lent, 1, log, None);
     *held = returned.reply.state();
     returned
 }

@@ -21,6 +21,7 @@ const RESET: State = State {
     r: [0; 8],
     pc: 0,
     n: 0,
+    journaled: 0,
 };
 
 /// A loop with all 30 kinds of instruction; a semicolon stands for a newline.
@@ -173,6 +174,35 @@ fn runs(export: &'static str, run: fn(State, u32, &mut Lent) -> ffi::Run) -> Vec
     calls
 }
 
+fn by_rules_with_journal(state: State, budget: u32, lent: &mut Lent) -> ffi::Run {
+    ffi::run_by_rules_with_journal(state, budget, lent, &mut vec![0; budget as usize])
+}
+
+fn by_table_with_journal(state: State, budget: u32, lent: &mut Lent) -> ffi::Run {
+    ffi::run_by_table_with_journal(state, budget, lent, &mut vec![0; budget as usize])
+}
+
+/// Back to the start of a run, so many steps at once.
+fn back(steps: u32, at_once: u64) -> Call {
+    let mut world = World::with_every_kind();
+    let mut journal = vec![0; steps as usize];
+    let ran = ffi::run_by_table_with_journal(RESET, steps, &mut world.lent(), &mut journal);
+    assert_eq!((ran.refusal, ran.steps), (0, steps));
+    let what = format!("{steps} steps, {at_once} at once, every kind");
+    call("sisa_step_back", what, move || {
+        let (mut state, mut fallen) = (ran.state, 0);
+        for _ in 0..u64::from(steps) / at_once {
+            let reply = ffi::step_back(state, &mut world.lent(), &journal, at_once);
+            if reply.refusal != 0 {
+                return false;
+            }
+            state = reply.state;
+            fallen += reply.entries;
+        }
+        state == RESET && fallen == ran.entries
+    })
+}
+
 fn host_step() -> Call {
     call("sisa_host_step", "every word", || {
         every_word(|world| ffi::host_step(&mut RESET.clone(), &mut world.lent()).refusal)
@@ -224,6 +254,9 @@ fn calls() -> Vec<Call> {
     all.extend(assembling());
     all.extend(runs("sisa_run_by_rules", ffi::run_by_rules));
     all.extend(runs("sisa_run_by_table", ffi::run_by_table));
+    all.extend(runs("sisa_run_by_rules_with_journal", by_rules_with_journal));
+    all.extend(runs("sisa_run_by_table_with_journal", by_table_with_journal));
+    all.extend([back(100, 1), back(LONG_RUN, LONG_RUN.into())]);
     all.extend([host_step(), feeding()]);
     all.extend(instructions());
     all.extend(panel());

@@ -1,7 +1,7 @@
 -- By the engine chosen.
 -- Assumes nothing.
 use borrow.Author.Needs.{needs}
-use Rattle.cycle.proofs.Loop.{by-table, by-rules}
+use Rattle.cycle.proofs.Chosen.{by-table, by-rules}
 use Rattle.cycle.proofs.step.Statement.{statement}
 use Rattle.cycle.proofs.step.Tie as tie
 

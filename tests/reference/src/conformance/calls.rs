@@ -29,7 +29,8 @@ pub fn lines() -> Vec<String> {
 }
 
 impl Host {
-    /// Case c: its load and, where that is accepted, its calls and saves.
+    /// Case c: its load and, where that is accepted, its calls, its saves and,
+    /// where the load after them is too, its calls with a journal.
     fn case(&mut self, c: u64) -> Vec<String> {
         let memory = match number(c, 4) % 8 {
             0 => 65_535,
@@ -39,8 +40,12 @@ impl Host {
         let mut lines = vec![format!("load {c} {refusal} {}", self.digest(self.kept))];
         if refusal == 0 {
             self.sheet = first_sheet(c);
-            lines.extend((0..CALLS).flat_map(|i| self.call(Call { c, i })));
-            lines.extend(self.saves(c));
+            lines.extend((0..CALLS).flat_map(|i| self.call(Call::of_case(c, i))));
+            let (saves, again) = self.saves(c);
+            lines.extend(saves);
+            if again == Some(0) {
+                lines.extend(self.with_journal(c));
+            }
         }
         lines
     }
@@ -48,7 +53,13 @@ impl Host {
     /// The call's line, and after a run that of the feeding.
     fn call(&mut self, call: Call) -> Vec<String> {
         match call.number(0) % 8 {
-            0 => vec![format!("set {call} {}", self.set(call))],
+            0 => {
+                let length = match call.number(3) % 16 {
+                    0 => 255,
+                    _ => PORTS,
+                };
+                vec![self.set(call, length)]
+            }
             1 | 2 => self.run_and_feed(By::Rules, call),
             3 | 4 => self.run_and_feed(By::Table, call),
             5 => self.run_and_feed(By::HostStep, call),
@@ -57,18 +68,14 @@ impl Host {
         }
     }
 
-    /// "REFUSAL DIGEST"
-    fn set(&mut self, call: Call) -> String {
-        let length = match call.number(3) % 16 {
-            0 => 255,
-            _ => PORTS,
-        };
+    /// "set c i REFUSAL DIGEST", so many inputs lent.
+    pub fn set(&mut self, call: Call, length: usize) -> String {
         let port = (call.number(1) % 256) as u8;
         let value = call.number(2) as u16;
         let refusal = set(&mut self.inputs[..length], port, value)
             .err()
             .unwrap_or(0);
-        format!("{refusal} {}", self.digest(self.kept))
+        format!("set {call} {refusal} {}", self.digest(self.kept))
     }
 
     /// "START COUNT DIGEST"

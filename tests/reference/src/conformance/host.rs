@@ -2,17 +2,14 @@
 
 use super::{Call, Digest};
 use crate::load::load;
-use crate::machine::{State, MEMORY, PORTS};
+use crate::machine::{Lent, State, MEMORY, PORTS};
 use crate::run::Reply;
 use crate::sheet::Sheet;
 
 /// What a run of a call is handed and lent.
-pub struct Lent<'a> {
+pub struct Handed<'a> {
     pub state: State,
-    pub p: &'a [u8],
-    pub d: &'a mut [u8],
-    pub i: &'a [u16],
-    pub o: &'a mut [u16],
+    pub lent: Lent<'a>,
     pub budget: u32,
     pub log: &'a mut [u64],
 }
@@ -71,8 +68,9 @@ impl Host {
     }
 
     /// For the run of a call. `n` is what is handed where number(c, q + 3) mod 16
-    /// is 1, and "the log lent is the first number(c, q + 2) mod" `log` places.
-    pub fn lend(&mut self, call: Call, n: u32, log: u64) -> Lent<'_> {
+    /// is 1, "the budget of a run is number(c, q + 1) mod" `budget` and "the log
+    /// lent is the first number(c, q + 2) mod" `log` places.
+    pub fn hand(&mut self, call: Call, n: u32, budget: u64, log: u64) -> Handed<'_> {
         let mut state = self.kept;
         let (mut memory, mut outputs) = (MEMORY, PORTS);
         match call.number(3) % 16 {
@@ -82,13 +80,15 @@ impl Host {
             3 => outputs = 255,
             _ => {}
         }
-        Lent {
+        Handed {
             state,
-            p: &self.program,
-            d: &mut self.memory[..memory],
-            i: &self.inputs,
-            o: &mut self.outputs[..outputs],
-            budget: (call.number(1) % 2_000) as u32,
+            lent: Lent {
+                p: &self.program,
+                d: &mut self.memory[..memory],
+                i: &self.inputs,
+                o: &mut self.outputs[..outputs],
+            },
+            budget: (call.number(1) % budget) as u32,
             log: &mut self.log[..(call.number(2) % log) as usize],
         }
     }
@@ -101,6 +101,9 @@ impl Host {
             self.kept = state;
             if stop == 1 || stop == 3 {
                 self.kept.pc = state.pc.wrapping_add(2);
+                // "and the count of journal entries made 0"; without a journal
+                // it is 0
+                self.kept.journaled = 0;
             }
         }
     }

@@ -5,6 +5,7 @@ use super::{number, Call, Digest};
 use crate::instruction::KINDS;
 use crate::run::{host_step, run_by_rules, run_by_table, Reply, Returned};
 use crate::sheet::Sheet;
+use crate::usage::Usage;
 
 /// What makes a run that reports its counts.
 #[derive(Clone, Copy)]
@@ -32,6 +33,11 @@ pub fn first_sheet(c: u64) -> Sheet {
         _ => {}
     }
     sheet
+}
+
+/// The digest of the counts that a run reported.
+pub fn usage_digest(usage: Usage) -> u64 {
+    digest(usage.kinds, usage.reads, usage.writes)
 }
 
 /// "The digest of counts"
@@ -67,7 +73,7 @@ impl Host {
         };
         let Returned { reply, usage } = self.run_by(by, call);
         self.keep(reply);
-        let counts = digest(usage.kinds, usage.reads, usage.writes);
+        let counts = usage_digest(usage);
         let left = self.digest(reply.state());
         let run = format!("run {engine} {call} {} {counts} {left}", numbers_of(reply));
         // "whether it was accepted or refused, what the call returned is fed"
@@ -88,11 +94,11 @@ impl Host {
             By::Rules | By::Table => (4_294_967_000, 40),
             By::HostStep => (4_294_967_295, 2),
         };
-        let mut x = self.lend(call, n, log);
+        let mut x = self.hand(call, n, 2_000, log);
         match by {
-            By::Rules => run_by_rules(x.state, x.p, x.d, x.i, x.o, x.budget, x.log),
-            By::Table => run_by_table(x.state, x.p, x.d, x.i, x.o, x.budget, x.log),
-            By::HostStep => host_step(&mut x.state, x.p, x.d, x.i, x.o, x.log),
+            By::Rules => run_by_rules(x.state, x.lent, x.budget, x.log, None),
+            By::Table => run_by_table(x.state, x.lent, x.budget, x.log, None),
+            By::HostStep => host_step(&mut x.state, x.lent, x.log),
         }
     }
 }

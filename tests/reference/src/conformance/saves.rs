@@ -12,9 +12,11 @@ const BUFFER: usize = 131_088;
 const SAVES: usize = 4;
 
 impl Host {
-    /// The saves of case c, and the load of the file of s = 1.
-    pub fn saves(&mut self, c: u64) -> Vec<String> {
+    /// The saves of case c, and the load of the file of s = 1, with its refusal
+    /// where it is made.
+    pub fn saves(&mut self, c: u64) -> (Vec<String>, Option<u8>) {
         let mut lines = Vec::new();
+        let mut again = None;
         // "what the save of s = 0 replied"
         let mut length = 0;
         for s in 0..SAVES {
@@ -41,8 +43,9 @@ impl Host {
             if s == 1 {
                 let refusal = self.load(&buffer[..lent], MEMORY);
                 lines.push(format!("again {c} {refusal} {}", self.digest(self.kept)));
+                again = Some(refusal);
             }
         }
-        lines
+        (lines, again)
     }
 }

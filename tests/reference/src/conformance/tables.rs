@@ -62,15 +62,19 @@ impl Host {
         self.kept.r = numbers(c, 60);
         let table = table(t);
         (0..RUNS)
-            .map(|i| format!("run control {t} {i} {}", self.run(&table, Call { c, i })))
+            .map(|i| {
+                format!(
+                    "run control {t} {i} {}",
+                    self.run(&table, Call::of_case(c, i))
+                )
+            })
             .collect()
     }
 
     /// "REFUSAL STOP STEPS ENTRIES DIGEST"
     fn run(&mut self, table: &Table, call: Call) -> String {
-        let x = self.lend(call, 4_294_967_000, 8);
-        let engine = Engine::Table(table);
-        let reply = run(engine, x.state, x.p, x.d, x.i, x.o, x.budget, x.log);
+        let x = self.hand(call, 4_294_967_000, 2_000, 8);
+        let reply = run(Engine::Table(table), x.state, x.lent, x.budget, x.log);
         self.keep(reply);
         format!("{} {}", numbers_of(reply), self.digest(reply.state()))
     }

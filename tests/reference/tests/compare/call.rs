@@ -1,16 +1,18 @@
 //! One call, made of the reference and of the library.
 
 use crate::ffi::{self, Lent};
-use crate::world::{first, Lengths, World, GUARD};
+use crate::world::{first, touched, Lengths, World, GUARD};
 use reference::assemble::{assemble, Refused};
+use reference::back::{step_back, Back};
 use reference::load::load;
-use reference::machine::State;
+use reference::machine::{self, State};
 use reference::run::{host_step, run_by_rules, run_by_table, Engine, Reply, Returned};
 use reference::save::save;
 use reference::set::set;
 use reference::usage::Usage;
 use reference::window::{window, Memory};
 use std::fmt;
+use std::ops::Range;
 
 /// A trim file or a destination, printed in hexadecimal.
 #[derive(Clone, PartialEq, Eq)]
@@ -45,11 +47,39 @@ pub enum Call {
     Set(u8, u16),
     /// The library knows the paper's table only.
     Run(Engine<'static>, State, u32),
+    /// With a journal.
+    Journaled(Engine<'static>, State, u32),
     HostStep(State),
+    Back(State, u64),
     Window(u8, usize, usize),
     /// Into these bytes, but for the guards before and after.
     Save(Bytes),
     Assemble(Text),
+}
+
+impl Call {
+    /// The same call, a run by the other engine.
+    pub fn by_the_other_engine(&self) -> Call {
+        let other = |engine| match engine {
+            Engine::Rules => Engine::PAPER_TABLE,
+            Engine::Table(_) => Engine::Rules,
+        };
+        match *self {
+            Call::Run(engine, state, budget) => Call::Run(other(engine), state, budget),
+            Call::Journaled(engine, state, budget) => Call::Journaled(other(engine), state, budget),
+            _ => self.clone(),
+        }
+    }
+
+    /// The places of the journal that the call may write, by its answer.
+    fn places_written(&self, answer: &Answer) -> Range<u64> {
+        match (self, answer) {
+            (Call::Journaled(_, state, _), Answer::Run(run)) => {
+                state.journaled..run.state.journaled
+            }
+            _ => 0..0,
+        }
+    }
 }
 
 /// The bytes that a call only reads, but for the memories and ports.
@@ -67,6 +97,7 @@ pub enum Answer {
     Set(u8),
     Run(ffi::Run),
     HostStep(ffi::State, ffi::Answer),
+    Back(ffi::Back),
     Window(ffi::Window),
     /// And all bytes as the call left them.
     Save(ffi::Saved, Bytes),
@@ -80,6 +111,7 @@ impl Answer {
             Answer::Set(refusal) => *refusal,
             Answer::Run(run) => run.refusal,
             Answer::HostStep(_, answer) => answer.refusal,
+            Answer::Back(back) => back.refusal,
             Answer::Window(_) => 0,
             Answer::Save(saved, _) => saved.refusal,
             Answer::Assemble(assembly) => assembly.refusal,
@@ -101,6 +133,17 @@ pub fn header_state(state: State) -> ffi::State {
         r: state.r,
         pc: state.pc,
         n: state.n,
+        journaled: state.journaled,
+    }
+}
+
+/// A state of the header's as the reference's.
+pub fn plain_state(state: ffi::State) -> State {
+    State {
+        r: state.r,
+        pc: state.pc,
+        n: state.n,
+        journaled: state.journaled,
     }
 }
 
@@ -136,6 +179,14 @@ fn header_run(returned: Returned) -> ffi::Run {
         }
     }
     answer
+}
+
+fn header_back(back: Back) -> ffi::Back {
+    ffi::Back {
+        state: header_state(back.state()),
+        refusal: back.refusal(),
+        entries: back.fallen(),
+    }
 }
 
 /// The place of the part that the reference shows; 0 and 0 for the empty part.
@@ -186,58 +237,100 @@ fn header_assembly(assembled: Result<u32, Refused>) -> ffi::Assembly {
     }
 }
 
-pub fn of_reference(call: &Call, lent: &mut Lent) -> Answer {
-    let (p, d, i, o) = (
-        &mut *lent.program,
-        &mut *lent.memory,
-        &mut *lent.inputs,
-        &mut *lent.outputs,
-    );
+/// A run by the reference, with the world's journal or none.
+fn run_by_reference(
+    engine: Engine,
+    state: State,
+    budget: u32,
+    lent: Lent,
+    journal: Option<&mut [u64]>,
+) -> Answer {
+    let run = match engine {
+        Engine::Rules => run_by_rules,
+        Engine::Table(_) => run_by_table,
+    };
+    let (places, log) = split(lent);
+    Answer::Run(header_run(run(state, places, budget, log, journal)))
+}
+
+/// The memories and ports, and the log.
+fn split(lent: Lent<'_>) -> (machine::Lent<'_>, &mut [u64]) {
+    let places = machine::Lent {
+        p: lent.program,
+        d: lent.memory,
+        i: lent.inputs,
+        o: lent.outputs,
+    };
+    (places, lent.log)
+}
+
+pub fn of_reference(call: &Call, world: &mut World, lengths: &Lengths) -> Answer {
+    let (lent, journal) = world.lend_with_journal(lengths);
     match *call {
         Call::Load(ref file) => {
-            let loaded = load(&file.0, p, d, i, o);
+            let (p, d) = (lent.program, lent.memory);
+            let loaded = load(&file.0, p, d, lent.inputs, lent.outputs);
             Answer::Load(ffi::Load {
                 // All zero where the load is refused.
                 state: header_state(loaded.unwrap_or(State::reset())),
                 refusal: loaded.err().unwrap_or(0),
             })
         }
-        Call::Set(port, value) => Answer::Set(set(i, port, value).err().unwrap_or(0)),
-        Call::Run(engine, state, budget) => {
-            let run = match engine {
-                Engine::Rules => run_by_rules,
-                Engine::Table(_) => run_by_table,
-            };
-            Answer::Run(header_run(run(state, p, d, i, o, budget, lent.log)))
+        Call::Set(port, value) => Answer::Set(set(lent.inputs, port, value).err().unwrap_or(0)),
+        Call::Run(engine, state, budget) => run_by_reference(engine, state, budget, lent, None),
+        Call::Journaled(engine, state, budget) => {
+            run_by_reference(engine, state, budget, lent, Some(journal))
         }
         Call::HostStep(state) => {
             let mut held = state;
-            let run = header_run(host_step(&mut held, p, d, i, o, lent.log));
+            let (places, log) = split(lent);
+            let run = header_run(host_step(&mut held, places, log));
             Answer::HostStep(header_state(held), run.without_state())
         }
-        Call::Window(of_data, start, count) => {
-            Answer::Window(header_window(p, d, of_data, start, count))
+        Call::Back(state, k) => {
+            let (places, _) = split(lent);
+            Answer::Back(header_back(step_back(state, places, journal, k)))
         }
-        Call::Save(ref bytes) => saved_into(bytes, |to| header_saved(save(p, d, to))),
-        Call::Assemble(ref text) => Answer::Assemble(header_assembly(assemble(&text.0, p))),
+        Call::Window(of_data, start, count) => {
+            let (program, memory) = (lent.program, lent.memory);
+            Answer::Window(header_window(program, memory, of_data, start, count))
+        }
+        Call::Save(ref bytes) => {
+            let (program, memory) = (lent.program, lent.memory);
+            saved_into(bytes, |to| header_saved(save(program, memory, to)))
+        }
+        Call::Assemble(ref text) => {
+            Answer::Assemble(header_assembly(assemble(&text.0, lent.program)))
+        }
     }
 }
 
-pub fn of_library(call: &Call, lent: &mut Lent) -> Answer {
+pub fn of_library(call: &Call, world: &mut World, lengths: &Lengths) -> Answer {
+    let (mut lent, journal) = world.lend_with_journal(lengths);
+    let lent = &mut lent;
     match *call {
         Call::Load(ref file) => Answer::Load(ffi::load(&file.0, lent)),
         Call::Set(port, value) => Answer::Set(ffi::set_input(lent.inputs, port, value)),
-        Call::Run(Engine::Rules, state, budget) => {
-            Answer::Run(ffi::run_by_rules(header_state(state), budget, lent))
+        Call::Run(engine, state, budget) => {
+            let run = match engine {
+                Engine::Rules => ffi::run_by_rules,
+                Engine::Table(_) => ffi::run_by_table,
+            };
+            Answer::Run(run(header_state(state), budget, lent))
         }
-        Call::Run(Engine::Table(_), state, budget) => {
-            Answer::Run(ffi::run_by_table(header_state(state), budget, lent))
+        Call::Journaled(engine, state, budget) => {
+            let run = match engine {
+                Engine::Rules => ffi::run_by_rules_with_journal,
+                Engine::Table(_) => ffi::run_by_table_with_journal,
+            };
+            Answer::Run(run(header_state(state), budget, lent, journal))
         }
         Call::HostStep(state) => {
             let mut held = header_state(state);
             let answer = ffi::host_step(&mut held, lent);
             Answer::HostStep(held, answer)
         }
+        Call::Back(state, k) => Answer::Back(ffi::step_back(header_state(state), lent, journal, k)),
         Call::Window(of_data, start, count) => {
             let (program, memory) = (&*lent.program, &*lent.memory);
             Answer::Window(ffi::window(program, memory, of_data, start, count))
@@ -259,10 +352,13 @@ fn difference(expected: &Answer, found: &Answer) -> String {
 }
 
 /// The reference's side, the library's, and what was before the call.
+#[derive(Clone)]
 pub struct Sides {
     pub reference: World,
     library: World,
     before: World,
+    /// The library's journal before the call.
+    journal_before: Vec<u64>,
 }
 
 impl Sides {
@@ -271,8 +367,14 @@ impl Sides {
         Sides {
             reference: world.clone(),
             library: world.clone(),
+            journal_before: world.journal().to_vec(),
             before: world,
         }
+    }
+
+    /// The library's side, as the calls left it.
+    pub fn library(&self) -> &World {
+        &self.library
     }
 
     /// Changes what both sides lend.
@@ -285,14 +387,20 @@ impl Sides {
     /// Makes the call of both sides: the answer, or the first difference.
     pub fn call(&mut self, call: &Call, lengths: &Lengths) -> Result<Answer, String> {
         self.before.clone_from(&self.reference);
+        self.journal_before.clear();
+        self.journal_before.extend(self.library.journal());
         let lent_to_library = call.clone();
-        let expected = of_reference(call, &mut self.reference.lend(lengths));
-        let found = of_library(&lent_to_library, &mut self.library.lend(lengths));
+        let expected = of_reference(call, &mut self.reference, lengths);
+        let found = of_library(&lent_to_library, &mut self.library, lengths);
         if expected != found {
             return Err(difference(&expected, &found));
         }
         if let Some(difference) = self.reference.difference(&self.library) {
             return Err(difference);
+        }
+        let written = call.places_written(&expected);
+        if let Some(place) = touched(&self.journal_before, self.library.journal(), written) {
+            return Err(format!("the library wrote {place}"));
         }
         if expected.refusal() != 0 && self.changed(call, &expected) {
             return Err("a refused call changed what was lent".to_string());

@@ -97,8 +97,12 @@ fn random_state(random: &mut Random, pc: u16) -> State {
     let mut r = [0; 8].map(|_| random.value());
     r[DIVISOR] = 0;
     r[7] = r[7].max(1);
-    let n = random.below(1 << 31) as u32;
-    State { r, pc, n }
+    State {
+        r,
+        pc,
+        n: random.below(1 << 31) as u32,
+        ..State::reset()
+    }
 }
 
 #[test]

@@ -40,6 +40,7 @@ fn compare(sides: &mut Sides, random: &mut Random, ra: u16, rb: u16, counts: &mu
             r: [0; 8].map(|_| random.value()),
             pc: random.word() & 0xFFFE,
             n: random.below(u32::MAX.into()) as u32,
+            ..State::reset()
         };
         state.r[usize::from(parts[1])] = ra;
         state.r[usize::from(parts[2])] = rb;

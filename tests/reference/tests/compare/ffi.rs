@@ -14,6 +14,7 @@ pub struct State {
     pub r: [u16; 8],
     pub pc: u16,
     pub n: u32,
+    pub journaled: u64,
 }
 
 /// `SisaLoad`
@@ -72,6 +73,15 @@ pub struct Answer {
     pub steps: u32,
     pub entries: u64,
     pub usage: Usage,
+}
+
+/// `SisaBack`
+#[repr(C)]
+#[derive(Clone, Copy, Debug, PartialEq, Eq)]
+pub struct Back {
+    pub state: State,
+    pub refusal: u8,
+    pub entries: u64,
 }
 
 impl Run {
@@ -159,6 +169,24 @@ type RunExport = unsafe extern "C" fn(
     usize,
 ) -> Run;
 
+/// The same with a journal.
+type JournaledExport = unsafe extern "C" fn(
+    State,
+    *const u8,
+    usize,
+    *mut u8,
+    usize,
+    *mut u16,
+    usize,
+    *mut u16,
+    usize,
+    u32,
+    *mut u64,
+    usize,
+    *mut u64,
+    usize,
+) -> Run;
+
 #[link(name = "sisa", kind = "static")]
 extern "C" {
     fn sisa_load(
@@ -202,6 +230,52 @@ extern "C" {
         log: *mut u64,
         log_len: usize,
     ) -> Run;
+    fn sisa_run_by_rules_with_journal(
+        state: State,
+        program: *const u8,
+        program_len: usize,
+        memory: *mut u8,
+        memory_len: usize,
+        inputs: *mut u16,
+        inputs_len: usize,
+        outputs: *mut u16,
+        outputs_len: usize,
+        budget: u32,
+        log: *mut u64,
+        log_len: usize,
+        journal: *mut u64,
+        journal_len: usize,
+    ) -> Run;
+    fn sisa_run_by_table_with_journal(
+        state: State,
+        program: *const u8,
+        program_len: usize,
+        memory: *mut u8,
+        memory_len: usize,
+        inputs: *mut u16,
+        inputs_len: usize,
+        outputs: *mut u16,
+        outputs_len: usize,
+        budget: u32,
+        log: *mut u64,
+        log_len: usize,
+        journal: *mut u64,
+        journal_len: usize,
+    ) -> Run;
+    fn sisa_step_back(
+        state: State,
+        program: *const u8,
+        program_len: usize,
+        memory: *mut u8,
+        memory_len: usize,
+        inputs: *mut u16,
+        inputs_len: usize,
+        outputs: *mut u16,
+        outputs_len: usize,
+        journal: *const u64,
+        journal_len: usize,
+        k: u64,
+    ) -> Back;
     fn sisa_host_step(
         state: *mut State,
         program: *const u8,
@@ -291,6 +365,73 @@ fn run(export: RunExport, state: State, budget: u32, lent: &mut Lent) -> Run {
             budget,
             lent.log.as_mut_ptr(),
             lent.log.len(),
+        )
+    }
+}
+
+pub fn run_by_rules_with_journal(
+    state: State,
+    budget: u32,
+    lent: &mut Lent,
+    journal: &mut [u64],
+) -> Run {
+    journaled(sisa_run_by_rules_with_journal, state, budget, lent, journal)
+}
+
+pub fn run_by_table_with_journal(
+    state: State,
+    budget: u32,
+    lent: &mut Lent,
+    journal: &mut [u64],
+) -> Run {
+    journaled(sisa_run_by_table_with_journal, state, budget, lent, journal)
+}
+
+fn journaled(
+    export: JournaledExport,
+    state: State,
+    budget: u32,
+    lent: &mut Lent,
+    journal: &mut [u64],
+) -> Run {
+    // SAFETY: pointers and lengths are those of slices that don't overlap, and
+    // the caller is one of the two functions above.
+    unsafe {
+        export(
+            state,
+            lent.program.as_ptr(),
+            lent.program.len(),
+            lent.memory.as_mut_ptr(),
+            lent.memory.len(),
+            lent.inputs.as_mut_ptr(),
+            lent.inputs.len(),
+            lent.outputs.as_mut_ptr(),
+            lent.outputs.len(),
+            budget,
+            lent.log.as_mut_ptr(),
+            lent.log.len(),
+            journal.as_mut_ptr(),
+            journal.len(),
+        )
+    }
+}
+
+pub fn step_back(state: State, lent: &mut Lent, journal: &[u64], k: u64) -> Back {
+    // SAFETY: pointers and lengths are those of slices that don't overlap.
+    unsafe {
+        sisa_step_back(
+            state,
+            lent.program.as_ptr(),
+            lent.program.len(),
+            lent.memory.as_mut_ptr(),
+            lent.memory.len(),
+            lent.inputs.as_mut_ptr(),
+            lent.inputs.len(),
+            lent.outputs.as_mut_ptr(),
+            lent.outputs.len(),
+            journal.as_ptr(),
+            journal.len(),
+            k,
         )
     }
 }

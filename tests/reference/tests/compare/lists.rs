@@ -1,18 +1,19 @@
 //! Long lists of calls, every one compared.
 
-use crate::call::{of_reference, Answer, Bytes, Call, Sides, Text};
+use crate::call::{of_reference, plain_state, Answer, Bytes, Call, Text};
 use crate::ffi;
 use crate::make;
 use crate::random::Random;
 use crate::sheets::any_order;
 use crate::tally::Tally;
 use crate::texts;
-use crate::world::{Lengths, World};
+use crate::twins::Twins;
+use crate::world::{Lengths, World, JOURNAL};
 use crate::{case_to_replay, random_of, seed};
 use reference::machine::State;
 use reference::run::Engine;
 
-const CASES: u64 = 1_600;
+const CASES: u64 = 2_000;
 
 /// What a case is.
 #[derive(Clone, Copy, Debug, PartialEq, Eq)]
@@ -24,14 +25,17 @@ enum Sort {
     Kept,
     /// A list whose host also alters the state between calls.
     Altered,
+    /// A list as in `Kept` most of whose runs keep a journal, and that goes back.
+    Journaled,
 }
 
 impl Sort {
     fn of(case: u64) -> Sort {
-        match case % 8 {
+        match case % 10 {
             0 => Sort::Loads,
             1..=4 => Sort::Kept,
-            _ => Sort::Altered,
+            5..=7 => Sort::Altered,
+            _ => Sort::Journaled,
         }
     }
 
@@ -46,7 +50,11 @@ impl Sort {
 struct List {
     sort: Sort,
     random: Random,
-    sides: Sides,
+    twins: Twins,
+    /// How many places its journal has.
+    journal: usize,
+    /// How many places of it, from 0 on, steps have written.
+    written: u64,
     /// The state that the host keeps.
     kept: State,
     /// The last run took no step before an unassigned word or a zero divisor.
@@ -60,11 +68,13 @@ struct List {
 impl List {
     fn new(seed: u64, case: u64) -> List {
         let mut random = random_of(seed, case);
-        let sides = Sides::new(World::random(&mut random));
+        let twins = Twins::new(World::random(&mut random));
         List {
             sort: Sort::of(case),
+            journal: make::journal(&mut random),
             random,
-            sides,
+            twins,
+            written: 0,
             kept: State::reset(),
             stuck: false,
             loaded: None,
@@ -75,7 +85,7 @@ impl List {
     fn play(&mut self, tally: &mut Tally) -> Result<(), String> {
         for at in 0..self.sort.calls() {
             let (call, lengths) = self.next(at);
-            let answer = self.sides.call(&call, &lengths).map_err(|difference| {
+            let answer = self.twins.call(&call, &lengths).map_err(|difference| {
                 format!(
                     "call {at}: {call:?}\nlent: {lengths:?}\nfile last loaded: {:?}\n\
                      first difference (reference, library): {difference}",
@@ -91,30 +101,50 @@ impl List {
 
     fn next(&mut self, at: u64) -> (Call, Lengths) {
         let random = &mut self.random;
-        let lengths = make::lengths(random);
+        let mut lengths = make::lengths(random);
+        lengths.journal = make::places(random, self.journal, self.kept.journaled);
+        let after_load = matches!(self.sort, Sort::Kept | Sort::Journaled);
         // Without a load the memories are the case's random ones.
-        if self.sort == Sort::Kept && at == 0 {
+        if after_load && at == 0 {
             return (Call::Load(Bytes(make::file(random))), Lengths::right(0));
         }
         let load = self.sort == Sort::Loads || (self.stuck && random.below(3) == 0);
-        let call = match random.below(40) {
-            0 => self.load(),
-            _ if load => self.load(),
-            1..=4 => Call::Set(make::port(random), random.value()),
-            5 | 6 => self.window(&lengths),
-            7..=12 => Call::HostStep(self.handed(1)),
-            13 => self.save(&lengths),
-            14 => Call::Assemble(Text(texts::any(random))),
-            k => {
-                let engine = if k % 2 == 0 {
-                    Engine::Rules
-                } else {
-                    Engine::PAPER_TABLE
-                };
-                self.run(engine, &lengths)
-            }
+        let call = match (load, self.sort) {
+            (true, _) => self.load(),
+            (_, Sort::Journaled) => self.mostly_journaled(&lengths),
+            _ => self.any(&lengths),
         };
         (call, lengths)
+    }
+
+    fn engine(&mut self) -> Engine<'static> {
+        make::one_of(&mut self.random, &[Engine::Rules, Engine::PAPER_TABLE])
+    }
+
+    fn any(&mut self, lengths: &Lengths) -> Call {
+        let random = &mut self.random;
+        match random.below(48) {
+            0 => self.load(),
+            1..=4 => Call::Set(make::port(random), random.value()),
+            5 | 6 => self.window(lengths),
+            7..=12 => Call::HostStep(self.handed(1)),
+            13 => self.save(lengths),
+            14 => Call::Assemble(Text(texts::any(random))),
+            15..=18 => self.back(lengths),
+            19..=23 => self.journaled(),
+            _ => self.run(lengths),
+        }
+    }
+
+    fn mostly_journaled(&mut self, lengths: &Lengths) -> Call {
+        let random = &mut self.random;
+        match random.below(48) {
+            0 => Call::HostStep(self.handed(1)),
+            1 => self.run(lengths),
+            2..=9 => Call::Set(make::port(random), random.value()),
+            10..=25 => self.back(lengths),
+            _ => self.journaled(),
+        }
     }
 
     fn load(&mut self) -> Call {
@@ -136,43 +166,62 @@ impl List {
     }
 
     fn save(&mut self, lengths: &Lengths) -> Call {
-        let lent = self.sides.reference.lend(lengths);
+        let lent = self.twins.sides.reference.lend(lengths);
         let length = make::saved_length(lent.program, lent.memory);
         let edges = [0, length - 1, length, length, length + 1, length + 300];
         let length = make::one_of(&mut self.random, &edges);
         Call::Save(make::destination(&mut self.random, length))
     }
 
-    fn run(&mut self, engine: Engine<'static>, lengths: &Lengths) -> Call {
+    fn run(&mut self, lengths: &Lengths) -> Call {
         let budget = make::budget(&mut self.random);
         let state = self.handed(budget);
         let budget = match self.random.below(32) {
             0 => self.great_budget(state, lengths).unwrap_or(budget),
             _ => budget,
         };
-        Call::Run(engine, state, budget)
+        Call::Run(self.engine(), state, budget)
+    }
+
+    /// A run with the journal, which ends one of the greatest budget too.
+    fn journaled(&mut self) -> Call {
+        let budget = make::budget(&mut self.random);
+        let state = self.handed(budget);
+        let budget = match self.random.below(16) {
+            0 => make::great_budget(&mut self.random, state.n),
+            _ => budget,
+        };
+        Call::Journaled(self.engine(), state, budget)
+    }
+
+    fn back(&mut self, lengths: &Lengths) -> Call {
+        let state = self.handed(0);
+        let k = make::steps_back(&mut self.random, state, lengths.journal);
+        Call::Back(state, k)
     }
 
     /// The state handed to a run of this budget.
     fn handed(&mut self, budget: u32) -> State {
-        if self.sort == Sort::Altered && self.random.below(4) == 0 {
-            make::altered(&mut self.random, self.kept, budget)
-        } else {
-            self.kept
+        let random = &mut self.random;
+        match (self.sort, random.below(16)) {
+            (Sort::Altered, 0..=3) => make::altered(random, self.kept, budget),
+            (Sort::Altered, 4) => make::recounted(random, self.kept, self.written),
+            (Sort::Journaled, 0) => make::recounted(random, self.kept, self.written),
+            (Sort::Journaled, 1) if random.below(4) == 0 => State {
+                pc: self.kept.pc | 1,
+                ..self.kept
+            },
+            _ => self.kept,
         }
     }
 
     /// A budget near the greatest, where the run ends soon without it.
     fn great_budget(&mut self, state: State, lengths: &Lengths) -> Option<u32> {
         let short = Call::Run(Engine::Rules, state, 5_000.min(u32::MAX - state.n));
-        let mut world = self.sides.reference.clone();
-        match of_reference(&short, &mut world.lend(lengths)) {
+        let mut world = self.twins.sides.reference.clone();
+        match of_reference(&short, &mut world, lengths) {
             Answer::Run(ffi::Run { stop: 0, .. }) => None,
-            _ => {
-                let greatest = u32::MAX - state.n;
-                let edges = [greatest, greatest.saturating_add(1), u32::MAX];
-                Some(make::one_of(&mut self.random, &edges))
-            }
+            _ => Some(make::great_budget(&mut self.random, state.n)),
         }
     }
 
@@ -187,10 +236,16 @@ impl List {
             (_, Answer::HostStep(state, answer)) if answer.refusal == 0 => {
                 (state, answer.steps, answer.stop)
             }
+            (_, Answer::Back(back)) if back.refusal == 0 => (back.state, 0, 0),
             _ => return,
         };
-        let ffi::State { r, pc, n } = state;
-        self.kept = State { r, pc, n };
+        // A count past every journal came from `recounted`, and no step.
+        if state.journaled > JOURNAL as u64 {
+            return;
+        }
+        let (pc, n) = (state.pc, state.n);
+        self.kept = plain_state(state);
+        self.written = self.written.max(state.journaled);
         let at_word = stop == 1 || stop == 3;
         self.stuck = at_word && steps == 0;
         if self.sort == Sort::Altered {

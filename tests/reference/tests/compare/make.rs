@@ -2,7 +2,7 @@
 
 use crate::call::Bytes;
 use crate::random::Random;
-use crate::world::{Lengths, GUARD, LOG};
+use crate::world::{Lengths, GUARD, JOURNAL, LOG};
 use reference::machine::State;
 use reference::save::save;
 
@@ -150,6 +150,12 @@ pub fn budget(random: &mut Random) -> u32 {
     random.below(limit) as u32
 }
 
+/// The greatest budget that this n lets pass, one more, and the greatest of all.
+pub fn great_budget(random: &mut Random, n: u32) -> u32 {
+    let greatest = u32::MAX - n;
+    one_of(random, &[greatest, greatest.saturating_add(1), u32::MAX])
+}
+
 /// The state with registers, PC or n changed; n often so that the budget just
 /// fits or just doesn't.
 pub fn altered(random: &mut Random, kept: State, budget: u32) -> State {
@@ -194,6 +200,59 @@ pub fn lengths(random: &mut Random) -> Lengths {
         }
     }
     lengths
+}
+
+/// How many places a list's journal has.
+pub fn journal(random: &mut Random) -> usize {
+    let any = random.below(JOURNAL as u64 + 1) as usize;
+    one_of(
+        random,
+        &[0, 1, 2, 7, 40, 300, 300, 2_047, 2_048, 2_500, JOURNAL, any],
+    )
+}
+
+/// The journal with so many places, and now and then with about as many as are
+/// counted.
+pub fn places(random: &mut Random, journal: usize, journaled: u64) -> usize {
+    let counted = journaled.min(JOURNAL as u64) as usize;
+    match random.below(12) {
+        0 => counted.saturating_sub(1),
+        1 => counted,
+        2 => (counted + 1 + random.below(3) as usize).min(JOURNAL),
+        _ => journal,
+    }
+}
+
+/// How many steps to go back where a journal of so many places is lent: none, one,
+/// all that it holds, one too many, any.
+pub fn steps_back(random: &mut Random, state: State, places: usize) -> u64 {
+    let held = match places as u64 >= state.journaled {
+        true => state.journaled.min(state.n.into()),
+        false => 0,
+    };
+    let any = random.below(held + 1);
+    let few = random.below(held.min(40) + 1);
+    match random.below(12) {
+        0 => 0,
+        1 => 1,
+        2 => held,
+        3 => held + 1,
+        4 => one_of(random, &[state.journaled, u64::MAX, 1 << 32]),
+        5..=7 => any,
+        _ => few,
+    }
+}
+
+/// The state with another count of journal entries, the first `written` places
+/// being those of steps, or with n below the count.
+pub fn recounted(random: &mut Random, kept: State, written: u64) -> State {
+    let mut state = kept;
+    match random.below(4) {
+        0 => state.journaled = one_of(random, &[JOURNAL as u64 + 1, 1 << 32, u64::MAX]),
+        1 => state.n = random.below(kept.journaled + 2) as u32,
+        _ => state.journaled = random.below(written + 1),
+    }
+    state
 }
 
 /// A start or a count for a window on memories of these lengths.

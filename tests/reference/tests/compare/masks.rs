@@ -12,7 +12,7 @@ use reference::machine::State;
 /// the rest of its reply.
 fn step(world: &mut World, w: u16, pc: u16, call: &Call) -> (ffi::State, ffi::Answer) {
     put(world.lend(&Lengths::right(0)), pc, w);
-    match of_library(call, &mut world.lend(&Lengths::right(1))) {
+    match of_library(call, world, &Lengths::right(1)) {
         Answer::Run(run) => (run.state, run.without_state()),
         Answer::HostStep(state, answer) => (state, answer),
         answer => panic!("{answer:?}"),

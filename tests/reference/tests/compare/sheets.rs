@@ -89,7 +89,7 @@ fn short_runs(random: &mut Random) -> Vec<ffi::Answer> {
         let state = State {
             r: [0; 8].map(|_| random.value()),
             pc: random.word() & 0xFFFE | u16::from(at.is_multiple_of(4)),
-            n: 0,
+            ..State::reset()
         };
         let budget = random.below(40) as u32;
         let call = match at % 3 {

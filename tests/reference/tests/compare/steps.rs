@@ -23,6 +23,7 @@ pub fn random_state(random: &mut Random, w: u16) -> State {
         r,
         pc: one_of(random, &[even, even, 0, 0xFFFE]),
         n: random.below(u32::MAX.into()) as u32,
+        journaled: random.below(9),
     }
 }
 
@@ -49,7 +50,7 @@ impl Counts {
     /// stopped, and that some were.
     pub fn check(&self, steps: u32) {
         assert_eq!(self.steps + self.zero_divisors, steps, "{self:?}");
-        assert!(self.zero_divisors > 30, "{self:?}");
+        assert!(self.zero_divisors > steps / 2_000, "{self:?}");
     }
 }
 

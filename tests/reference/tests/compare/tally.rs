@@ -11,6 +11,10 @@ pub struct Tally {
     calls: u64,
     steps: u64,
     entries: u64,
+    /// Runs that a full journal ended, steps gone back and entries fallen away.
+    full: u64,
+    gone_back: u64,
+    fallen: u64,
     /// By export and outcome.
     outcomes: BTreeMap<(&'static str, String), u64>,
     /// The sums of all runs' counts, by export.
@@ -29,7 +33,10 @@ impl Tally {
             Call::Set(..) => "set",
             Call::Run(Engine::Rules, ..) => "rules",
             Call::Run(Engine::Table(_), ..) => "table",
+            Call::Journaled(Engine::Rules, ..) => "rules with journal",
+            Call::Journaled(Engine::Table(_), ..) => "table with journal",
             Call::HostStep(_) => "host",
+            Call::Back(..) => "back",
             Call::Window(..) => "window",
             Call::Save(_) => "save",
             Call::Assemble(_) => "assemble",
@@ -47,6 +54,7 @@ impl Tally {
                 *sum += count;
             }
         }
+        self.count_journal(call, answer);
         if let Answer::Window(window) = answer {
             outcome = if window.count == 0 { "empty" } else { "part" }.to_string();
         }
@@ -54,11 +62,27 @@ impl Tally {
         *self.outcomes.entry((export, outcome)).or_default() += 1;
     }
 
+    fn count_journal(&mut self, call: &Call, answer: &Answer) {
+        match (call, answer) {
+            (Call::Journaled(_, _, budget), Answer::Run(run)) if run.refusal == 0 => {
+                self.full += u64::from(run.stop == 0 && run.steps < *budget);
+            }
+            (Call::Back(state, _), Answer::Back(back)) => {
+                self.gone_back += state.journaled - back.state.journaled;
+                self.fallen += back.entries;
+            }
+            _ => {}
+        }
+    }
+
     /// That enough was compared, every outcome of every export, and every count
     /// of those that step.
     pub fn check(&self) {
         assert!(self.calls >= 100_000, "{} calls", self.calls);
         assert!(self.steps >= 10_000_000, "{} steps", self.steps);
+        assert!(self.full >= 1_000, "{} full journals", self.full);
+        assert!(self.gone_back >= 100_000, "{} back", self.gone_back);
+        assert!(self.fallen >= 1_000, "{} fallen", self.fallen);
         let of_runs = [
             "stop 0",
             "stop 1",
@@ -87,7 +111,13 @@ impl Tally {
             ("set", &["accepted", "refused 1"]),
             ("rules", &of_runs),
             ("table", &of_runs),
+            ("rules with journal", &of_runs),
+            ("table with journal", &of_runs),
             ("host", &of_runs),
+            (
+                "back",
+                &["accepted", "refused 1", "refused 5", "refused 14"],
+            ),
             ("window", &["part", "empty"]),
             ("save", &["accepted", "refused 1", "refused 9"]),
             ("assemble", &of_assemble),
@@ -97,7 +127,13 @@ impl Tally {
                 assert!(self.outcomes.contains_key(&key), "no {key:?}");
             }
         }
-        for export in ["rules", "table", "host"] {
+        for export in [
+            "rules",
+            "table",
+            "rules with journal",
+            "table with journal",
+            "host",
+        ] {
             let counts = self.counts[export];
             assert!(
                 counts.iter().all(|&count| count > 0),
@@ -111,6 +147,9 @@ impl fmt::Display for Tally {
     fn fmt(&self, f: &mut fmt::Formatter) -> fmt::Result {
         let (calls, steps, entries) = (self.calls, self.steps, self.entries);
         write!(f, "{calls} calls, {steps} steps, {entries} log entries")?;
+        let (full, gone_back, fallen) = (self.full, self.gone_back, self.fallen);
+        write!(f, ", {full} full journals")?;
+        write!(f, ", {gone_back} steps back, {fallen} entries fallen away")?;
         for ((export, outcome), count) in &self.outcomes {
             write!(f, "\n  {export}, {outcome}: {count}")?;
         }

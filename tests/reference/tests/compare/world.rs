@@ -1,11 +1,15 @@
-//! The memories, ports and log of one side, and how two sides differ.
+//! The memories, ports, log and journal of one side, and how two sides differ.
 
 use crate::ffi::Lent;
 use crate::make::program_word;
 use crate::random::Random;
+use std::ops::Range;
 
 /// The longest log lent.
 pub const LOG: usize = 600;
+
+/// The longest journal lent.
+pub const JOURNAL: usize = 6_000;
 
 /// Elements before and after what is lent, which no call may touch.
 pub const GUARD: usize = 16;
@@ -18,10 +22,11 @@ pub struct Lengths {
     pub inputs: usize,
     pub outputs: usize,
     pub log: usize,
+    pub journal: usize,
 }
 
 impl Lengths {
-    /// The right lengths, and a log of this length.
+    /// The right lengths, a log of this length and a journal of no places.
     pub fn right(log: usize) -> Lengths {
         Lengths {
             program: 65_536,
@@ -29,6 +34,7 @@ impl Lengths {
             inputs: 256,
             outputs: 256,
             log,
+            journal: 0,
         }
     }
 }
@@ -40,6 +46,7 @@ pub struct World {
     inputs: Vec<u16>,
     outputs: Vec<u16>,
     log: Vec<u64>,
+    journal: Vec<u64>,
 }
 
 impl World {
@@ -58,21 +65,33 @@ impl World {
             inputs: (0..words).map(|_| random.value()).collect(),
             outputs: (0..words).map(|_| random.value()).collect(),
             log: (0..2 * GUARD + LOG).map(|_| random.next()).collect(),
+            journal: (0..2 * GUARD + JOURNAL).map(|_| random.next()).collect(),
         }
     }
 
     pub fn lend(&mut self, lengths: &Lengths) -> Lent<'_> {
-        Lent {
+        self.lend_with_journal(lengths).0
+    }
+
+    pub fn lend_with_journal(&mut self, lengths: &Lengths) -> (Lent<'_>, &mut [u64]) {
+        let lent = Lent {
             program: &mut self.program[GUARD..GUARD + lengths.program],
             memory: &mut self.memory[GUARD..GUARD + lengths.memory],
             inputs: &mut self.inputs[GUARD..GUARD + lengths.inputs],
             outputs: &mut self.outputs[GUARD..GUARD + lengths.outputs],
             log: &mut self.log[GUARD..GUARD + lengths.log],
-        }
+        };
+        (lent, &mut self.journal[GUARD..GUARD + lengths.journal])
     }
 
-    /// The first place where `other` differs; None where they are alike.
-    /// Places are counted from the first that is lent.
+    /// The journal, with its guards.
+    pub fn journal(&self) -> &[u64] {
+        &self.journal
+    }
+
+    /// The first place where `other` differs, but for the journal, whose coding is
+    /// each side's own; None where they are alike. Places are counted from the
+    /// first that is lent.
     pub fn difference(&self, other: &World) -> Option<String> {
         first("program byte", &self.program, &other.program)
             .or_else(|| first("memory byte", &self.memory, &other.memory))
@@ -80,6 +99,16 @@ impl World {
             .or_else(|| first("output", &self.outputs, &other.outputs))
             .or_else(|| first("log place", &self.log, &other.log))
     }
+}
+
+/// The first place of a journal, with its guards, that isn't as it was, but for
+/// those of these numbers.
+pub fn touched(before: &[u64], after: &[u64], written: Range<u64>) -> Option<String> {
+    let number = |at: usize| at as u64 - GUARD as u64;
+    let outside = |&at: &usize| at < GUARD || !written.contains(&number(at));
+    let mut places = (0..before.len()).filter(outside);
+    let at = places.find(|&at| before[at] != after[at])?;
+    Some(shown("journal place", at, before[at], after[at]))
 }
 
 /// The first place, counted from after the guard, where they differ.
@@ -92,9 +121,10 @@ pub fn first<T: PartialEq + Copy + std::fmt::LowerHex>(
         return None;
     }
     let at = ours.iter().zip(theirs).position(|(x, y)| x != y)?;
-    let place = at as i64 - GUARD as i64;
-    Some(format!(
-        "{what} {place}: {:#x}, {:#x}",
-        ours[at], theirs[at]
-    ))
+    Some(shown(what, at, ours[at], theirs[at]))
+}
+
+/// What differs, its place counted from after the guard.
+fn shown<T: std::fmt::LowerHex>(what: &str, at: usize, x: T, y: T) -> String {
+    format!("{what} {}: {x:#x}, {y:#x}", at as i64 - GUARD as i64)
 }

@@ -1,8 +1,9 @@
 //! A machine with its memories and ports, for the tests.
 
 use crate::random::Random;
+use reference::back::{step_back, Back};
 use reference::control::{Table, TABLE};
-use reference::machine::{Places, State, Stepped, MEMORY, PORTS};
+use reference::machine::{Lent, Places, State, Stepped, MEMORY, PORTS};
 use reference::run::{host_step, run, run_by_rules, run_by_table, Reply, Returned};
 
 pub use reference::run::Engine;
@@ -35,13 +36,21 @@ pub const ENGINES: [Engine; 3] = [
 ];
 
 /// A run that reports its counts.
-pub type Counted = fn(State, &[u8], &mut [u8], &[u16], &mut [u16], u32, &mut [u64]) -> Returned;
+pub type Counted = fn(State, Lent, u32, &mut [u64]) -> Returned;
 
-/// The last is a host step, whatever the budget.
+/// Without a journal. The last is a host step, whatever the budget.
 pub const COUNTED: [Counted; 3] = [
-    run_by_rules,
-    run_by_table,
-    |mut held, p, d, i, o, _, log| host_step(&mut held, p, d, i, o, log),
+    |state, lent, budget, log| run_by_rules(state, lent, budget, log, None),
+    |state, lent, budget, log| run_by_table(state, lent, budget, log, None),
+    |mut held, lent, _, log| host_step(&mut held, lent, log),
+];
+
+/// A run that keeps a journal.
+pub type Journaled = fn(State, Lent, u32, &mut [u64], &mut [u64]) -> Returned;
+
+pub const JOURNALED: [Journaled; 2] = [
+    |state, lent, budget, log, journal| run_by_rules(state, lent, budget, log, Some(journal)),
+    |state, lent, budget, log, journal| run_by_table(state, lent, budget, log, Some(journal)),
 ];
 
 impl Board {
@@ -115,32 +124,51 @@ impl Board {
         Some(stepped)
     }
 
+    pub fn lent(&mut self) -> Lent<'_> {
+        Lent {
+            p: &self.p,
+            d: &mut self.d,
+            i: &self.i,
+            o: &mut self.o,
+        }
+    }
+
     pub fn places(&mut self) -> Places<'_> {
-        Places::of(&self.p, &mut self.d, &self.i, &mut self.o).unwrap()
+        Places::of(self.lent()).unwrap()
     }
 
     /// A run of the engine; the board keeps the state it replies.
     pub fn run(&mut self, engine: Engine, budget: u32, log: &mut [u64]) -> Reply {
-        let reply = run(
-            engine,
-            self.s,
-            &self.p,
-            &mut self.d,
-            &self.i,
-            &mut self.o,
-            budget,
-            log,
-        );
+        let reply = run(engine, self.s, self.lent(), budget, log);
         self.s = reply.state();
         reply
     }
 
     /// The same with the counts.
     pub fn counted(&mut self, run: Counted, budget: u32, log: &mut [u64]) -> Returned {
-        let (p, d, i, o) = (&self.p, &mut self.d, &self.i, &mut self.o);
-        let returned = run(self.s, p, d, i, o, budget, log);
+        let returned = run(self.s, self.lent(), budget, log);
         self.s = returned.reply.state();
         returned
+    }
+
+    /// The same with a journal.
+    pub fn journaled(
+        &mut self,
+        run: Journaled,
+        budget: u32,
+        log: &mut [u64],
+        journal: &mut [u64],
+    ) -> Returned {
+        let returned = run(self.s, self.lent(), budget, log, journal);
+        self.s = returned.reply.state();
+        returned
+    }
+
+    /// Goes back; the board keeps the state that is replied.
+    pub fn back(&mut self, journal: &[u64], k: u64) -> Back {
+        let back = step_back(self.s, self.lent(), journal, k);
+        self.s = back.state();
+        back
     }
 }
 

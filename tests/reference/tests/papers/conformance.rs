@@ -1,6 +1,7 @@
 //! The plays of docs/CONFORMANCE.md: their numbers by hand, and that they are
 //! lively.
 
+mod backs;
 mod sheets;
 
 use reference::conformance::{file, lines, number, table, table_lines, Digest};
@@ -114,7 +115,7 @@ fn destination(s: usize, file: &[u8]) -> u64 {
 #[test]
 fn saves_of_case_1() {
     let lines = lines();
-    let [load, next] = ["load 1 ", "load 2 "].map(|start| {
+    let [load, save] = ["load 1 ", "save 1 "].map(|start| {
         let at = lines.iter().position(|line| line.starts_with(start));
         at.unwrap()
     });
@@ -129,7 +130,7 @@ fn saves_of_case_1() {
         format!("save 1 2 9 0 {}", destination(2, &[])),
         format!("save 1 3 1 0 {}", destination(3, &[])),
     ];
-    assert_eq!(lines[next - 5..next], expected);
+    assert_eq!(lines[save..save + 5], expected);
 }
 
 #[test]
@@ -196,6 +197,17 @@ fn every_refusal_and_stop_reason_occurs() {
     }
     assert_eq!(count(&lines, "again"), accepted);
     assert_eq!(count(&lines, "again * 0"), accepted);
+    occur(
+        &lines,
+        "journal rules * *",
+        &["1", "5", "0 0", "0 1", "0 3"],
+    );
+    occur(
+        &lines,
+        "journal table * *",
+        &["1", "5", "0 0", "0 1", "0 3"],
+    );
+    occur(&lines, "back * *", &["0", "1", "5", "14"]);
     occur(&lines, "refused", &["2", "3", "4", "8"]);
     occur(&lines, "run", &["0", "1", "2", "3"]);
 }

@@ -40,7 +40,7 @@ fn stop_3_on_every_zero_divisor_and_on_no_other() {
 }
 
 /// So many of ADDI R4,R4,1, then DIV (f 4) or DIVU (f 5) R3,R4,R2, and two OUTs.
-fn with_division_at(at: u16, f: u16) -> Board {
+pub fn with_division_at(at: u16, f: u16) -> Board {
     let mut board = Board::with(&vec![0x2901; usize::from(at)]);
     board.put(2 * at, word(f, 3, 4, 2));
     board.put(2 * at + 2, 0xA703);

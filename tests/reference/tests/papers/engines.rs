@@ -35,6 +35,7 @@ fn one_step_of_every_word() {
             r: [0; 8],
             pc: random.word() & 0xFFFE,
             n: random.next() as u32,
+            ..State::reset()
         };
         for k in 0..8 {
             state.r[k] = random.value();

@@ -2,11 +2,13 @@
 #![allow(clippy::unusual_byte_groupings, clippy::identity_op)] // fields as the sheet groups them
 
 mod assembly;
+mod backs;
 mod board;
 mod conformance;
 mod divisors;
 mod engines;
 mod extension;
+mod journals;
 mod listing;
 mod marked;
 mod masks;
@@ -23,5 +25,6 @@ mod sheets;
 mod slips;
 mod tables;
 mod texts;
+mod trails;
 mod usage;
 mod words;

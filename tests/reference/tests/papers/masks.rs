@@ -92,6 +92,7 @@ fn random_state(random: &mut Random) -> State {
         r: [0; 8].map(|_| values[random.below(3) as usize]),
         pc: random.word() & 0xFFFE,
         n: random.next() as u32,
+        ..State::reset()
     }
 }
 

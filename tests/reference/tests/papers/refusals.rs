@@ -46,14 +46,13 @@ fn a_load_copies_the_parts_and_zeroes_the_rest() {
     expected.p[..4].copy_from_slice(&[1, 2, 3, 4]);
     expected.d[..3].copy_from_slice(&[4, 5, 6]);
     assert!(loaded == expected);
-    assert_eq!(
-        loaded.s,
-        State {
-            r: [0; 8],
-            pc: 0,
-            n: 0
-        }
-    );
+    let reset = State {
+        r: [0; 8],
+        pc: 0,
+        n: 0,
+        journaled: 0,
+    };
+    assert_eq!(loaded.s, reset);
 }
 
 #[test]
@@ -266,15 +265,7 @@ fn a_host_step_is_refused_like_a_run() {
         let mut held = State { pc, n, ..board.s };
         let handed = held;
         let before = board.clone();
-        let reply = host_step(
-            &mut held,
-            &board.p,
-            &mut board.d,
-            &board.i,
-            &mut board.o,
-            &mut [0; 2],
-        )
-        .reply;
+        let reply = host_step(&mut held, board.lent(), &mut [0; 2]).reply;
         assert_eq!(
             reply,
             Reply::Refused {

@@ -18,7 +18,7 @@ pub fn done(reply: Reply) -> (u8, u32, u32) {
 }
 
 /// MOVI R1,7; OUT 1,R1; OUT 2,R1; OUT 3,R1; unassigned.
-fn three_outs() -> Board {
+pub fn three_outs() -> Board {
     Board::with(&[0x9207, 0xA301, 0xA302, 0xA303, 0xF000])
 }
 
@@ -107,7 +107,8 @@ fn pc_wraps_around_the_program() {
             State {
                 r: [40_000, 0, 0, 0, 0, 0, 0, 0],
                 pc: 14_464,
-                n: 40_000
+                n: 40_000,
+                ..State::reset()
             }
         );
     }
@@ -125,15 +126,7 @@ fn a_host_step_is_a_run_by_the_table_with_budget_1() {
         ((0, 1, 1), 8),
         ((1, 0, 0), 8),
     ] {
-        let reply = host_step(
-            &mut held,
-            &board.p,
-            &mut board.d,
-            &board.i,
-            &mut board.o,
-            &mut log,
-        )
-        .reply;
+        let reply = host_step(&mut held, board.lent(), &mut log).reply;
         assert_eq!(done(reply), expected);
         assert_eq!(reply.state(), held);
         assert_eq!(held.pc, pc);

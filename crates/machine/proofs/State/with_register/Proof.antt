@@ -5,20 +5,16 @@ use mathlib.Core.List.{List}
 use Prim.Native.Nat.{ℕ, _%_}
 use native.Mathlib.Omega.{arith}
 use borrow.Author.Needs.{needs}
-use Rattle.machine.specs.declared.State.{State}
+use Rattle.machine.specs.Machine.{putRegisters}
 use Rattle.machine.proofs.Registers.{all-chosen}
 use Rattle.machine.proofs.State.with_register.Statement.{statement}
 use Rattle.machine.proofs.State.with_register.Tie as tie
-
--- the state with other registers
-abbrev with-r : State → List ℕ → State
-with-r s r = record { r = r; pc = s .pc; n = s .n }
 
 returns : tie.Need-returns
 returns c =
     let c₁ = c .before .before .before .before .before .before .before in
     let a = c₁ .before .before .args in
-    ap (with-r (a .self))
+    ap (λ (r : List ℕ). putRegisters r (a .self))
     (all-chosen (a .k % 8) (a .v) (a .self .r) _ _ _ _ _ _ _ _
     (c₁ .choose .ensures)
     (c .before .before .before .before .before .before .choose2 .ensures)

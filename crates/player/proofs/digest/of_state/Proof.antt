@@ -14,4 +14,4 @@ of-state-spec =
     (λ c κs. search needs)
     (λ c κs. search needs)
     (λ c κs. search needs)
-    (λ c. rw (c .taken2 .ensures, c .before .taken .ensures, c .before .before .word .ensures, c .before .before .before .words .ensures) (state-digest _)))
+    (λ c. rw (c .taken2 .ensures, c .before .taken .ensures, c .before .before .word .ensures, c .before .before .before .words .ensures) (state-digest _ _ _)))

@@ -54,7 +54,7 @@ use Rattle.replies.specs.declared.SisaAnswer.{SisaAnswer}
 use Rattle.replies.specs.declared.SisaRun.{SisaRun}
 use Rattle.control.specs.Control.{byTable}
 use Rattle.run.specs.declared.Counted.{Counted}
-use Rattle.run.specs.Runs.{given as run-given, left, shownAnswer, CountedMeets}
+use Rattle.run.specs.Runs.{no-journal, given as run-given, left, shownAnswer, CountedMeets}
 use Rattle.run.proofs.Counted as K
 use Rattle.run.proofs.Counted.Laws as K′
 use Rattle.replies.specs.Sisa.{sisaRun, sisaLeft, SisaRunMeets}
@@ -152,12 +152,12 @@ module _ {M : Type 1} (𝓤 : URA M) (H : Heap 𝓤) (A : Atoms 𝓤) (W : Given
   -- what the run's clause says, and the same in numbers
   abbrev Ran : Counted → List ℕ → List ℕ → List ℕ → List ℕ → Type 0
   Ran c ds is us ls =
-      CountedMeets byTable (run-given h (p .now) (d .now) (i .now) (u .now) 1 (l .now))
-      (record { left = left (shownAnswer (c .answer)) (c .state) (p .now) ds is us ls; usage = c .usage })
+      CountedMeets byTable (run-given h (p .now) (d .now) (i .now) (u .now) 1 (l .now) no-journal)
+      (record { left = left (shownAnswer (c .answer)) (c .state) (p .now) ds is us ls no-journal; usage = c .usage })
 
   abbrev Said : SisaRun → List ℕ → List ℕ → List ℕ → List ℕ → Type 0
   Said r ds is us ls =
-      SisaRunMeets byTable (run-given h (p .now) (d .now) (i .now) (u .now) 1 (l .now)) (sisaLeft r (p .now) ds is us ls)
+      SisaRunMeets byTable (run-given h (p .now) (d .now) (i .now) (u .now) 1 (l .now) no-journal) (sisaLeft r (p .now) ds is us ls no-journal)
 
   -- the end of the walk
   abbrev Had : SisaRun → List ℕ → List ℕ → List ℕ → List ℕ → List (Item 𝓤)

@@ -1,0 +1,4 @@
+pub mod Undone
+pub mod Held
+mod Turns
+pub mod Left

@@ -1,0 +1,39 @@
+-- The table that is lent is the paper's; a short run lends no places (`counts-short`).
+-- Assumes nothing.
+use borrow.Author.Needs.{needs}
+use Rattle.engine.proofs.Refusals.{by-paper, counts-short}
+use Rattle.engine.proofs.journaled.Statement.{statement}
+use Rattle.engine.proofs.journaled.Tie as tie
+
+returns : tie.Need-returns
+returns c =
+    let r = c .before .before .before .before .before .before .before .before .before .before .before in
+    let k = r .before .before .before .before .before .before .before .before .before in
+    by-paper (k .before .before .before .before .before .before .before .args .by-table) _ (k .control-table .ensures) (counts-short _ _ (r .run .last .1 .1 .1 .1 .1 .1 .1 .1 .1 .1 .1 .0) (r .run .result .usage) (r .run .ensures) (search needs))
+
+returns-2 : tie.Need-returns-2
+returns-2 c =
+    let r = c .before .before .before .before .before .before .before .before .before .before in
+    let k = r .before .before .before .before .before .before .before .before in
+    by-paper (k .before .before .before .before .before .before .before .args .by-table) _ (k .control-table .ensures) (r .long .ensures)
+
+pub journaled-spec : {M : Type 1} → statement M
+journaled-spec =
+    tie.close
+    (tie.spec
+    (λ c κs. search needs)
+    (λ c. search needs)
+    (λ c κs. search needs)
+    (λ c κs. search needs)
+    (λ c. search needs)
+    (λ c. search needs)
+    (λ c. search needs)
+    (λ c. search needs)
+    (λ c. search needs)
+    returns
+    (λ c. search needs)
+    (λ c. search needs)
+    (λ c. search needs)
+    (λ c. search needs)
+    (λ c. search needs)
+    returns-2)

@@ -1,0 +1,30 @@
+-- What the arms of `undo` promise, by the number `what`.
+-- Assumes nothing.
+use mathlib.Core.Path.{_≡_, refl, sym, ap, _∙_}
+use mathlib.Core.List.{List}
+use Prim.Native.Nat.{ℕ, _-_, _≤_}
+use lib.ListN.{getD}
+use Rattle.word.proofs.Tables.{vacant}
+use Rattle.machine.specs.declared.State.{State}
+use Rattle.machine.specs.Machine.{putPC, putN, onState}
+use Rattle.journal.specs.Journal.{Overwritten, nothing, pcIn, whatIn, readings, overwrittenIn, putBack, undo}
+use Rattle.journal.specs.Parts.{machineWith, IsUndone}
+
+-- PC is that before the step, and n is less by 1
+abbrev pub retreatedBy : ℕ → State → State
+retreatedBy x s = putPC (pcIn x) (putN (s .n - 1) s)
+
+module _ (x : ℕ) (s : State) (D O : List ℕ) (s′ : State) (D′ O′ : List ℕ) where
+  -- what is overwritten is put back
+  abbrev PutsBack : Overwritten → Type 0
+  PutsBack o = (P I L : List ℕ) → onState (retreatedBy x) (putBack o (machineWith s D O P I L)) ≡ machineWith s′ D′ O′ P I L
+
+  put-back : {o : Overwritten} → getD (readings x) (whatIn x) nothing ≡ o → PutsBack o → IsUndone x s D O s′ D′ O′
+  unfolding undo overwrittenIn
+  put-back t e = λ P I L. ap (λ y. onState (retreatedBy x) (putBack y (machineWith s D O P I L))) t ∙ e P I L
+
+  pub undo-at : (j : ℕ) → whatIn x ≡ j → PutsBack (getD (readings x) j nothing) → IsUndone x s D O s′ D′ O′
+  undo-at j has = put-back (ap (λ k. getD (readings x) k nothing) has)
+
+  pub undo-of-none : ((whatIn x ≡ 0 → ⊥) → 5 ≤ whatIn x) → PutsBack nothing → IsUndone x s D O s′ D′ O′
+  undo-of-none h = put-back (sym (vacant (readings x) 0 nothing (whatIn x) refl h))

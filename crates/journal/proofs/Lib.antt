@@ -1,0 +1,7 @@
+pub mod Entries
+pub mod Backs
+pub mod Widths
+pub mod Coding
+pub mod Written
+pub mod Steps
+pub mod Undone

@@ -1,0 +1,181 @@
+-- What the step of a word writes, by the table of opcodes: of each rule, what it writes over what and where PC goes, from the machine
+-- before the step.
+-- Assumes nothing.
+use mathlib.Core.Path.{_≡_, refl}
+use mathlib.Core.Bool.{Bool, true, false, _&&_}
+use mathlib.Core.List.{List, [], _∷_}
+use Prim.Native.Nat.{ℕ, zero, suc, _+_, _*_, _%_, _<_}
+use native.Mathlib.Omega.{arith}
+use borrow.Author.Tests.{eqb-true, eqb-false, eq-eqb}
+use lib.Dec.{eqb}
+use lib.ListN.{length, getD, length-append}
+use Rattle.word.specs.Fields.{opcode, a-of, b-of, e-of, f-of, N8}
+use Rattle.word.specs.Word.{pick, flag, add, clear0, SE, operation, comparison}
+use Rattle.muldiv.specs.Muldiv.{muldiv}
+use Rattle.word.proofs.Tests.{clash}
+use Rattle.machine.specs.Machine.{Machine, R, putPC, count, onState, putO, wordAt}
+use Rattle.machine.specs.Step.{PC, Ra, Rb, A, A', d5-3, d8-6, d11-9, jump, Rule, compute, compare, addi, ld, st, ldb, stb, jalr, bz, bnz, movi, movhi, input, output, multiplyDivide, RuleRow, by-f, by-f-dividing, one, by-e, no-rule, ruleRows, among, rule, division, unassigned, ruleInRow, choice, fetched, cannot, to, doing, stepBy, step}
+use Rattle.machine.specs.Run.{isOut}
+use Rattle.journal.specs.Journal.{Overwritten, nothing, inRegister, register, data-word, data-byte, output-word, overwrittenBy, overwritten, putBack, butFor}
+use Rattle.journal.specs.Ranges.{InRange}
+use Rattle.journal.proofs.Widths.{_then_, IsWord, extended-fits, operation-fits, comparison-fits, muldiv-fits}
+use Rattle.journal.proofs.Coding.{Fits, isPort}
+use Rattle.journal.proofs.Written.{heldIn}
+
+-- PC = PC+2 is done
+abbrev on : Machine → Machine
+on m = jump (add (PC m) 2) m
+
+-- What a rule makes of m, PC = PC+2 done. It writes c, which overwrites o, PC becomes p, and the log becomes L, which is longer by one
+-- where a port is written.
+pub record Makes (m after : Machine) (o : Overwritten) (port : Bool) : Type 0 where
+  pub c : Overwritten
+  pub p : ℕ
+  pub L : List ℕ
+  pub after-is : after ≡ butFor (m .I) L (onState (putPC p) (putBack c m))
+  pub over : heldIn c m ≡ o
+  pub fits : InRange m → Fits c
+  pub goes : InRange m → IsWord p
+  pub port-is : isPort (heldIn c m) ≡ port
+  pub grows : length L ≡ length (m .L) + flag port
+
+-- the rule is done, and n grows by 1
+abbrev pub Stepped : Machine → Machine → Overwritten → Bool → Type 0
+Stepped m next o port = (after : Machine) × (next ≡ onState count after) × Makes m after o port
+
+module _ (m : Machine) (w : ℕ) where
+  -- c is written, no port, and PC becomes p
+  abbrev Written : Rule → Overwritten → ℕ → Type 0
+  Written x c p = x w (on m) ≡ butFor (m .I) (m .L) (onState (putPC p) (putBack c m))
+
+  quiet : (x : Rule) (c : Overwritten) (p : ℕ) → Written x c p → (InRange m → Fits c) → (InRange m → IsWord p) → isPort (heldIn c m) ≡ false → Makes m (x w (on m)) (heldIn c m) false
+  quiet x c p e f g t =
+      record { c = c; p = p; L = m .L; after-is = e; over = refl; fits = f; goes = g; port-is = t; grows = omega arith }
+
+  -- Rd becomes v, and PC becomes PC+2
+  writes : (x : Rule) (d v : ℕ) → Written x (register d v) (add (PC m) 2) → d < 8 → (InRange m → IsWord v) → Makes m (x w (on m)) (heldIn (register d v) m) false
+  writes x d v e hd hv = quiet x (register d v) (add (PC m) 2) e (λ r. (hd, hv r)) (λ r. omega arith) refl
+
+  -- nothing is written, and PC becomes one of two
+  branches : (x : Rule) (t : Bool) (p q : ℕ) → x w (on m) ≡ pick t (jump p m) (jump q m) → IsWord p → IsWord q → Makes m (x w (on m)) nothing false
+  branches x true p q e hp hq = quiet x nothing p e (λ r. tt) (λ r. hp) refl
+  branches x false p q e hp hq = quiet x nothing q e (λ r. tt) (λ r. hq) refl
+
+  -- ---- The table
+
+  -- what a row says, of the words with that opcode
+  RowMakes : RuleRow → Overwritten → Bool → Type 0
+  RowMakes (by-f fs x) o port = Makes m (x w (on m)) o port
+  RowMakes (by-f-dividing fs gs x) o port = Makes m (x w (on m)) o port
+  RowMakes (one x) o port = Makes m (x w (on m)) o port
+  RowMakes (by-e x₀ x₁) o port = (t : Bool) → eqb (e-of w) 0 ≡ t → Makes m (pick t x₀ x₁ w (on m)) o port
+  RowMakes no-rule o port = Unit {0}
+
+  -- each row, with what stands at its place in the list
+  Along : List RuleRow → List Overwritten → (ℕ → Bool) → Type 0
+  Along [] os port = Unit {0}
+  Along (x ∷ xs) [] port = RowMakes x nothing (port 0) × Along xs [] (λ k. port (suc k))
+  Along (x ∷ xs) (o ∷ os) port = RowMakes x o (port 0) × Along xs os (λ k. port (suc k))
+
+  along-at : (xs : List RuleRow) (os : List Overwritten) (port : ℕ → Bool) → Along xs os port → (k : ℕ) → RowMakes (getD xs k no-rule) (getD os k nothing) (port k)
+  unfolding Along RowMakes
+  along-at [] os port a k = tt
+  along-at (x ∷ xs) [] port a zero = a .0
+  along-at (x ∷ xs) [] port a (suc k) = along-at xs [] (λ k. port (suc k)) (a .1) k
+  along-at (x ∷ xs) (o ∷ os) port a zero = a .0
+  along-at (x ∷ xs) (o ∷ os) port a (suc k) = along-at xs os (λ k. port (suc k)) (a .1) k
+
+  -- e is 0 or 1
+  other-e : (t : Bool) → eqb (e-of w) 0 ≡ t → eqb (e-of w) 1 ≡ pick t false true
+  other-e true e = rw (eqb-true (e-of w) 0 e)
+  other-e false e = eq-eqb (e-of w) 1 (omega (arith, eqb-false (e-of w) 0 e))
+
+  by-port : (t : Bool) → eqb (e-of w) 0 ≡ t
+      → Makes m (pick t input output w (on m)) (pick (eqb (e-of w) 0) (inRegister (d11-9 w) m) (output-word (N8 w) (getD (m .O) (N8 w) 0))) (eqb (e-of w) 1)
+  unfolding input output
+  by-port true e = rw (e, other-e true e) (writes input (d11-9 w) (getD (m .I) (N8 w) 0) refl (omega arith) (λ r. r .inputs .below (N8 w)))
+  by-port false e =
+      rw (e, other-e false e)
+      (record {
+        c = output-word (N8 w) (Ra w m);
+        p = add (PC m) 2;
+        L = putO (N8 w) (Ra w m) m .L;
+        after-is = refl;
+        over = refl;
+        fits = λ r. (omega arith, r .registers .below (a-of w));
+        goes = λ r. omega arith;
+        port-is = refl;
+        grows = length-append (m .L) _;
+      })
+
+  by-zero : (t : Bool) → Makes m (pick t bz bnz w (on m)) nothing false
+  unfolding bz bnz
+  by-zero true = branches bz (eqb (Ra w m) 0) (add (add (PC m) 2) (SE 8 (N8 w) * 2)) (add (PC m) 2) refl (omega arith) (omega arith)
+  by-zero false = branches bnz (eqb (Ra w m) 0) (add (PC m) 2) (add (add (PC m) 2) (SE 8 (N8 w) * 2)) refl (omega arith) (omega arith)
+
+  by-number : (t : Bool) → Makes m (pick t movi movhi w (on m)) (inRegister (d11-9 w) m) false
+  unfolding movi movhi
+  by-number true = writes movi (d11-9 w) (SE 8 (N8 w)) refl (omega arith) (λ r. extended-fits 8 (N8 w))
+  by-number false = writes movhi (d11-9 w) (R (m .state) (d11-9 w) % 256 + N8 w * 256) refl (omega arith) (λ r. omega arith)
+
+  -- what a rule computes of Ra and Rb is a word
+  of-words : (g : ℕ → ℕ → ℕ → ℕ) → ((f x y : ℕ) → IsWord x → IsWord y → IsWord (g f x y)) → InRange m → IsWord (g (f-of w) (Ra w m) (Rb w m))
+  of-words g fits r = fits (f-of w) (Ra w m) (Rb w m) (r .registers .below (a-of w)) (r .registers .below (b-of w))
+
+  all-rows : Along ruleRows (overwrittenBy w m) (λ op. eqb op 10 && eqb (e-of w) 1)
+  unfolding Along RowMakes compute compare addi ld st ldb stb jalr multiplyDivide
+  all-rows =
+      -- 0 to 3
+      writes compute (d5-3 w) _ refl (omega arith) (of-words operation operation-fits)
+      then writes compare (d5-3 w) _ refl (omega arith) (of-words comparison comparison-fits)
+      then writes addi (d8-6 w) (A w m) refl (omega arith) (λ r. omega arith)
+      then writes ld (d8-6 w) (wordAt (m .D) (A' w m)) refl (omega arith) (λ r. omega (arith, r .memory .below (A' w m), r .memory .below (add (A' w m) 1)))
+      -- 4 to 7
+      then quiet st (data-word (A' w m) (Rb w m)) (add (PC m) 2) refl (λ r. (omega arith, omega arith, r .registers .below (b-of w))) (λ r. omega arith) refl
+      then writes ldb (d8-6 w) (SE 8 (getD (m .D) (A w m) 0)) refl (omega arith) (λ r. extended-fits 8 (getD (m .D) (A w m) 0))
+      then quiet stb (data-byte (A w m) (Rb w m)) (add (PC m) 2) refl (λ r. (omega arith, r .registers .below (b-of w))) (λ r. omega arith) refl
+      then quiet jalr (register (d8-6 w) (add (PC m) 2)) (clear0 (Ra w m)) refl (λ r. (omega arith, omega arith)) (λ r. omega (arith, r .registers .below (a-of w))) refl
+      -- 8 to 11
+      then (λ t e. by-zero t)
+      then (λ t e. by-number t)
+      then by-port
+      then writes multiplyDivide (d5-3 w) _ refl (omega arith) (of-words muldiv muldiv-fits)
+      -- 12 to 15
+      then tt
+      then tt
+      then tt
+      then tt
+      then tt
+
+  -- ---- The step
+
+  did : {next after : Machine} {o : Overwritten} {port : Bool} → to (onState count after) ≡ to next → Makes m after o port → Stepped m next o port
+  did {next} {after} e made = let z : next ≡ onState count after = cc in (after, z, made)
+
+  by-row : (y : RuleRow) {next : Machine} {o : Overwritten} {port : Bool} → RowMakes y o port → stepBy (ruleInRow y (e-of w) (f-of w)) w m ≡ to next → Stepped m next o port
+  unfolding RowMakes
+  by-row (by-f fs x) {next} {o} {port} made = go (among (f-of w) fs)
+    where
+      go : (t : Bool) → stepBy (pick t (rule x) unassigned) w m ≡ to next → Stepped m next o port
+      go true e = did e made
+      go false e = clash (cc)
+  by-row (by-f-dividing fs gs x) {next} {o} {port} made = go (among (f-of w) fs) (among (f-of w) gs)
+    where
+      divided : (z : Bool) → pick z (cannot 3) (doing x w m) ≡ to next → Stepped m next o port
+      divided true e = clash (cc)
+      divided false e = did e made
+
+      go : (t u : Bool) → stepBy (pick t (pick u (division x) (rule x)) unassigned) w m ≡ to next → Stepped m next o port
+      go true true e = divided (eqb (Rb w m) 0) e
+      go true false e = did e made
+      go false u e = clash (cc)
+  by-row (one x) made = λ e. did e made
+  by-row (by-e x₀ x₁) made = λ e. did e (made (eqb (e-of w) 0) refl)
+  by-row no-rule made = λ e. clash (cc)
+
+pub stepped : (m next : Machine) → step m ≡ to next → Stepped m next (overwritten (fetched m) m) (isOut (fetched m))
+unfolding step choice overwritten
+stepped m next e =
+    let w = fetched m in
+    by-row m w (getD ruleRows (opcode w) no-rule)
+    (along-at m w ruleRows (overwrittenBy w m) (λ op. eqb op 10 && eqb (e-of w) 1) (all-rows m w) (opcode w)) e

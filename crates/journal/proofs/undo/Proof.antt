@@ -1,0 +1,75 @@
+-- An arm is the place of the table that its number names.
+-- Assumes nothing.
+use mathlib.Core.Path.{sym, ap, _∙_}
+use Prim.Native.Nat.{_%_}
+use native.Mathlib.Omega.{arith}
+use borrow.Author.Needs.{needs}
+use denote.Ref.{now}
+use Rattle.machine.specs.Machine.{putR}
+use Rattle.journal.specs.Journal.{valueIn, placeIn}
+use Rattle.journal.specs.Parts.{machineWith}
+use Rattle.journal.proofs.Backs.{undo-at, undo-of-none}
+use Rattle.journal.proofs.undo.Statement.{statement}
+use Rattle.journal.proofs.undo.Tie as tie
+
+returns : tie.Need-returns
+returns c =
+    let back = c .before .before in
+    let a = back .before .before .before .args in
+    let x = a .entry in
+    undo-at x _ _ _ _ _ _ 1 (c .before .match .keys1)
+    (λ P I L. ap (λ t. machineWith t (now (a .memory)) (now (a .outputs)) P I L)
+    (sym (c .with-register .ensures ∙ ap (putR (placeIn x % 8) (valueIn x)) (back .retreated .ensures))))
+
+returns-2 : tie.Need-returns-2
+returns-2 c =
+    let stored = c .before .before in
+    let back = stored .before .before .before in
+    let a = back .before .before .before .args in
+    undo-at _ _ _ _ _ _ _ 2 (stored .before .before .match .keys2)
+    (λ P I L i. machineWith (sym (back .retreated .ensures) i) (sym (stored .store-word .ensures) i) (now (a .outputs)) P I L)
+
+returns-3 : tie.Need-returns-3
+returns-3 c =
+    let stored = c .before .before in
+    let back = stored .before .before .before in
+    let a = back .before .before .before .args in
+    undo-at _ _ _ _ _ _ _ 3 (stored .before .before .match .keys3)
+    (λ P I L i. machineWith (sym (back .retreated .ensures) i) (sym (stored .store-byte .ensures) i) (now (a .outputs)) P I L)
+
+returns-4 : tie.Need-returns-4
+returns-4 c =
+    let stored = c .before .before in
+    let back = stored .before .before .before in
+    let a = back .before .before .before .args in
+    undo-at _ _ _ _ _ _ _ 4 (stored .before .before .match .keys4)
+    (λ P I L i. machineWith (sym (back .retreated .ensures) i) (now (a .memory)) (sym (stored .write-port .ensures) i) P I L)
+
+returns-5 : tie.Need-returns-5
+returns-5 c =
+    let back = c .before in
+    let a = back .before .before .before .args in
+    undo-of-none _ _ _ _ _ _ _ (λ n. omega (arith, c .match .rest))
+    (λ P I L. ap (λ t. machineWith t (now (a .memory)) (now (a .outputs)) P I L) (sym (back .retreated .ensures)))
+
+pub undo-spec : {M : Type 1} → statement M
+undo-spec =
+    tie.close
+    (tie.spec
+    (λ c. search needs)
+    (λ c κs. search needs)
+    (λ c. search needs)
+    (λ c. search needs)
+    (λ c κs. search needs)
+    (λ c κs. search needs)
+    (λ c κs. search needs)
+    (λ c. search needs)
+    (λ c κs. search needs)
+    returns
+    (λ c. search needs)
+    returns-2
+    (λ c. search needs)
+    returns-3
+    (λ c. search needs)
+    returns-4
+    returns-5)

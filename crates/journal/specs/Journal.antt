@@ -1,0 +1,113 @@
+-- The journal of a run (02, L7): one 64-bit entry a step, in a coding of ours, of what the step overwrote; and a step taken back by such
+-- an entry.
+use Prim.Native.Nat.{ℕ, _+_, _-_, _*_, _/_, _%_}
+use mathlib.Core.Bool.{Bool}
+use mathlib.Core.List.{List, [], _∷_}
+use lib.Dec.{eqb}
+use lib.ListN.{getD, set}
+use Rattle.word.specs.Fields.{opcode, e-of, N8}
+use Rattle.word.specs.Word.{pick, clear0}
+use Rattle.machine.specs.Machine.{Machine, R, putR, putPC, putN, onState, putD, wordAt, putWord, putByte}
+use Rattle.machine.specs.Step.{PC, A, A', d5-3, d8-6, d11-9, fetched}
+
+-- ---- What a step overwrites
+
+-- nothing; or Rk, the data word at k, the data byte at k or output k, which held v
+pub data Overwritten : Type 0 where
+  nothing : Overwritten
+  register data-word data-byte output-word : (k v : ℕ) → Overwritten
+
+-- what Rd holds
+abbrev pub inRegister : ℕ → Machine → Overwritten
+inRegister d m = register d (R (m .state) d)
+
+-- by the step of w, from the machine m before it: by opcode, as the table of rules
+abbrev pub overwrittenBy : ℕ → Machine → List Overwritten
+overwrittenBy w m =
+    -- 0 to 3: AND to SHL, CMPLT to CMPLEU, ADDI, LD
+    inRegister (d5-3 w) m
+    ∷ inRegister (d5-3 w) m
+    ∷ inRegister (d8-6 w) m
+    ∷ inRegister (d8-6 w) m
+    -- 4 to 7: ST, LDB, STB, JALR
+    ∷ data-word (A' w m) (wordAt (m .D) (A' w m))
+    ∷ inRegister (d8-6 w) m
+    ∷ data-byte (A w m) (getD (m .D) (A w m) 0)
+    ∷ inRegister (d8-6 w) m
+    -- 8 to 11: BZ and BNZ, MOVI and MOVHI, IN and OUT, MUL to DIVU
+    ∷ nothing
+    ∷ inRegister (d11-9 w) m
+    ∷ pick (eqb (e-of w) 0) (inRegister (d11-9 w) m) (output-word (N8 w) (getD (m .O) (N8 w) 0))
+    ∷ inRegister (d5-3 w) m
+    ∷ []
+
+unfoldable pub overwritten : ℕ → Machine → Overwritten
+overwritten w m = getD (overwrittenBy w m) (opcode w) nothing
+
+-- ---- The coding: bits 15..0 PC, 31..16 what was held (v), 47..32 where (k), 55..48 what (0 nothing, 1 a register, 2 a data word,
+-- 3 a data byte, 4 an output); 63..56 are 0
+
+abbrev pub coded : ℕ → ℕ → ℕ → ℕ → ℕ
+coded pc v k what = pc + 65536 * v + 4294967296 * k + 281474976710656 * what
+
+abbrev pub pcIn : ℕ → ℕ
+pcIn x = x % 65536
+
+abbrev pub valueIn : ℕ → ℕ
+valueIn x = x / 65536 % 65536
+
+abbrev pub placeIn : ℕ → ℕ
+placeIn x = x / 4294967296 % 65536
+
+abbrev pub whatIn : ℕ → ℕ
+whatIn x = x / 281474976710656 % 256
+
+abbrev pub entryWith : ℕ → Overwritten → ℕ
+entryWith pc nothing = coded pc 0 0 0
+entryWith pc (register k v) = coded pc v k 1
+entryWith pc (data-word k v) = coded pc v k 2
+entryWith pc (data-byte k v) = coded pc v k 3
+entryWith pc (output-word k v) = coded pc v k 4
+
+-- the entry of the step that m takes
+unfoldable pub entryOf : Machine → ℕ
+entryOf m = entryWith (PC m) (overwritten (fetched m) m)
+
+-- ---- A step taken back, by any 64-bit number; bits 63..56 are not looked at
+
+-- what a number says was overwritten, by its `what`: a register is 0 to 7, a data word stands at an even address, an output is 0 to 255
+abbrev pub readings : ℕ → List Overwritten
+readings x =
+    nothing
+    ∷ register (placeIn x % 8) (valueIn x)
+    ∷ data-word (clear0 (placeIn x)) (valueIn x)
+    ∷ data-byte (placeIn x) (valueIn x)
+    ∷ output-word (placeIn x % 256) (valueIn x)
+    ∷ []
+
+-- nothing where `what` is over 4
+unfoldable pub overwrittenIn : ℕ → Overwritten
+overwrittenIn x = getD (readings x) (whatIn x) nothing
+
+-- output k holds v again; no entry of L
+abbrev pub putBackO : ℕ → ℕ → Machine → Machine
+putBackO k v m = record { state = m .state; P = m .P; D = m .D; I = m .I; O = set (m .O) k v; L = m .L }
+
+abbrev pub putBack : Overwritten → Machine → Machine
+putBack nothing m = m
+putBack (register k v) m = onState (putR k v) m
+putBack (data-word k v) m = putD (putWord k v (m .D)) m
+putBack (data-byte k v) m = putD (putByte k v (m .D)) m
+putBack (output-word k v) m = putBackO k v m
+
+-- What was overwritten is there again, PC is that before the step, and n is less by 1.
+unfoldable pub undo : ℕ → Machine → Machine
+undo x m = onState (λ s. putPC (pcIn x) (putN (s .n - 1) s)) (putBack (overwrittenIn x) m)
+
+-- the entry is an output's: its step added an entry to L
+abbrev pub isOutput : ℕ → Bool
+isOutput x = eqb (whatIn x) 4
+
+-- m, but for its inputs and its log
+abbrev pub butFor : List ℕ → List ℕ → Machine → Machine
+butFor I L m = record { state = m .state; P = m .P; D = m .D; I = I; O = m .O; L = L }

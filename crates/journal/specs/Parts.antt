@@ -1,0 +1,46 @@
+-- What the functions of this crate promise, of the state and the lent slices that they see of a machine. Nothing here is promised to a
+-- caller.
+use mathlib.Core.Path.{_≡_}
+use mathlib.Core.List.{List}
+use Prim.Native.Nat.{ℕ}
+use lib.Dec.{eqb}
+use lib.ListN.{getD}
+use Rattle.word.specs.Fields.{a-of, e-of, N6, N8}
+use Rattle.word.specs.Word.{pick, add, clear0, SE}
+use Rattle.machine.specs.declared.State.{State}
+use Rattle.machine.specs.Machine.{Machine, R, wordAt}
+use Rattle.machine.specs.Step.{d11-9}
+use Rattle.journal.specs.Journal.{Overwritten, register, data-word, data-byte, output-word, entryWith, overwritten, undo}
+
+-- what they see, and the rest
+abbrev pub machineWith : State → List ℕ → List ℕ → List ℕ → List ℕ → List ℕ → Machine
+machineWith s D O P I L = record { state = s; P = P; D = D; I = I; O = O; L = L }
+
+-- x is the entry of the step of w
+abbrev pub IsEntry : ℕ → State → List ℕ → List ℕ → ℕ → Type 0
+IsEntry w s D O x = (P I L : List ℕ) → x ≡ entryWith (s .pc) (overwritten w (machineWith s D O P I L))
+
+-- state, data and outputs become these where a step is taken back by x
+abbrev pub IsUndone : ℕ → State → List ℕ → List ℕ → State → List ℕ → List ℕ → Type 0
+IsUndone x s D O s′ D′ O′ = (P I L : List ℕ) → undo x (machineWith s D O P I L) ≡ machineWith s′ D′ O′ P I L
+
+-- ---- What a step of w overwrites, of the state s, the data D and the outputs O
+
+abbrev pub registerBefore : ℕ → State → Overwritten
+registerBefore d s = register d (R s d)
+
+-- Ra+SE(N6)
+abbrev pub addressOf : ℕ → State → ℕ
+addressOf w s = add (R s (a-of w)) (SE 6 (N6 w))
+
+-- ST
+abbrev pub wordBefore : ℕ → State → List ℕ → Overwritten
+wordBefore w s D = data-word (clear0 (addressOf w s)) (wordAt D (clear0 (addressOf w s)))
+
+-- STB
+abbrev pub byteBefore : ℕ → State → List ℕ → Overwritten
+byteBefore w s D = data-byte (addressOf w s) (getD D (addressOf w s) 0)
+
+-- IN and OUT
+abbrev pub portBefore : ℕ → State → List ℕ → Overwritten
+portBefore w s O = pick (eqb (e-of w) 0) (registerBefore (d11-9 w) s) (output-word (N8 w) (getD O (N8 w) 0))

@@ -1,0 +1,90 @@
+//! "Going back"
+
+use super::host::Host;
+use super::runs::{numbers_of, usage_digest};
+use super::{number, Call};
+use crate::back::{step_back, Back};
+use crate::journal::Journal;
+use crate::machine::{Lent, State, PORTS};
+use crate::run::{run_by_rules, run_by_table, Returned};
+
+/// "Twelve calls follow"
+const CALLS: u64 = 12;
+
+/// A run by either engine.
+type RunBy = fn(State, Lent, u32, &mut [u64], Journal) -> Returned;
+
+/// "the journal lent is its first 8 + number(c, 7) mod 200 places", or "where
+/// number(c, q + 3) mod 16 is 4", "its first number(c, q + 4) mod 8 places".
+fn places_lent(call: Call) -> usize {
+    let places = match call.number(3) % 16 {
+        4 => call.number(4) % 8,
+        _ => 8 + number(call.c, 7) % 200,
+    };
+    places as usize
+}
+
+impl Host {
+    /// The calls of case c with a journal.
+    pub fn with_journal(&mut self, c: u64) -> Vec<String> {
+        // "of 256 places, made anew, place i being i"
+        let mut journal: Vec<u64> = (0..256).collect();
+        let call = |j: u64| Call {
+            c,
+            i: j,
+            q: 7_000 + 16 * j,
+        };
+        (0..CALLS)
+            .map(|j| self.call_with_journal(call(j), &mut journal))
+            .collect()
+    }
+
+    fn call_with_journal(&mut self, call: Call, journal: &mut [u64]) -> String {
+        match call.number(0) % 8 {
+            // "all inputs lent"
+            0 => self.set(call, PORTS),
+            1..=3 => self.journaled(call, "rules", run_by_rules, journal),
+            4 | 5 => self.journaled(call, "table", run_by_table, journal),
+            _ => self.back(call, journal),
+        }
+    }
+
+    /// "journal ENGINE c j REFUSAL STOP STEPS ENTRIES USAGE JOURNALED DIGEST"
+    fn journaled(&mut self, call: Call, engine: &str, run: RunBy, journal: &mut [u64]) -> String {
+        let journal = match call.number(3) % 16 {
+            // "the run is one without a journal"
+            5 => None,
+            _ => Some(&mut journal[..places_lent(call)]),
+        };
+        let x = self.hand(call, 4_294_967_000, 60, 40);
+        let Returned { reply, usage } = run(x.state, x.lent, x.budget, x.log, journal);
+        self.keep(reply);
+        let counts = usage_digest(usage);
+        let state = reply.state();
+        format!(
+            "journal {engine} {call} {} {counts} {} {}",
+            numbers_of(reply),
+            state.journaled,
+            self.digest(state)
+        )
+    }
+
+    /// "back c j REFUSAL FALLEN JOURNALED DIGEST"
+    fn back(&mut self, call: Call, journal: &[u64]) -> String {
+        let k = match call.number(2) % 4 {
+            0 => self.kept.journaled,
+            1 => self.kept.journaled + 1,
+            _ => call.number(1) % 20,
+        };
+        // "n handed is the lesser of the kept one and 3"
+        let n = self.kept.n.min(3);
+        let x = self.hand(call, n, 60, 40);
+        let back = step_back(x.state, x.lent, &journal[..places_lent(call)], k);
+        if let Back::Done { state, .. } = back {
+            self.kept = state;
+        }
+        let (state, refusal, fallen) = (back.state(), back.refusal(), back.fallen());
+        let (journaled, digest) = (state.journaled, self.digest(state));
+        format!("back {call} {refusal} {fallen} {journaled} {digest}")
+    }
+}

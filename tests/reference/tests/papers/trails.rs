@@ -1,0 +1,112 @@
+//! Lists of runs, settings and goings back in any order, beside the machines
+//! before the counted steps. Sentences in quotation marks are request L7's.
+
+use crate::board::{Board, Engine, COUNTED, JOURNALED};
+use crate::journals::UNTOUCHED;
+use crate::random::Random;
+use crate::runs::done;
+use reference::set::set;
+
+/// Far below the random board's n, so that the count decides what is held.
+const PLACES: usize = 60;
+
+/// What the host holds, and the plain machine's boards before the counted steps.
+struct Trail {
+    random: Random,
+    board: Board,
+    journal: Vec<u64>,
+    boards: Vec<Board>,
+    /// The plain machine.
+    machine: Board,
+}
+
+impl Trail {
+    fn new(mut random: Random) -> Trail {
+        let mut board = Board::random(&mut random);
+        board.s.n += 1_000;
+        Trail {
+            random,
+            machine: board.clone(),
+            board,
+            journal: vec![UNTOUCHED; PLACES],
+            boards: Vec::new(),
+        }
+    }
+
+    /// The plain machine's steps, each board before one kept.
+    fn follow(&mut self, steps: u32) {
+        for _ in 0..steps {
+            self.boards.push(self.machine.clone());
+            self.machine.step(Engine::Rules).expect("a step");
+        }
+    }
+
+    fn run(&mut self) {
+        let budget = self.random.below(30) as u32;
+        let run = JOURNALED[self.random.below(2) as usize];
+        let mut log = vec![0; self.random.below(9) as usize];
+        let returned = self
+            .board
+            .journaled(run, budget, &mut log, &mut self.journal);
+        let (stop, steps, _) = done(returned.reply);
+        if stop == 0 {
+            let room = PLACES - self.boards.len();
+            assert_eq!(steps, budget.min(room as u32));
+        }
+        self.follow(steps);
+    }
+
+    fn run_without_a_journal(&mut self) {
+        let run = COUNTED[self.random.below(3) as usize];
+        let returned = self.board.counted(run, 3, &mut [0; 3]);
+        self.follow(returned.reply.steps());
+        self.boards.clear();
+    }
+
+    fn set(&mut self) {
+        let (port, value) = (self.random.word() as u8, self.random.value());
+        for board in [&mut self.board, &mut self.machine] {
+            set(&mut board.i, port, value).unwrap();
+        }
+    }
+
+    /// One too many is tried first.
+    fn back(&mut self) {
+        let held = self.boards.len() as u64;
+        assert_eq!(self.board.back(&self.journal, held + 1).refusal(), 14);
+        let k = match self.random.below(4) {
+            0 => held,
+            _ => self.random.below(held + 1),
+        };
+        let back = self.board.back(&self.journal, k);
+        let undone = self.boards.split_off((held - k) as usize);
+        let outs = undone.iter().filter(|board| board.word() >> 12 == 10);
+        let outs = outs.filter(|board| board.word() >> 8 & 1 == 1).count() as u64;
+        assert_eq!((back.refusal(), back.fallen()), (0, outs));
+        if let Some(earlier) = undone.into_iter().next() {
+            // "Inputs set in between stay as set."
+            let i = self.machine.i.clone();
+            self.machine = Board { i, ..earlier };
+        }
+    }
+
+    fn call(&mut self) {
+        match self.random.below(12) {
+            0 => self.run_without_a_journal(),
+            1 | 2 => self.set(),
+            3..=5 => self.back(),
+            _ => self.run(),
+        }
+        self.machine.s.journaled = self.boards.len() as u64;
+        assert!(self.board == self.machine);
+    }
+}
+
+#[test]
+fn lists_in_any_order() {
+    let mut random = Random::new(0x7EA1);
+    for _ in 0..40 {
+        let mut trail = Trail::new(Random::new(random.next()));
+        (0..40).for_each(|_| trail.call());
+    }
+}
