@@ -3,8 +3,8 @@
 
 #include <string.h>
 
-static SisaBack back_accepted(SisaState state, uint8_t *restrict memory, uint16_t *restrict outputs,
-                              const uint64_t *restrict journal, uint64_t k)
+static SisaBack back_accepted(SisaState state, uint8_t *restrict memory, uint16_t *restrict inputs,
+                              uint16_t *restrict outputs, const uint64_t *restrict journal, uint64_t k)
 {
     uint16_t r[8];
     uint64_t at = state.journaled, fallen = 0;
@@ -15,11 +15,12 @@ static SisaBack back_accepted(SisaState state, uint8_t *restrict memory, uint16_
         uint64_t entry = journal[--at];
         uint16_t held = (uint16_t)(entry >> 16), where = (uint16_t)(entry >> 32);
         state.pc = (uint16_t)entry;
-        switch (entry >> 48) {
+        switch (entry >> 48 & 255) {
         case REGISTER: r[where & 7] = held; break;
         case WORD: store_word(memory, where, held); break;
         case BYTE: memory[where] = (uint8_t)held; break;
         case OUTPUT: outputs[where & 255] = held; fallen++; break;
+        case KEY: r[entry >> 56 & 7] = held; inputs[0] = where; break;
         default: break;
         }
     }
@@ -37,10 +38,10 @@ SisaBack plain_step_back(SisaState state,
 {
     uint8_t refusal = refusal_of_lent(&state, program_len, memory_len, inputs_len, outputs_len);
     uint64_t held = state.journaled < state.n ? state.journaled : state.n;
-    (void)program, (void)inputs;
+    (void)program;
     if (refusal == 0 && (journal_len < state.journaled ? 0 : held) < k)
         refusal = 14;
     if (refusal != 0)
         return (SisaBack){ .state = state, .refusal = refusal };
-    return back_accepted(state, memory, outputs, journal, k);
+    return back_accepted(state, memory, inputs, outputs, journal, k);
 }

@@ -17,7 +17,7 @@
 #define COUNT(kind, a, b, d) count(&usage, kind, a, b, d)
 
 static SisaRun run_accepted(SisaState state, const uint8_t *restrict program, uint8_t *restrict memory,
-                            const uint16_t *restrict inputs, uint16_t *restrict outputs, uint32_t budget,
+                            uint16_t *restrict inputs, uint16_t *restrict outputs, uint32_t budget,
                             uint64_t *restrict log, size_t log_len, uint64_t *restrict journal, size_t journal_len)
 {
     uint16_t r[8], pc = state.pc;
@@ -56,7 +56,7 @@ static SisaRun run_accepted(SisaState state, const uint8_t *restrict program, ui
             PUT_REGISTER(A, E != 0 ? w << 8 | (r[A] & 255) : extend8(w));
             COUNT(MOVI + E, E != 0 ? A : NONE, NONE, A); break;
         case ANY_F(10):
-            if (E == 0) { PUT_REGISTER(A, inputs[w & 255]); COUNT(IN, NONE, NONE, A); break; }
+            if (E == 0) { PUT_INPUT(A, w & 255); COUNT(IN, NONE, NONE, A); break; }
             if (entries == log_len) { stop = 2; goto stopped; }
             PUT_OUTPUT(w & 255, r[A]); COUNT(OUT, A, NONE, NONE);
             log[entries++] = (uint64_t)(state.n + steps) << 24 | (uint64_t)(w & 255) << 16 | r[A]; break;

@@ -21,6 +21,15 @@ static inline void store_word(uint8_t *bytes, uint16_t address, uint16_t v)
     at[1] = (uint8_t)(v >> 8);
 }
 
+/* IN's read of a port: from port 1 input 0 then becomes 0. */
+static inline uint16_t read_input(uint16_t *inputs, unsigned port)
+{
+    uint16_t v = inputs[port];
+    if (port == 1)
+        inputs[0] = 0;
+    return v;
+}
+
 /* x, of which the fill stands above bit 15, shifted by the low 5 bits of b read as signed. */
 static inline uint16_t shift(int32_t x, uint16_t b)
 {
@@ -63,8 +72,8 @@ static inline void count(SisaUsage *usage, unsigned kind, unsigned a, unsigned b
         usage->writes[d]++;
 }
 
-/* What a step overwrites. */
-enum { NOTHING, REGISTER, WORD, BYTE, OUTPUT };
+/* What a step overwrites. KEY is a register and input 0, the register's number 8 bits above it. */
+enum { NOTHING, REGISTER, WORD, BYTE, OUTPUT, KEY };
 
 /* An entry of the journal, from the low bits on: PC before the step, what was held, where, and which of these held it. */
 static inline uint64_t entry_of(uint16_t pc, uint16_t held, uint16_t where, unsigned what)
@@ -89,6 +98,8 @@ static inline uint64_t entry_of(uint16_t pc, uint16_t held, uint16_t where, unsi
 /* What a step of run_accepted writes, its entry kept first. */
 #define PUT_NOTHING() KEEP(0, 0, NOTHING)
 #define PUT_REGISTER(k, v) (KEEP(r[k], k, REGISTER), r[k] = (uint16_t)(v))
+#define PUT_INPUT(k, port) \
+    ((port) == 1 ? KEEP(r[k], inputs[0], KEY | (k) << 8) : KEEP(r[k], k, REGISTER), r[k] = read_input(inputs, port))
 #define PUT_WORD(at, v) (KEEP(load_word(memory, at), (at) & 0xFFFE, WORD), store_word(memory, at, v))
 #define PUT_BYTE(at, v) (KEEP(memory[at], at, BYTE), memory[at] = (uint8_t)(v))
 #define PUT_OUTPUT(port, v) (KEEP(outputs[port], port, OUTPUT), outputs[port] = (v))

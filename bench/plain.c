@@ -49,7 +49,7 @@ static inline int multiply(unsigned f, uint16_t a, uint16_t b)
 #define ADDRESS (uint16_t)(r[a] + extend6(w))
 
 static SisaRun run_accepted(SisaState state, const uint8_t *restrict program, uint8_t *restrict memory,
-                            const uint16_t *restrict inputs, uint16_t *restrict outputs, uint32_t budget,
+                            uint16_t *restrict inputs, uint16_t *restrict outputs, uint32_t budget,
                             uint64_t *restrict log, size_t log_len, uint64_t *restrict journal, size_t journal_len)
 {
     uint16_t r[8], pc = state.pc;
@@ -81,7 +81,7 @@ static SisaRun run_accepted(SisaState state, const uint8_t *restrict program, ui
             PUT_REGISTER(a, e != 0 ? w << 8 | (r[a] & 255) : extend8(w));
             count(&usage, MOVI + e, e != 0 ? a : NONE, NONE, a); break;
         case 10:
-            if (e == 0) { PUT_REGISTER(a, inputs[w & 255]); count(&usage, IN, NONE, NONE, a); break; }
+            if (e == 0) { PUT_INPUT(a, w & 255); count(&usage, IN, NONE, NONE, a); break; }
             if (entries == log_len) { stop = 2; goto stopped; }
             PUT_OUTPUT(w & 255, r[a]); count(&usage, OUT, a, NONE, NONE);
             log[entries++] = (uint64_t)(state.n + steps) << 24 | (uint64_t)(w & 255) << 16 | r[a]; break;

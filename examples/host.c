@@ -1,9 +1,9 @@
 /* A host in C: loads a trim, sets three inputs, runs it, shows the corrections, saves both memories and loads them again;
-   then takes the first steps one by one, steps back from the end of a run and goes forward again, and shows the usage sheet of
-   it all.
+   then takes the first steps one by one, steps back from the end of a run and goes forward again; presses the key for a second
+   trim, if one is named; and shows the usage sheet of it all.
 
        gcc -O2 -Iinclude examples/host.c target/staticlib/libsisa.a -o target/host_c
-       target/host_c examples/gain.trim */
+       target/host_c examples/gain.trim examples/key.trim */
 #include "sisa.h"
 
 #include <stdio.h>
@@ -49,9 +49,29 @@ static int refused(uint8_t refusal)
     return refusal != 0;
 }
 
-static void set_knobs(void)
+/* Reads a trim file and loads it. Returns 0 where it can't be read or is refused. */
+static int load(const char *path, SisaState *state)
+{
+    long length = read_file(path);
+    if (length < 0) {
+        fprintf(stderr, "%s: no file of at most %zu bytes\n", path, sizeof file);
+        return 0;
+    }
+    SisaLoad loaded = sisa_load(file, (size_t)length, program, sizeof program, memory, sizeof memory, inputs, PORTS,
+                                outputs, PORTS);
+    *state = loaded.state;
+    return !refused(loaded.refusal);
+}
+
+/* Port 0 is set before each run: reading port 1, the key's data, sets it to 0, also where the two are knobs. */
+static void set_level(void)
 {
     sisa_set_input(inputs, PORTS, 0, 500);
+}
+
+static void set_knobs(void)
+{
+    set_level();
     sisa_set_input(inputs, PORTS, 1, 320);
     sisa_set_input(inputs, PORTS, 2, 20);
     printf("inputs: port 0 level 500, port 1 gain 320/256, port 2 lift 20\n");
@@ -104,7 +124,7 @@ static int save_and_load(void)
     return 1;
 }
 
-/* Each step is a run by the table with budget 1, over the state held here. Memory and ports are as the run left them. */
+/* Each step is a run by the table with budget 1, over the state held here. Memory and outputs are as the run left them. */
 static void step_by_step(SisaState state)
 {
     for (int i = 0; i < HOST_STEPS; i++) {
@@ -125,6 +145,19 @@ static SisaRun run_with_journal(SisaState state, uint32_t budget)
                                           budget, port_log, LOG_PLACES, journal, BUDGET);
 }
 
+/* Shows the steps of a run taken back. Returns 0 where the call is refused. */
+static int step_back(SisaState *state, uint32_t steps)
+{
+    SisaBack back = sisa_step_back(*state, program, sizeof program, memory, sizeof memory, inputs, PORTS, outputs, PORTS,
+                                   journal, BUDGET, steps);
+    if (refused(back.refusal))
+        return 0;
+    printf("back: steps %u, entries fallen away %u\n", steps, (unsigned)back.entries);
+    print_state("state", &back.state);
+    *state = back.state;
+    return 1;
+}
+
 /* A run that keeps a journal, its last steps taken back, and as many steps again: the inputs are the same, so the log entries
    are too. The sheet has those steps twice. Returns 0 where a call is refused. */
 static int back_and_forward(SisaState state)
@@ -133,14 +166,35 @@ static int back_and_forward(SisaState state)
     if (!show_run("run by the table, with a journal", &run))
         return 0;
     uint32_t steps = run.steps < BACK_STEPS ? run.steps : BACK_STEPS;
-    SisaBack back = sisa_step_back(run.state, program, sizeof program, memory, sizeof memory, inputs, PORTS, outputs, PORTS,
-                                   journal, BUDGET, steps);
-    if (refused(back.refusal))
+    if (!step_back(&run.state, steps))
         return 0;
-    printf("back: steps %u, entries fallen away %u\n", steps, (unsigned)back.entries);
-    print_state("state", &back.state);
-    run = run_with_journal(back.state, steps);
+    run = run_with_journal(run.state, steps);
     return show_run("forward again", &run);
+}
+
+static void print_key(const char *title)
+{
+    printf("%s: port 0 status %u, port 1 data %u\n", title, inputs[0], inputs[1]);
+}
+
+/* Presses the key for a trim that waits for it. Reading the data takes the key: the status is 0 after that. Taking the steps back
+   gives the status what it was before the read. Returns 0 where a call is refused. */
+static int press_key(const char *path)
+{
+    SisaState state;
+    if (!load(path, &state))
+        return 0;
+    sisa_set_input(inputs, PORTS, 0, 1);
+    sisa_set_input(inputs, PORTS, 1, 65);
+    print_key("key pressed");
+    SisaRun run = run_with_journal(state, BUDGET);
+    if (!show_run("run by the table, with a journal", &run))
+        return 0;
+    print_key("key taken");
+    if (!step_back(&run.state, run.steps))
+        return 0;
+    print_key("key given back");
+    return 1;
 }
 
 /* The kinds that were done, and the registers. */
@@ -156,22 +210,22 @@ static void print_sheet(void)
 
 int main(int argc, char **argv)
 {
-    long length = argc == 2 ? read_file(argv[1]) : -1;
-    if (length < 0) {
-        fprintf(stderr, "usage: %s FILE.trim, of at most %zu bytes\n", argv[0], sizeof file);
+    if (argc != 2 && argc != 3) {
+        fprintf(stderr, "usage: %s FILE.trim [KEY.trim]\n", argv[0]);
         return 2;
     }
-    SisaLoad loaded = sisa_load(file, (size_t)length, program, sizeof program, memory, sizeof memory, inputs, PORTS,
-                                outputs, PORTS);
-    if (refused(loaded.refusal))
+    SisaState reset;
+    if (!load(argv[1], &reset))
         return 1;
     set_knobs();
-    SisaRun run = sisa_run_by_rules(loaded.state, program, sizeof program, memory, sizeof memory, inputs, PORTS,
-                                    outputs, PORTS, BUDGET, port_log, LOG_PLACES);
+    SisaRun run = sisa_run_by_rules(reset, program, sizeof program, memory, sizeof memory, inputs, PORTS, outputs, PORTS, BUDGET,
+                                    port_log, LOG_PLACES);
     if (!show_run("run by the rules", &run) || !save_and_load())
         return 1;
-    step_by_step(loaded.state);
-    if (!back_and_forward(loaded.state))
+    set_level();
+    step_by_step(reset);
+    set_level();
+    if (!back_and_forward(reset) || (argc == 3 && !press_key(argv[2])))
         return 1;
     print_sheet();
     return 0;

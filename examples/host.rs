@@ -1,9 +1,9 @@
 //! A host in Rust: loads a trim, sets three inputs, runs it, shows the corrections, saves both memories and loads them
-//! again; then takes the first steps one by one, steps back from the end of a run and goes forward again, and shows the
-//! usage sheet of it all. It prints what host.c prints.
+//! again; then takes the first steps one by one, steps back from the end of a run and goes forward again; presses the
+//! key for a second trim, if one is named; and shows the usage sheet of it all. It prints what host.c prints.
 //!
 //!     rustc --edition 2021 -O examples/host.rs -L target/staticlib -l static=sisa -o target/host_rs
-//!     target/host_rs examples/gain.trim
+//!     target/host_rs examples/gain.trim examples/key.trim
 
 use std::process::ExitCode;
 
@@ -377,8 +377,13 @@ struct Host {
 }
 
 impl Host {
+    /// Port 0 is set before each run: reading port 1, the key's data, sets it to 0, also where the two are knobs.
+    fn set_level(&mut self) -> Result<(), Refusal> {
+        self.machine.set_input(0, 500)
+    }
+
     fn set_knobs(&mut self) -> Result<(), Refusal> {
-        self.machine.set_input(0, 500)?;
+        self.set_level()?;
         self.machine.set_input(1, 320)?;
         self.machine.set_input(2, 20)?;
         println!("inputs: port 0 level 500, port 1 gain 320/256, port 2 lift 20");
@@ -430,11 +435,41 @@ impl Host {
         let run = self.run_with_journal(BUDGET, &mut journal)?;
         self.show_run("run by the table, with a journal", &run)?;
         let steps = run.steps.min(BACK_STEPS);
-        let entries = self.machine.step_back(&journal, steps)?;
-        println!("back: steps {steps}, entries fallen away {entries}");
-        self.machine.print("state");
+        self.step_back(&journal, steps)?;
         let again = self.run_with_journal(steps, &mut journal)?;
         self.show_run("forward again", &again)
+    }
+
+    /// Shows the steps of a run taken back.
+    fn step_back(&mut self, journal: &[u64], steps: u32) -> Result<(), Refusal> {
+        let entries = self.machine.step_back(journal, steps)?;
+        println!("back: steps {steps}, entries fallen away {entries}");
+        self.machine.print("state");
+        Ok(())
+    }
+
+    /// Presses the key for a trim that waits for it. Reading the data takes the key: the status is 0 after that. Taking
+    /// the steps back gives the status what it was before the read.
+    fn press_key(&mut self, file: &[u8]) -> Result<(), Refusal> {
+        self.machine = Machine::load(file)?;
+        self.machine.set_input(0, 1)?;
+        self.machine.set_input(1, 65)?;
+        self.print_key("key pressed");
+        let mut journal = [0; BUDGET as usize];
+        let run = self.run_with_journal(BUDGET, &mut journal)?;
+        self.show_run("run by the table, with a journal", &run)?;
+        self.print_key("key taken");
+        self.step_back(&journal, run.steps)?;
+        self.print_key("key given back");
+        Ok(())
+    }
+
+    fn print_key(&self, title: &str) {
+        let inputs = &self.machine.inputs;
+        println!(
+            "{title}: port 0 status {}, port 1 data {}",
+            inputs[0], inputs[1]
+        );
     }
 
     fn run_with_journal(&mut self, budget: u32, journal: &mut [u64]) -> Result<Report, Refusal> {
@@ -443,7 +478,7 @@ impl Host {
     }
 }
 
-fn host(file: &[u8]) -> Result<(), Refusal> {
+fn host(file: &[u8], key: Option<&[u8]>) -> Result<(), Refusal> {
     let mut host = Host {
         machine: Machine::load(file)?,
         log: [0; 64],
@@ -454,24 +489,31 @@ fn host(file: &[u8]) -> Result<(), Refusal> {
     let run = host.machine.run_by_rules(BUDGET, &mut host.log)?;
     host.show_run("run by the rules", &run)?;
     host.save_and_load()?;
-    // Twice from a reset state again; memory and ports are as they were left.
+    // Twice from a reset state again; memory and outputs are as they were left.
     host.machine.state = reset;
+    host.set_level()?;
     host.step_by_step()?;
     host.machine.state = reset;
+    host.set_level()?;
     host.back_and_forward()?;
+    if let Some(key) = key {
+        host.press_key(key)?;
+    }
     print_sheet(&host.sheet);
     Ok(())
 }
 
 fn main() -> ExitCode {
-    let Some(file) = std::env::args()
-        .nth(1)
-        .and_then(|path| std::fs::read(path).ok())
-    else {
-        eprintln!("usage: host_rs FILE.trim");
-        return ExitCode::from(2);
+    let files: Result<Vec<_>, _> = std::env::args().skip(1).map(std::fs::read).collect();
+    let (file, key) = match files.as_deref() {
+        Ok([file]) => (file, None),
+        Ok([file, key]) => (file, Some(key.as_slice())),
+        _ => {
+            eprintln!("usage: host_rs FILE.trim [KEY.trim]");
+            return ExitCode::from(2);
+        }
     };
-    match host(&file) {
+    match host(file, key) {
         Ok(()) => ExitCode::SUCCESS,
         Err(Refusal(number)) => {
             println!("refused: {number}");

@@ -147,7 +147,8 @@ SisaAssembly sisa_assemble(const uint8_t *text, size_t text_len, uint8_t *progra
 uint8_t sisa_set_input(uint16_t *inputs, size_t inputs_len, uint8_t port, uint16_t value);
 
 /* A run of at most `budget` steps by the rules. An entry of the log is n before the step times 16,777,216, plus the port
-   times 65,536, plus the value. Places of the log after the entries written keep their content. */
+   times 65,536, plus the value. Places of the log after the entries written keep their content. Input 0 is a key's status and
+   input 1 its data: IN from port 1 also sets input 0 to 0, so that a press is read only one time. A run changes no other input. */
 SisaRun sisa_run_by_rules(SisaState state,
                           const uint8_t *program, size_t program_len,
                           uint8_t *memory, size_t memory_len,
@@ -187,8 +188,9 @@ SisaRun sisa_run_by_table_with_journal(SisaState state,
                                        uint64_t *journal, size_t journal_len);
 
 /* Goes back k steps. Given state, memory, outputs and journal as the counted steps left them, registers, PC, n, data and outputs
-   become those of k steps earlier, and `journaled` is less by k. Inputs stay as set, program and journal as they are; running k
-   steps again with the inputs of the first time writes the same log entries. A usage sheet is not taken back.
+   become those of k steps earlier, and `journaled` is less by k. Inputs stay as set, but input 0 becomes what it held before the
+   earliest IN from port 1 that is taken back, where there is one, even if it was set since. Program and journal stay as they are;
+   running k steps again with the inputs of the first time writes the same log entries. A usage sheet is not taken back.
    A journal holds as many steps as the lesser of `journaled` and n, or none where it is shorter than `journaled`; where these are
    fewer than k, the call is refused with 14. So an accepted run without a journal, be it a host step or of budget 0, ends what can
    be stepped back. The journal may hold any numbers; others than runs wrote may leave PC odd, so that the next call is refused

@@ -56,12 +56,12 @@ module _ (g : BackGiven) where
       let held = passed (leb (g .k) (stepsHeld (g .state) (g .journal))) (λ x. clash (cc)) (even .1) in
       record { lengths = lent .0; even = eqb-true _ _ (even .0); held = leb-true _ _ (held .0) }
 
-  pub can-go : Passes g → CanGo (g .state) (g .D) (g .O) (g .journal) (g .k)
+  pub can-go : Passes g → CanGo (g .state) (g .D) (g .I) (g .O) (g .journal) (g .k)
   can-go p =
       let to-outputs = and-eq-true-iff _ (eqb (length (g .O)) 256) .0 (p .lengths) in
       let to-inputs = and-eq-true-iff _ (eqb (length (g .I)) 256) .0 (to-outputs .0) in
       let memories = and-eq-true-iff (eqb (length (g .P)) 65536) _ .0 (to-inputs .0) in
-      record { memory = eqb-true _ _ (memories .1); outputs = eqb-true _ _ (to-outputs .1); held = p .held }
+      record { memory = eqb-true _ _ (memories .1); inputs = eqb-true _ _ (to-inputs .1); outputs = eqb-true _ _ (to-outputs .1); held = p .held }
 
   pub refused-left : {n : ℕ} → refused n ≡ backVerdict g
       → _≡_ {A = BackLeft} (record { reply = back-refused n; state = g .state; P = g .P; D = g .D; I = g .I; O = g .O; journal = g .journal }) (backLeft g)
@@ -72,9 +72,9 @@ module _ (g : BackGiven) where
   unfolding backLeft
   accepted-left e = ap (λ v. backLeftBy v g) e
 
-  pub gone-left : {r : Backed} {D O : List ℕ} → accepted ≡ backVerdict g → GoneBack (g .state) (g .D) (g .O) (g .journal) (g .k) r D O
-      → _≡_ {A = BackLeft} (record { reply = shownGoing (r .reply); state = r .state; P = g .P; D = D; I = g .I; O = O; journal = g .journal }) (backLeft g)
-  gone-left e h = (λ i. left (shownGoing (h .reply i)) (sym (h .machine (g .P) (g .I) []) i)) ∙ accepted-left e
+  pub gone-left : {r : Backed} {D I O : List ℕ} → accepted ≡ backVerdict g → GoneBack (g .state) (g .D) (g .I) (g .O) (g .journal) (g .k) r D I O
+      → _≡_ {A = BackLeft} (record { reply = shownGoing (r .reply); state = r .state; P = g .P; D = D; I = I; O = O; journal = g .journal }) (backLeft g)
+  gone-left e h = (λ i. left (shownGoing (h .reply i)) (sym (h .machine (g .P) []) i)) ∙ accepted-left e
     where
       left : BackReply → Machine → BackLeft
       left reply m = record { reply = reply; state = m .state; P = m .P; D = m .D; I = m .I; O = m .O; journal = g .journal }

@@ -73,7 +73,8 @@ unfoldable pub fallen : ℕ → ℕ → List ℕ → ℕ
 fallen zero count journal = 0
 fallen (suc k) count journal = flag (isOutput (getD journal (count - 1) 0)) + fallen k (count - 1) journal
 
--- Going back k steps takes k off that count and restores registers, PC, n, data and outputs. Inputs stay as set.
+-- Going back k steps takes k off that count and restores registers, PC, n, data and outputs. Inputs stay as set, but for input 0 where a
+-- read of the key is undone (02, L8).
 abbrev pub machineBack : BackGiven → Machine
 machineBack g =
     let count = g .state .journaled in

@@ -11,13 +11,14 @@ use Rattle.back.specs.declared.Backed.{Backed}
 use Rattle.back.specs.declared.Going.the-variants.{Gone}
 use Rattle.back.specs.Backs.{stepsHeld, undone, fallen}
 
--- data and outputs have their lengths, and the journal holds k steps
-pub record CanGo (s : State) (D O journal : List ℕ) (k : ℕ) : Type 0 where
+-- data, inputs and outputs have their lengths, and the journal holds k steps
+pub record CanGo (s : State) (D I O journal : List ℕ) (k : ℕ) : Type 0 where
   pub memory : length D ≡ 65536
+  pub inputs : length I ≡ 256
   pub outputs : length O ≡ 256
   pub held : k ≤ stepsHeld s journal
 
--- state, data and outputs, D′ and O′, are those k entries earlier, and the reply says how many of these are an output's
-pub record GoneBack (s : State) (D O journal : List ℕ) (k : ℕ) (r : Backed) (D′ O′ : List ℕ) : Type 0 where
+-- state, data, inputs and outputs, D′, I′ and O′, are those k entries earlier, and the reply says how many of these are an output's
+pub record GoneBack (s : State) (D I O journal : List ℕ) (k : ℕ) (r : Backed) (D′ I′ O′ : List ℕ) : Type 0 where
   pub reply : r .reply ≡ Gone (fallen k (s .journaled) journal)
-  pub machine : (P I L : List ℕ) → onState (putJournaled (s .journaled - k)) (undone k (s .journaled) journal (machineWith s D O P I L)) ≡ machineWith (r .state) D′ O′ P I L
+  pub machine : (P L : List ℕ) → onState (putJournaled (s .journaled - k)) (undone k (s .journaled) journal (machineWith s D I O P L)) ≡ machineWith (r .state) D′ I′ O′ P L

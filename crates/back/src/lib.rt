@@ -35,9 +35,16 @@ fn steps_held(state: State, journal: &[u64]) -> u64
 }
 
 // The last k of the counted entries are undone in turn, the last first.
-fn go_back(start: State, memory: &mut [u8], outputs: &mut [u16], journal: &[u64], k: u64) -> Backed
-    requires { ⌜ CanGo start (now memory) (now outputs) (now journal) k ⌝ }
-    ensures { λ r. ⌜ GoneBack start (now (memory .entry)) (now (outputs .entry)) (now (journal .entry)) k r (now (memory .exit)) (now (outputs .exit)) ⌝ }
+fn go_back(
+    start: State,
+    memory: &mut [u8],
+    inputs: &mut [u16],
+    outputs: &mut [u16],
+    journal: &[u64],
+    k: u64,
+) -> Backed
+    requires { ⌜ CanGo start (now memory) (now inputs) (now outputs) (now journal) k ⌝ }
+    ensures { λ r. ⌜ GoneBack start (now (memory .entry)) (now (inputs .entry)) (now (outputs .entry)) (now (journal .entry)) k r (now (memory .exit)) (now (inputs .exit)) (now (outputs .exit)) ⌝ }
 {
     let mut state = start;
     let mut at = start.journaled as usize;
@@ -46,7 +53,7 @@ fn go_back(start: State, memory: &mut [u8], outputs: &mut [u16], journal: &[u64]
     while 0 < left {
         at -= 1;
         let entry = journal[at];
-        state = journal::undo(state, memory, outputs, entry);
+        state = journal::undo(state, memory, inputs, outputs, entry);
         fallen += journal::is_output(entry) as u64;
         left -= 1;
     }
@@ -56,7 +63,7 @@ fn go_back(start: State, memory: &mut [u8], outputs: &mut [u16], journal: &[u64]
     }
 }
 
-// k steps back. Program, inputs and journal stay.
+// k steps back. Program and journal stay.
 pub fn step_back(
     state: State,
     program: &[u8],
@@ -86,5 +93,5 @@ pub fn step_back(
             reply: Going::Refused(Refusal::ShortJournal),
         };
     }
-    go_back(state, memory, outputs, journal, k)
+    go_back(state, memory, inputs, outputs, journal, k)
 }

@@ -4,7 +4,7 @@ ghost use Prim.Native.Nat.{_+_, _*_, _%_, _<_};
 ghost use lib.ListN.{length, getD, set};
 ghost use Rattle.word.specs.Word.{clear0};
 ghost use Rattle.machine.specs.Lengths.{lengthsFit};
-ghost use Rattle.machine.specs.Machine.{wordAt, putWord, putByte};
+ghost use Rattle.machine.specs.Machine.{readFrom, wordAt, putWord, putByte};
 use machine::Address;
 use machine::Port;
 use machine::State;
@@ -94,6 +94,18 @@ pub fn read_port(ports: &[u16], port: Port) -> u16
 {
     let from = port.0 as usize;
     ports[from]
+}
+
+// IN's read: from port 1, the key's data, input 0, the key's status, then becomes zero (02, L8).
+pub fn read_input(inputs: &mut [u16], port: Port) -> u16
+    requires { ⌜ length (now inputs) ≡ 256 ⌝ }
+    ensures { λ v. ⌜ (v ≡ getD (now (inputs .entry)) (port .0) 0) × (now (inputs .exit) ≡ readFrom (port .0) (now (inputs .entry))) ⌝ }
+{
+    let v = read_port(inputs, port);
+    if port.0 == 1 {
+        inputs[0] = 0;
+    }
+    v
 }
 
 pub fn write_port(ports: &mut [u16], port: Port, v: u16)

@@ -18,9 +18,9 @@ use Rattle.word.proofs.Tables.{Each, looked-up}
 use Rattle.word.proofs.Tests.{never, either}
 use Rattle.isa.specs.Masks.{inMask}
 use Rattle.machine.specs.declared.State.{State}
-use Rattle.machine.specs.Machine.{Machine, R, putR, putPC, count, onState, putO, putD}
+use Rattle.machine.specs.Machine.{Machine, R, putR, putPC, count, onState, onInputs, putO, putD}
 use Rattle.machine.specs.Step.{PC, write, fetched}
-use Rattle.control.specs.Control.{second, units, unitField, result, next, writesPort, storedData, stored, written}
+use Rattle.control.specs.Control.{second, units, unitField, result, inputsAfter, next, writesPort, storedData, stored, written}
 use Rattle.claims.specs.Masks.{putOutside}
 use Rattle.claims.proofs.Touched.{maskOf, is, Few, in-one, in-or, destinations, destination, ended, does}
 
@@ -85,7 +85,7 @@ module _ (c f w x y : ℕ) where
       let u = getD (units f x (second c w y)) (unitField c) 0 in
       let v = result c w u (PC m) (m .D) (m .I) in
       let p = next c w x (PC m) in
-      ap (onState (ended c w v p)) (store-after k z u m) ∙ ended-after c w v p k z (stored c w x y u m)
+      ap (λ a. onState (ended c w v p) (onInputs (inputsAfter c w) a)) (store-after k z u m) ∙ ended-after c w v p k z (onInputs (inputsAfter c w) (stored c w x y u m))
 
 -- ---- Registers outside a mask
 

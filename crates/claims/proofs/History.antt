@@ -10,15 +10,15 @@ use Rattle.refusal.specs.Refusals.{Verdict, accepted, refused}
 use Rattle.word.proofs.Tests.{clash}
 use Rattle.machine.specs.Machine.{Machine, reset, putJournaled}
 use Rattle.machine.specs.Step.{PC, fetched, to, choice, stepBy, step}
-use Rattle.journal.specs.Journal.{entryOf}
-use Rattle.journal.specs.Ranges.{InRange}
+use Rattle.journal.specs.Journal.{keysBack, entryOf}
+use Rattle.journal.specs.Ranges.{Numbers, InRange}
 use Rattle.journal.proofs.Written.{numbers-set}
 use Rattle.panel.specs.Calls.{SetLeft, setLeft}
 use Rattle.image.specs.Image.{loaded}
 use Rattle.control.proofs.Laws.{lawful-rules}
 use Rattle.run.specs.Runs.{Journal, no-journal, lent-journal, stopped, CountedLeft, CountedMeets}
 use Rattle.back.specs.Backs.{BackLeft, gone-back, back-refused, backVerdict, backLeftBy, backLeft}
-use Rattle.back.proofs.Undone.{undone-counts}
+use Rattle.back.proofs.Undone.{undone-counts, undone-in-range}
 use Rattle.back.proofs.Left.{accepted-left}
 use Rattle.claims.specs.Session.{Engine, stepperOf, Lent, Host, hostOf, givenTo, afterRun, afterSet, machineOn}
 use Rattle.claims.specs.History.{heldAs, History, begins, steps, held, Past, taken, givenBack, afterBack, Histories}
@@ -75,13 +75,16 @@ module _ (h : Host) (xs : List ℕ) (ms : List Machine) (p : Past h xs ms) where
   back-drops k l eq e r =
       let g = givenBack h xs k in
       let few = went h xs ms p k l eq e r in
+      let I = keysBack (take k ms) (h .I) in
+      let back = returned h xs ms p k few in
+      let there = undone-in-range xs k (h .state .journaled) (machineOn h []) (known (p .history) .sound .in-range) in
       subst (λ l. Past (afterBack l) xs (drop k ms)) (accepted-left g (may-go h xs ms p k few) ∙ sym eq)
       (record {
         counted = ap (λ c. c - k) (p .counted) ∙ sym (length-drop k ms);
         few = omega (arith, p .few, undone-counts xs k (h .state .journaled) (machineOn h []));
         history =
-            subst (λ m. History xs m (drop k ms)) (sym (returned h xs ms p k few))
-            (held (earlier-history k ms (p .history)) (length ms - k) (h .I) [] (known (p .history) .sound .in-range .inputs));
+            subst (λ m. History xs m (drop k ms)) (sym back)
+            (held (earlier-history k ms (p .history)) (length ms - k) I [] (subst (Numbers 256 65536) (ap (λ m. m .I) back) (there .inputs)));
       })
 
   back-refused-keeps : (k : ℕ) (l : BackLeft) → l ≡ backLeft (givenBack h xs k) → (r : ℕ) → l .reply ≡ back-refused r → Past (afterBack l) xs ms

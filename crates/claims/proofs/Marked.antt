@@ -1,4 +1,4 @@
--- The marked cases: the words of a to g by computing them, the instructions of h to l through the sheet's rules.
+-- The marked cases: the words of a to g and of the key by computing them, the instructions of h to l through the sheet's rules.
 -- Assumes nothing.
 use mathlib.Core.Path.{_≡_, refl, _∙_, ap, ap₂}
 use mathlib.Core.Bool.{Bool, true, false}
@@ -19,8 +19,8 @@ use Rattle.kinds.specs.declared.Kind.the-variants.{Sha, Shl, Cmplt, Cmpltu, Ldb
 use Rattle.isa.specs.declared.Instruction.{Instruction}
 use Rattle.isa.specs.Sheet.{kindAt, sheetLine}
 use Rattle.isa.specs.Instructions.{readOf, writeOf}
-use Rattle.machine.specs.Machine.{Machine, count, onState, wordAt}
-use Rattle.machine.specs.Step.{PC, write, jump, Rule, addi, ld, jalr, bnz, movi, movhi, rule, choice, cannot, to, stepBy, step}
+use Rattle.machine.specs.Machine.{Machine, count, onState, readFrom, wordAt}
+use Rattle.machine.specs.Step.{PC, write, jump, Rule, addi, ld, jalr, bnz, movi, movhi, input, rule, choice, cannot, to, stepBy, step}
 use Rattle.claims.specs.Instructions.{RegisterRange, InRange}
 use Rattle.claims.specs.Rules.{r, SE-n, done, effect, stepAs}
 use Rattle.claims.specs.Marked.{registers, Steps, Does, Gives, Marked}
@@ -56,7 +56,7 @@ gives k g s e m d a b p q =
     (λ i l. there (m .state .r) d l (few (sheetLine k .format .d) d (i .d)) (ap₂ g p q ∙ e))
 
 pub marked : Marked
-unfolding readOf writeOf kindAt signed lowBits SE shifted choice addi ld jalr bnz movi movhi
+unfolding readOf writeOf kindAt signed lowBits SE shifted choice addi ld jalr bnz movi movhi input
 marked =
     record {
       a = (refl, refl);
@@ -76,4 +76,9 @@ marked =
       k = λ m d a n p. by-sheet (record { kind = Ldb; a = a; b = 0; d = d; n = n }) m refl (λ i l. there (m .state .r) d l (i .d) (ap (λ x. SE-n (signed 8 x)) p));
       l = λ m a n p q. by-sheet (record { kind = Bz; a = a; b = 0; d = 0; n = n }) m refl (λ i l. rw (ne-eqb _ 0 q, p));
       division = gives Div div (λ m d a b q. ap (λ x. pick (eqb x 0) (cannot 3) (done (write d (div (r m a) (r m b)) m))) q) refl;
+      key =
+          λ m others p. (
+            by-word 0xA601 input m refl (λ l. (there (m .state .r) 3 l (omega arith) (ap (λ I. getD I 1 0) p), ap (readFrom 1) p)),
+            by-word 0xA600 input m refl (λ l. (there (m .state .r) 3 l (omega arith) (ap (λ I. getD I 0 0) p), p)),
+          );
     }

@@ -32,14 +32,14 @@ if-used : (t : Bool) {x y : ℕ} → (t ≡ true → x ≡ y) → pick t x 0 ≡
 if-used true e = e refl
 if-used false e = refl
 
-abbrev done : ℕ → Machine → Machine
+abbrev pub done : ℕ → Machine → Machine
 done w m = does (control w) (f-of w) w (Ra w m) (Rb w m) m
 
 -- the machine's step
-abbrev stepOf : ℕ → Machine → Next
+abbrev pub stepOf : ℕ → Machine → Next
 stepOf w m = pick (assigned (control w) w) (pick (zeroDivisor (control w) w (Rb w m)) (cannot 3) (to (done w m))) (cannot 1)
 
-step-is : (m : Machine) → step m ≡ stepOf (fetched m) m
+pub step-is : (m : Machine) → step m ≡ stepOf (fetched m) m
 unfolding step controlStep controlIn performed unit does
 step-is m = sym (agreement (fetched m) m)
 

@@ -9,9 +9,9 @@ use Rattle.refusal.specs.Refusals.{Verdict, accepted, refused}
 use Rattle.word.specs.Word.{flag}
 use Rattle.word.proofs.Tests.{clash}
 use Rattle.machine.specs.Machine.{Machine, putJournaled, onState}
-use Rattle.journal.specs.Journal.{undo, isOutput, butFor, entryOf}
+use Rattle.journal.specs.Journal.{undo, isOutput, keyBack, keysBack, butFor, entryOf}
 use Rattle.journal.specs.Ranges.{InRange}
-use Rattle.journal.proofs.Undone.{taken-back}
+use Rattle.journal.proofs.Undone.{key-back-in-range, taken-back}
 use Rattle.back.specs.Backs.{gone-back, BackLeft, stepsHeld, backVerdict, undone, fallen, backLeftBy, backLeft}
 use Rattle.back.proofs.Held.{holds-all}
 use Rattle.back.proofs.Left.{accepts, passes}
@@ -27,7 +27,7 @@ one-less n = omega arith
 -- ---- The entries undone
 
 undo-last : {xs : List ℕ} {m p : Machine} {ms : List Machine} → InRange p → Last xs m p ms
-    → undo (getD xs (length ms) 0) m ≡ heldAs (m .state .journaled) (m .I) (m .L) p
+    → undo (getD xs (length ms) 0) m ≡ heldAs (m .state .journaled) (keyBack p (m .I)) (m .L) p
 undo-last {m} {p} r l =
     let c = m .state .journaled in
     ap (λ x. undo x m) (l .entry)
@@ -35,25 +35,27 @@ undo-last {m} {p} r l =
     ∙ undo-counted (entryOf p) c (butFor (m .I) (m .L) (l .next))
     ∙ ap (onState (putJournaled c)) (taken-back p (l .next) r (l .stepped) .undone (m .I) (m .L))
 
-earlier-held : (k c : ℕ) (I L : List ℕ) (m : Machine) (ms : List Machine)
-    → heldAs c I L (earlier k (heldAs c I L m) ms) ≡ heldAs c I L (earlier k m ms)
+earlier-held : (k c : ℕ) (J I L : List ℕ) (m : Machine) (ms : List Machine)
+    → heldAs c J L (earlier k (heldAs c I L m) ms) ≡ heldAs c J L (earlier k m ms)
 unfolding earlier
-earlier-held zero c I L m ms = refl
-earlier-held (suc k) c I L m [] = refl
-earlier-held (suc k) c I L m (p ∷ ms) = refl
+earlier-held zero c J I L m ms = refl
+earlier-held (suc k) c J I L m [] = refl
+earlier-held (suc k) c J I L m (p ∷ ms) = refl
 
 pub undone-is : {xs : List ℕ} {m : Machine} (k : ℕ) (ms : List Machine) → k ≤ length ms → History xs m ms
-    → undone k (length ms) xs m ≡ heldAs (m .state .journaled) (m .I) (m .L) (earlier k m ms)
-unfolding undone earlier
+    → undone k (length ms) xs m ≡ heldAs (m .state .journaled) (keysBack (take k ms) (m .I)) (m .L) (earlier k m ms)
+unfolding undone earlier keysBack
 undone-is zero ms h z = refl
 undone-is (suc k) [] h z = absurd (omega arith)
 undone-is {xs} {m} (suc k) (p ∷ ms) h z =
     let l = last z in
     let c = m .state .journaled in
+    let r = known (l .before) .sound .in-range in
+    let I = keyBack p (m .I) in
     ap (λ i. undone k i xs (undo (getD xs i 0) m)) (one-less (length ms))
-    ∙ ap (undone k (length ms) xs) (undo-last (known (l .before) .sound .in-range) l)
-    ∙ undone-is k ms (omega arith) (held (l .before) c (m .I) (m .L) (known z .sound .in-range .inputs))
-    ∙ earlier-held k c (m .I) (m .L) p ms
+    ∙ ap (undone k (length ms) xs) (undo-last r l)
+    ∙ undone-is k ms (omega arith) (held (l .before) c I (m .L) (key-back-in-range r (known z .sound .in-range .inputs)))
+    ∙ earlier-held k c (keysBack (take k ms) I) I (m .L) p ms
 
 -- those of them that are an output's are of OUTs
 pub fallen-is : {xs : List ℕ} {m : Machine} (k : ℕ) (ms : List Machine) → k ≤ length ms → History xs m ms → fallen k (length ms) xs ≡ outs (take k ms)
@@ -88,7 +90,7 @@ module _ (h : Host) (xs : List ℕ) (ms : List Machine) (p : Past h xs ms) (k : 
       by-verdict (refused n) v r = clash (cc)
 
   pub returned : k ≤ length ms
-      → machineOn (afterBack (backLeftBy accepted (givenBack h xs k))) [] ≡ heldAs (length ms - k) (h .I) [] (earlier k (machineOn h []) ms)
+      → machineOn (afterBack (backLeftBy accepted (givenBack h xs k))) [] ≡ heldAs (length ms - k) (keysBack (take k ms) (h .I)) [] (earlier k (machineOn h []) ms)
   returned e =
       ap (λ c. after c (undone k c xs (machineOn h []))) (p .counted) ∙ ap (after (length ms)) (undone-is k ms e (p .history))
     where

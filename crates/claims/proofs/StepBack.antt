@@ -1,19 +1,25 @@
--- Going back by Returned, and forward again by Rerun, stretch by stretch.
+-- Going back by Returned, and forward again by Rerun, stretch by stretch; and the key over the steps gone back.
 -- Assumes nothing.
 use mathlib.Core.Path.{_≡_, refl, sym, ap, subst, _∙_}
+use mathlib.Core.Bool.{true}
 use mathlib.Core.Logic.{inl, inr}
-use mathlib.Core.List.{List, []}
-use Prim.Native.Nat.{ℕ, _+_, _-_, _≤_}
+use mathlib.Core.List.{List, [], _∷_, _++_}
+use Prim.Native.Nat.{ℕ, suc, _+_, _-_, _≤_}
 use native.Mathlib.Omega.{arith}
-use lib.ListN.{length, take, length-take, length-reverse}
+use lib.ListN.{length, getD, set, take, length-take, length-reverse}
+use lib.Seq.{set-set}
 use Rattle.refusal.specs.Refusals.{Verdict, accepted, refused}
+use Rattle.word.specs.Word.{pick}
+use Rattle.word.proofs.Tests.{either}
 use Rattle.machine.specs.Machine.{Machine}
+use Rattle.machine.specs.Step.{fetched}
+use Rattle.journal.specs.Journal.{readsKey, keyBack, keysBack}
 use Rattle.run.specs.Runs.{Journal, stopped, CountedLeft}
 use Rattle.back.specs.Backs.{BackLeft, gone-back, backVerdict, fallen, backLeftBy, backLeft}
 use Rattle.back.proofs.Left.{accepted-left}
 use Rattle.claims.specs.Session.{Engine, Host, machineOn}
 use Rattle.claims.specs.History.{heldAs, Past, givenBack, afterBack}
-use Rattle.claims.specs.StepBack.{earlier, outs, gained, lastSteps, WentBack, RunsAgain, Again, Keeps, countIn, StepBack}
+use Rattle.claims.specs.StepBack.{earlier, outs, gained, lastSteps, WentBack, RunsAgain, Again, Keeps, countIn, NoKeyRead, StepBack}
 use Rattle.claims.proofs.Pasts.{known, earlier-history}
 use Rattle.claims.proofs.Kept.{last-kept}
 use Rattle.claims.proofs.Returned.{may-go, went, returned, fallen-is}
@@ -36,7 +42,7 @@ module _ (h : Host) (xs : List ℕ) (ms : List Machine) (p : Past h xs ms) (k : 
       ap (λ (x : BackLeft). x .reply) (gone few)
       ∙ ap gone-back (ap (λ c. fallen k c xs) (p .counted) ∙ fallen-is k ms few (p .history))
 
-  restores : k ≤ length ms → machineOn (afterBack l) [] ≡ heldAs (length ms - k) (h .I) [] (earlier k (machineOn h []) ms)
+  restores : k ≤ length ms → machineOn (afterBack l) [] ≡ heldAs (length ms - k) (keysBack (take k ms) (h .I)) [] (earlier k (machineOn h []) ms)
   restores few = ap (λ (x : BackLeft). machineOn (afterBack x) []) (gone few) ∙ returned h xs ms p k few
 
   stays : l .journal ≡ xs
@@ -93,6 +99,24 @@ module _ (h : Host) (xs : List ℕ) (ms : List Machine) (p : Past h xs ms) (k : 
         let here = restores few in
         run-again again (holds (afterBack l) (own then here)) (lending keeps (ap (λ x. x .state .journaled) here))
 
+-- ---- The key
+
+unread : (ms : List Machine) (I : List ℕ) → NoKeyRead ms → keysBack ms I ≡ I
+unfolding keysBack
+unread [] I h = refl
+unread (m ∷ ms) I h =
+    ap (λ t. keysBack ms (pick t (set I 0 (getD (m .I) 0 0)) I)) (h 0 m ms refl) ∙ unread ms I (λ j. h (suc j))
+
+-- what a later read gave input 0 is overwritten
+earliest : (later before : List Machine) (m : Machine) (I : List ℕ) → readsKey (fetched m) ≡ true → NoKeyRead before
+    → keysBack (later ++ m ∷ before) I ≡ set I 0 (getD (m .I) 0 0)
+unfolding keysBack
+earliest [] before m I e h = unread before (keyBack m I) h ∙ ap (λ t. pick t (set I 0 (getD (m .I) 0 0)) I) e
+earliest (q ∷ later) before m I e h =
+    let v = getD (m .I) 0 0 in
+    earliest later before m (keyBack q I) e h
+    ∙ either (λ J. set J 0 v ≡ set I 0 v) (readsKey (fetched q)) (set-set I 0 (getD (q .I) 0 0) v) refl
+
 -- ---- THE CLAIM
 
 pub step-back : StepBack
@@ -113,4 +137,6 @@ step-back =
       again = λ h last xs ms p k l left few j j′ keeps es again.
           let z = ran-again h xs ms p k l left few last j j′ keeps es again in
           (z .entries, z .there, inputs-after (take k ms) (l .I) (last .I) (z .inputs), z .journal);
+      no-key-read = unread;
+      earliest-key-read = earliest;
     }

@@ -143,6 +143,7 @@ repeated {z} (link {m} {led} {next} {ms} s e h ch) u c I L i =
     let L′ = L ++ drop (length (m .L)) (led .L) in
     let stepped : step (heldAs c I L m) ≡ to (heldAs c (led .I) L′ next) =
     ap (λ I. step (heldAs c I L m)) i ∙ step-held c L m e ∙ ap (λ x. to (heldAs c (led .I) L′ x)) (sym h) in
+    let entry = ap (λ I. entryOf (heldAs c I L m)) i ∙ entry-held c L m in
     let r = repeated ch (unset-rest u) c (led .I) L′ (unset-starts u e) in
     let gains : L′ ++ gained ms ≡ L ++ gained (m ∷ ms) =
     append-assoc L _ (gained ms) ∙ ap (λ x. L ++ (gainedTo m x ++ gained ms)) (sym e) in
@@ -150,5 +151,5 @@ repeated {z} (link {m} {led} {next} {ms} s e h ch) u c I L i =
     record {
       ts = heldAs c I L m ∷ r .ts;
       walk = then stepped (subst (Walk (heldAs c (led .I) L′ next) (r .ts)) (λ k. heldAs c (inputs k) (gains k) z) (r .walk));
-      entries = λ k. entry-held c I L m k ∷ r .entries k;
+      entries = λ k. entry k ∷ r .entries k;
     }

@@ -1,5 +1,5 @@
--- Which registers the step of a control word writes and looks at: three equations of tables, by opcode, e and f, which antt computes for an
--- unknown word, Ra, Rb and machine.
+-- Which registers the step of a control word writes and looks at, and which inputs it leaves: four equations of tables, by opcode, e and f,
+-- which antt computes for an unknown word, Ra, Rb and machine.
 -- Assumes nothing.
 use mathlib.Core.Path.{_≡_, refl, ap, _∙_}
 use mathlib.Core.Bool.{Bool, true, false, _&&_, _||_, or-true, Bool·beq}
@@ -10,8 +10,8 @@ use native.Mathlib.Omega.{arith}
 use borrow.Author.Tests.{eq-eqb}
 use lib.Bits.{bitOr, or-shr, or-mod}
 use lib.Dec.{T, eqb}
-use lib.ListN.{getD}
-use Rattle.word.specs.Fields.{bits, field, opcode, a-of, b-of, e-of, f-of}
+use lib.ListN.{getD, set}
+use Rattle.word.specs.Fields.{bits, field, opcode, a-of, b-of, e-of, f-of, N8}
 use Rattle.word.specs.Word.{pick, operation, comparison}
 use Rattle.muldiv.specs.Muldiv.{muldiv}
 use Rattle.word.proofs.Computed.{all, all-at}
@@ -22,9 +22,10 @@ use Rattle.isa.specs.Sheet.{kindAt}
 use Rattle.isa.specs.Masks.{Masks, inMask, masksAs, masksOf}
 use Rattle.isa.specs.Instructions.{Register, a-register, b-register, d-register}
 use Rattle.machine.specs.declared.State.{State}
-use Rattle.machine.specs.Machine.{Machine, putPC, count, onState}
+use Rattle.machine.specs.Machine.{Machine, putPC, count, onState, onInputs}
 use Rattle.machine.specs.Step.{PC, d5-3, d8-6, d11-9}
-use Rattle.control.specs.Control.{second, units, unitField, result, next, storedData, stored, written, takes, assigned, divides, zeroDivisor, table as controls}
+use Rattle.journal.specs.Journal.{readsKey}
+use Rattle.control.specs.Control.{second, units, unitField, result, inputsAfter, next, storedData, stored, written, takes, assigned, divides, zeroDivisor, table as controls}
 use Rattle.claims.specs.Masks.{saidToUse}
 use Rattle.usage.proofs.Functions.{table}
 use Rattle.claims.proofs.Rules.{table-of, at-word}
@@ -110,7 +111,7 @@ ended c w v p s = written c w v (putPC p (count s))
 unfoldable pub does : ℕ → ℕ → ℕ → ℕ → ℕ → Machine → Machine
 does c f w x y m =
     let u = getD (units f x (second c w y)) (unitField c) 0 in
-    onState (ended c w (result c w u (PC m) (m .D) (m .I)) (next c w x (PC m))) (stored c w x y u m)
+    onState (ended c w (result c w u (PC m) (m .D) (m .I)) (next c w x (PC m))) (onInputs (inputsAfter c w) (stored c w x y u m))
 
 -- Ra and Rb are used
 abbrev pub uses-x : Entry → Bool
@@ -124,8 +125,20 @@ unfoldable pub does-used : Entry → ℕ → ℕ → ℕ → ℕ → ℕ → Mac
 does-used k c f w x y m = does c f w (pick (uses-x k) x 0) (pick (uses-y k) y 0) m
 
 same-uses : table-of (λ op e f. does (controlAt op e) f) ≡ table-of (λ op e f. does-used (kindAt op e f) (controlAt op e) f)
-unfolding table does does-used kindAt second result next storedData stored written operation comparison muldiv
+unfolding table does does-used kindAt second result inputsAfter next storedData stored written operation comparison muldiv
 same-uses = refl
+
+-- the inputs that it leaves
+leaves : ℕ → ℕ → ℕ → ℕ → ℕ → ℕ → Machine → List ℕ
+leaves op e f w x y m = does (controlAt op e) f w x y m .I
+
+-- as they were, but for IN from port 1
+said-to-leave : ℕ → ℕ → ℕ → ℕ → ℕ → ℕ → Machine → List ℕ
+said-to-leave op e f w x y m = pick (eqb op 10 && eqb e 0 && eqb (N8 w) 1) (set (m .I) 0 0) (m .I)
+
+same-inputs : table-of leaves ≡ table-of said-to-leave
+unfolding table does leaves said-to-leave inputsAfter stored
+same-inputs = refl
 
 -- whether the divisor is zero, of Rb; and the same, of 0 for it where it is not used
 zero-at : ℕ → ℕ → ℕ → ℕ → Bool
@@ -182,6 +195,10 @@ module _ (w : ℕ) where
 
   pub used : (x y : ℕ) (m : Machine) → does control (f-of w) w x y m ≡ does-used kind control (f-of w) w x y m
   used x y m = ap (λ g. g w x y m) (at-word _ _ same-uses w)
+
+  pub inputs-left : (x y : ℕ) (m : Machine) → does control (f-of w) w x y m .I ≡ pick (readsKey w) (set (m .I) 0 0) (m .I)
+  unfolding leaves said-to-leave
+  inputs-left x y m = ap (λ g. g w x y m) (at-word _ _ same-inputs w)
 
   pub zero-used : (y : ℕ) → zeroDivisor control w y ≡ zeroDivisor control w (pick (uses-y kind) y 0)
   unfolding zeroDivisor zero-at

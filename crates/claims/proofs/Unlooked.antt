@@ -9,11 +9,11 @@ use lib.Seq.{drop-append-seam, drop-length}
 use Rattle.word.specs.Fields.{bits, field, N8}
 use Rattle.word.specs.Word.{pick}
 use Rattle.machine.specs.declared.State.{State}
-use Rattle.machine.specs.Machine.{Machine, putR, putPC, putN, putJournaled, onState, putD, putO, count}
+use Rattle.machine.specs.Machine.{Machine, putR, putPC, putN, putJournaled, onState, putD, onInputs, putO, count}
 use Rattle.machine.specs.Step.{PC, Ra, Rb, d5-3, d8-6, d11-9, fetched, Next, cannot, to, step}
 use Rattle.machine.specs.Run.{Stepper}
-use Rattle.journal.specs.Journal.{Overwritten, nothing, register, data-word, data-byte, output-word, pcIn, overwritten, entryOf, overwrittenIn, putBack, undo}
-use Rattle.control.specs.Control.{unit, result, next, writesPort, storedData, stored, written, performed, assigned, zeroDivisor, controlStep, controlIn, byControl, table}
+use Rattle.journal.specs.Journal.{Overwritten, nothing, register, data-word, data-byte, output-word, key-read, pcIn, overwritten, entryOf, overwrittenIn, putBack, undo}
+use Rattle.control.specs.Control.{unit, result, inputsAfter, next, writesPort, storedData, stored, written, performed, assigned, zeroDivisor, controlStep, controlIn, byControl, table}
 use Rattle.control.proofs.Agreement.{same-stepper}
 use Rattle.claims.specs.History.{heldAs}
 
@@ -50,11 +50,14 @@ module _ (c : ℕ) (l : List ℕ) (m : Machine) where
       after : ℕ → State → State
       after v s = written k w v (putPC (next k w (Ra w m) (PC m)) (count s))
 
+      reads : Machine → Machine
+      reads x = onInputs (inputsAfter k w) x
+
       by-port : (t : Bool) (v : ℕ) (D : List ℕ)
-          → onState (after v) (pick t (putO (N8 w) (Ra w m) before) (putD D before))
-          ≡ onward c l m (onState (after v) (pick t (putO (N8 w) (Ra w m) m) (putD D m)))
-      by-port true v D = with-both (onState (after v) (putO (N8 w) (Ra w m) m)) (written-held k w v _) (ap (λ (es : List ℕ). l ++ es) (sym (drop-append-seam (m .L) _)))
-      by-port false v D = with-both (onState (after v) (putD D m)) (written-held k w v _) (sym (ap (λ (es : List ℕ). l ++ es) (drop-length (m .L)) ∙ append-nil l))
+          → onState (after v) (reads (pick t (putO (N8 w) (Ra w m) before) (putD D before)))
+          ≡ onward c l m (onState (after v) (reads (pick t (putO (N8 w) (Ra w m) m) (putD D m))))
+      by-port true v D = with-both (onState (after v) (reads (putO (N8 w) (Ra w m) m))) (written-held k w v _) (ap (λ (es : List ℕ). l ++ es) (sym (drop-append-seam (m .L) _)))
+      by-port false v D = with-both (onState (after v) (reads (putD D m))) (written-held k w v _) (sym (ap (λ (es : List ℕ). l ++ es) (drop-length (m .L)) ∙ append-nil l))
 
   control-held : (words : List ℕ) → byControl words .steps before ≡ onwardNext c l m (byControl words .steps m)
   unfolding controlStep fetched
@@ -74,11 +77,11 @@ module _ (c : ℕ) (l : List ℕ) (m : Machine) where
   step-held e =
       subst (λ (v : Stepper). v .steps before ≡ onwardNext c l m (v .steps m)) same-stepper (control-held table) ∙ ap (onwardNext c l m) e
 
--- ---- An entry
+-- ---- An entry: of the inputs it holds what a read of the key takes
 
-pub entry-held : (c : ℕ) (I L : List ℕ) (m : Machine) → entryOf (heldAs c I L m) ≡ entryOf m
+pub entry-held : (c : ℕ) (L : List ℕ) (m : Machine) → entryOf (heldAs c (m .I) L m) ≡ entryOf m
 unfolding entryOf overwritten fetched
-entry-held c I L m = refl
+entry-held c L m = refl
 
 -- ---- A step taken back
 
@@ -92,3 +95,4 @@ undo-counted x c m = ap (onState (λ s. putPC (pcIn x) (putN (s .n - 1) s))) (go
     go (data-word k v) = refl
     go (data-byte k v) = refl
     go (output-word k v) = refl
+    go (key-read k v s) = refl

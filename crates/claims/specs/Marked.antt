@@ -1,5 +1,6 @@
--- The marked cases of 01, and the one that 02 (L6) marks. What a row does not mention, other registers, memory, ports, is any.
+-- The marked cases of 01, the one that 02 (L6) marks, and a read of the key (02, L8). What a row does not mention, other registers, memory, ports, is any.
 use mathlib.Core.Path.{_≡_}
+use mathlib.Core.List.{List, _∷_}
 use Prim.Native.Nat.{ℕ}
 use lib.IntN.{ℤ, pos}
 use lib.ListN.{length, getD}
@@ -62,3 +63,9 @@ pub record Marked : Type 0 where
       → Does (record { kind = Bz; a = a; b = 0; d = 0; n = n }) m (λ next. PC next ≡ 0)
   -- 02, L6: 0x8000 by 0xFFFF is 0x8000.
   pub division : Gives Div 0x8000 0xFFFF 0x8000
+  -- 02, L8, with input 0 = 5 and input 1 = 7: 0xA601 (IN R3,1) gives R3 = 7, and then input 0 is 0 and no other input changed; 0xA600
+  -- (IN R3,0) gives R3 = 5, and no input changes.
+  pub key :
+      (m : Machine) (others : List ℕ) → m .I ≡ 5 ∷ 7 ∷ others
+      → Steps 0xA601 m (λ next. (r next 3 ≡ 7) × (next .I ≡ 0 ∷ 7 ∷ others))
+      × Steps 0xA600 m (λ next. (r next 3 ≡ 5) × (next .I ≡ 5 ∷ 7 ∷ others))

@@ -1,5 +1,6 @@
 -- Which registers an instruction touches (02, L4): a step changes no register outside `writes`; machines alike but for registers
--- outside `reads` step alike in all else, the written register included; and neither mask is larger than it need be.
+-- outside `reads` step alike in all else, the written register and the inputs included; and neither mask is larger than it need be.
+-- Masks are of registers alone: the input that IN sets to zero (02, L8) is in none.
 use mathlib.Core.Bool.{Bool, true, false, not, _&&_, _||_}
 use mathlib.Core.Path.{_≡_}
 use mathlib.Core.List.{List, [], _∷_}

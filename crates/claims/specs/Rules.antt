@@ -13,7 +13,7 @@ use Rattle.kinds.specs.declared.Kind.{Kind}
 use Rattle.kinds.specs.declared.Kind.the-variants.{And, Or, Xor, Not, Add, Sub, Sha, Shl, Cmplt, Cmple, Cmpeq, Cmpltu, Cmpleu, Addi, Ld, St, Ldb, Stb, Jalr, Bz, Bnz, Movi, Movhi, In, Out, Mul, Mulh, Mulhu, Div, Divu}
 use Rattle.isa.specs.declared.Instruction.{Instruction}
 use Rattle.isa.specs.Instructions.{instruction, unassigned, readOf, word, writeOf}
-use Rattle.machine.specs.Machine.{Machine, R, count, onState, putD, putO, wordAt, putWord, putByte}
+use Rattle.machine.specs.Machine.{Machine, R, count, onState, putD, readFrom, onInputs, putO, wordAt, putWord, putByte}
 use Rattle.machine.specs.Step.{PC, write, jump, Next, cannot, to, fetched, step}
 
 -- the content of register k
@@ -81,8 +81,8 @@ effect Bnz a b d n m = done (pick (eqb (r m a) 0) m (jump (add (PC m) (SE-n n * 
 effect Movi a b d n m = done (write d (SE-n n) m)
 -- MOVHI Rd, N8        Rd<15..8>=N8
 effect Movhi a b d n m = done (write d (r m d % 256 + natAbs n * 256) m)
--- IN Rd, N8           Rd=Input[N8]
-effect In a b d n m = done (write d (getD (m .I) (natAbs n) 0) m)
+-- IN Rd, N8           Rd=Input[N8]; from port 1 then Input[0]=0
+effect In a b d n m = done (onInputs (readFrom (natAbs n)) (write d (getD (m .I) (natAbs n) 0) m))
 -- OUT N8, Ra          Output[N8]=Ra
 effect Out a b d n m = done (putO (natAbs n) (r m a) m)
 -- MUL Rd, Ra, Rb      Rd=(Ra*Rb)<15..0>

@@ -1,14 +1,16 @@
--- Stepping back (02, L7): what going back k steps restores, from any history; and that running forward again with the same inputs does the
--- same. Each call is known by its contract alone.
+-- Stepping back (02, L7, and L8's key): what going back k steps restores, from any history; and that running forward again with the same
+-- inputs does the same. Each call is known by its contract alone.
 use mathlib.Core.Path.{_≡_}
+use mathlib.Core.Bool.{true, false}
 use mathlib.Core.Logic.{_⊎_, _↔_}
 use mathlib.Core.List.{List, [], _∷_, _++_, reverse}
 use Prim.Native.Nat.{ℕ, zero, suc, _+_, _-_, _≤_}
-use lib.ListN.{length, take, drop}
+use lib.ListN.{length, getD, set, take, drop}
 use Rattle.word.specs.Word.{flag}
 use Rattle.machine.specs.Machine.{Machine}
 use Rattle.machine.specs.Step.{Next, cannot, to, step, fetched}
 use Rattle.machine.specs.Run.{isOut}
+use Rattle.journal.specs.Journal.{readsKey, keysBack}
 use Rattle.panel.specs.Calls.{SetLeft, setLeft}
 use Rattle.run.specs.Runs.{Journal, no-journal, lent-journal, stopped, CountedLeft, CountedMeets}
 use Rattle.back.specs.Backs.{BackLeft, gone-back, backLeft}
@@ -45,8 +47,10 @@ lastSteps k ms = reverse (take k ms)
 pub record WentBack (h : Host) (xs : List ℕ) (ms : List Machine) (k : ℕ) (l : BackLeft) : Type 0 where
   -- It is accepted exactly where the history has k steps.
   pub accepts : ((e : ℕ) × (l .reply ≡ gone-back e)) ↔ (k ≤ length ms)
-  -- Registers, PC, n, data and outputs are the plain machine's k steps earlier, the inputs stay as set, and the count is less by k.
-  pub restores : k ≤ length ms → machineOn (afterBack l) [] ≡ heldAs (length ms - k) (h .I) [] (earlier k (machineOn h []) ms)
+  -- Registers, PC, n, data and outputs are the plain machine's k steps earlier, the inputs stay as set but for input 0 where the key was
+  -- read, and the count is less by k.
+  pub restores :
+      k ≤ length ms → machineOn (afterBack l) [] ≡ heldAs (length ms - k) (keysBack (take k ms) (h .I)) [] (earlier k (machineOn h []) ms)
   -- It says how many log entries fall away: the OUTs among those steps, which is also how many entries L gained in them.
   pub says : k ≤ length ms → l .reply ≡ gone-back (outs (take k ms))
   pub gains : k ≤ length ms → outs (take k ms) ≡ length (gained (lastSteps k ms))
@@ -94,6 +98,10 @@ countIn (lent-journal xs) count = count
 abbrev pub InputsAfter : List Machine → List ℕ → Type 0
 InputsAfter ms I = (m led : Machine) (rest : List Machine) → ms ≡ m ∷ rest → step m ≡ to led → I ≡ led .I
 
+-- none of these steps reads the key
+abbrev pub NoKeyRead : List Machine → Type 0
+NoKeyRead ms = (j : ℕ) (m : Machine) (rest : List Machine) → drop j ms ≡ m ∷ rest → readsKey (fetched m) ≡ false
+
 -- ---- The claim
 
 pub record StepBack : Type 0 where
@@ -123,3 +131,9 @@ pub record StepBack : Type 0 where
       × (machineOn last [] ≡ heldAs (last .state .journaled) (last .I) [] (machineOn h []))
       × InputsAfter (take k ms) (last .I)
       × (j′ ≡ j)
+  -- After going back over these steps, the last first, input 0 is as it was set where none of them read the key,
+  pub no-key-read : (ms : List Machine) (I : List ℕ) → NoKeyRead ms → keysBack ms I ≡ I
+  -- and else what it held before the earliest read among them; no other input changes.
+  pub earliest-key-read :
+      (later before : List Machine) (m : Machine) (I : List ℕ) → readsKey (fetched m) ≡ true → NoKeyRead before
+      → keysBack (later ++ m ∷ before) I ≡ set I 0 (getD (m .I) 0 0)

@@ -1,4 +1,4 @@
-// Going back: sets, runs with a journal and steps back, after the load of a saved file.
+// Going back: sets, runs with a journal and steps back, after a load.
 use crate::calls::set_port;
 use crate::calls::start_line;
 use crate::journals::JOURNAL_PLACES;
@@ -18,7 +18,21 @@ use player::runs::request_by;
 use replies::SisaBack;
 use std::num::wrapping_add_u64;
 
+// How many calls a case makes, below which choice a call is a set, and which bits of a port's number are kept.
+pub struct Calls {
+    pub count: u16,
+    pub sets: u16,
+    pub port_bits: u16,
+}
+
+pub const GOING_BACK: Calls = Calls {
+    count: 12,
+    sets: 1,
+    port_bits: 255,
+};
+
 fn set(
+    port_bits: u16,
     c: u16,
     j: u16,
     kept: State,
@@ -28,7 +42,7 @@ fn set(
     outputs: &Ports,
     log: &Log,
 ) {
-    let port = of_call(c, j, 1);
+    let port = of_call(c, j, 1) & port_bits;
     let value = of_call(c, j, 2);
     set_port(c, j, port, value, State::PORTS, inputs);
     print::left(kept, program, memory, inputs, outputs, log);
@@ -102,6 +116,7 @@ fn back(
 
 // Call j. Answers the state that the host keeps.
 fn call(
+    calls: Calls,
     c: u16,
     j: u16,
     kept: State,
@@ -112,13 +127,24 @@ fn call(
     log: &mut Log,
     journal: &mut Journal,
 ) -> State {
-    match of_call(c, j, 0) % 8 {
-        0 => {
-            set(c, j, kept, program, memory, inputs, outputs, log);
-            kept
-        }
+    let choice = of_call(c, j, 0) % 8;
+    if choice < calls.sets {
+        set(
+            calls.port_bits,
+            c,
+            j,
+            kept,
+            program,
+            memory,
+            inputs,
+            outputs,
+            log,
+        );
+        return kept;
+    }
+    match choice {
         6 | 7 => back(c, j, kept, program, memory, inputs, outputs, log, journal),
-        choice => run(
+        _ => run(
             choice,
             c,
             j,
@@ -140,6 +166,7 @@ fn fill(journal: &mut Journal) {
 }
 
 pub fn play(
+    calls: Calls,
     c: u16,
     loaded: State,
     program: &Memory,
@@ -151,8 +178,9 @@ pub fn play(
     let mut journal = [0u64; JOURNAL_PLACES];
     fill(&mut journal);
     let mut kept = loaded;
-    for j in 0..12 {
+    for j in 0..calls.count {
         kept = call(
+            calls,
             c,
             j,
             kept,

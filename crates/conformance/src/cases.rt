@@ -1,5 +1,6 @@
 // A case: its load, its calls, its saves and its going back.
 use crate::backs;
+use crate::backs::GOING_BACK;
 use crate::calls;
 use crate::calls::Kept;
 use crate::saves;
@@ -7,6 +8,7 @@ use crate::sheets;
 use machine::State;
 use numbers::number;
 use player::file;
+use player::file::Sort;
 use player::lent::Log;
 use player::lent::Memory;
 use player::lent::Ports;
@@ -35,8 +37,8 @@ fn load_file(
     outputs: &mut Ports,
 ) -> SisaLoad {
     let damage = file::damage(c);
-    let length = file::length(c, damage) as usize;
-    let file = file::make(c, damage);
+    let length = file::length(Sort::Any, c, damage) as usize;
+    let file = file::make(Sort::Any, c, damage);
     load(c, &file[0..length], program, memory, inputs, outputs)
 }
 
@@ -89,7 +91,16 @@ pub fn play(
         play_calls(c, load.state, program, memory, inputs, outputs, log);
         let again = saves::play(c, program, memory, inputs, outputs, log);
         if again.refusal == 0 {
-            backs::play(c, again.state, program, memory, inputs, outputs, log);
+            backs::play(
+                GOING_BACK,
+                c,
+                again.state,
+                program,
+                memory,
+                inputs,
+                outputs,
+                log,
+            );
         }
     }
 }

@@ -20,7 +20,7 @@ pub type Journal = [u64; JOURNAL_PLACES];
 
 // Number q + k of case c, for its call j. (The remainders change nothing.)
 pub fn of_call(c: u16, j: u16, k: u16) -> u16 {
-    number(c, 7000 + 16 * (j % 16) + k % 16)
+    number(c, 7000 + 16 * (j % 32) + k % 16)
 }
 
 // What is changed in what call j is handed and lent.

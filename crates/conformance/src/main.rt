@@ -7,6 +7,7 @@ mod cases;
 mod host;
 mod instructions;
 mod journals;
+mod keys;
 mod printed;
 mod runs;
 mod saves;
@@ -30,4 +31,14 @@ fn main() {
         );
     }
     printed::all();
+    for c in 64..80 {
+        keys::play(
+            c,
+            &mut program,
+            &mut memory,
+            &mut inputs,
+            &mut outputs,
+            &mut log,
+        );
+    }
 }

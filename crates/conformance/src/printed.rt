@@ -1,6 +1,7 @@
 // The printed runs.
 use player::file;
 use player::file::NO_DAMAGE;
+use player::file::Sort;
 use player::lent::least;
 use player::print;
 
@@ -17,14 +18,14 @@ fn print_run(file: &[u8]) {
 
 // The file of case c with this length.
 fn of_file(c: u16, damage: u16, length: usize) {
-    let file = file::make(c, damage);
+    let file = file::make(Sort::Any, c, damage);
     let most = least(length, 65537);
     print_run(&file[0..most]);
 }
 
 fn of_case(c: u16) {
     let damage = file::damage(c);
-    of_file(c, damage, file::length(c, damage) as usize);
+    of_file(c, damage, file::length(Sort::Any, c, damage) as usize);
 }
 
 pub fn all() {

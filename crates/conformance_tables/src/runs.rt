@@ -5,6 +5,7 @@ use machine::State;
 use numbers::number;
 use player::file;
 use player::file::NO_DAMAGE;
+use player::file::Sort;
 use player::lent::Log;
 use player::lent::Memory;
 use player::lent::Ports;
@@ -116,16 +117,21 @@ fn set_inputs(c: u16, inputs: &mut Ports) {
     }
 }
 
+fn sort_of(t: u16) -> Sort {
+    if t < 128 { Sort::Any } else { Sort::LowPorts }
+}
+
 // The state that the runs start from.
 fn load(
+    sort: Sort,
     c: u16,
     program: &mut Memory,
     memory: &mut Memory,
     inputs: &mut Ports,
     outputs: &mut Ports,
 ) -> State {
-    let length = file::length(c, NO_DAMAGE) as usize;
-    let file = file::make(c, NO_DAMAGE);
+    let length = file::length(sort, c, NO_DAMAGE) as usize;
+    let file = file::make(sort, c, NO_DAMAGE);
     let loaded = image::load(&file[0..length], program, memory, inputs, outputs);
     set_inputs(c, inputs);
     let mut state = loaded.state;
@@ -143,7 +149,7 @@ pub fn play(
     outputs: &mut Ports,
     log: &mut Log,
 ) {
-    let c = 1000 + t % 128;
-    let start = load(c, program, memory, inputs, outputs);
+    let c = 1000 + t % 160;
+    let start = load(sort_of(t), c, program, memory, inputs, outputs);
     run_all(t, c, start, program, memory, inputs, outputs, log);
 }

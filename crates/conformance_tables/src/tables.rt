@@ -27,13 +27,22 @@ fn exchanged(c: u16) -> Table {
     words
 }
 
-// Words of which each has these bits set.
-fn random(c: u16, bits: u16) -> Table {
+// Words of which each has these bits cleared, then those set.
+fn random(c: u16, cleared: u16, set: u16) -> Table {
     let mut words = [0; 32];
     for j in 0..32 {
-        words[j] = number(c, 100 + j as u16) | bits;
+        words[j] = (number(c, 100 + j as u16) & !cleared) | set;
     }
     words
+}
+
+// Words that say assigned, from table 128 on with the input as result.
+fn assigned(t: u16, c: u16) -> Table {
+    if t < 128 {
+        random(c, 0, 16384)
+    } else {
+        random(c, 28, 16400)
+    }
 }
 
 // Table t, for case c.
@@ -44,7 +53,7 @@ pub fn table_of(t: u16, c: u16) -> Table {
     match t % 4 {
         0 => replaced(c),
         1 => exchanged(c),
-        2 => random(c, 16384),
-        _ => random(c, 0),
+        2 => assigned(t, c),
+        _ => random(c, 0, 0),
     }
 }

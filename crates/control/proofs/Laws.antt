@@ -15,11 +15,12 @@ use Rattle.word.specs.Word.{pick, add, clear0, SE}
 use Rattle.word.proofs.Tables.{looked-up}
 use Rattle.word.proofs.Tests.{clash, either}
 use Rattle.machine.specs.declared.State.{State}
-use Rattle.machine.specs.Machine.{Machine, putR, putPC, count, onState, putD, putO, putWord, putByte}
+use Rattle.machine.specs.Machine.{Machine, putR, putPC, count, onState, putD, onInputs, putO, putWord, putByte}
 use Rattle.machine.specs.Step.{PC, Ra, Rb, d5-3, d8-6, d11-9, fetched, Next, cannot, to}
 use Rattle.machine.specs.Run.{Stepper, byRules}
+use Rattle.machine.proofs.Inputs.{read-length}
 use Rattle.machine.proofs.Runs.{Lawful}
-use Rattle.control.specs.Control.{unit, result, next, storeField, writesPort, storedData, stored, written, performed, assigned, zeroDivisor, controlStep, controlIn, byControl, table}
+use Rattle.control.specs.Control.{unit, result, inputsAfter, next, storeField, writesPort, storedData, stored, written, performed, assigned, zeroDivisor, controlStep, controlIn, byControl, table}
 use Rattle.control.proofs.Agreement.{same-stepper}
 
 -- ---- The parts
@@ -52,6 +53,10 @@ data-length : (c y u : ℕ) (D : List ℕ) → length (storedData c y u D) ≡ l
 unfolding storedData
 data-length c y u D =
     looked-up (λ E. length E ≡ length D) (D ∷ putWord (clear0 u) y D ∷ putByte u y D ∷ []) (refl, (simp length-set, (simp length-set, tt))) refl (storeField c)
+
+inputs-length : (c w : ℕ) (I : List ℕ) → length (inputsAfter c w I) ≡ length I
+unfolding inputsAfter
+inputs-length c w I = either (λ (J : List ℕ). length J ≡ length I) (eqb (field (bits 4 2) c) 4) (read-length (N8 w) I) refl
 
 -- what a step keeps: the program, and the lengths of the data memory and the ports
 abbrev pub kept : Machine → List ℕ × ℕ × ℕ × ℕ
@@ -97,14 +102,15 @@ step-keeps c w m =
     let u = unit c w x (Rb w m) in
     let v = result c w u (PC m) (m .D) (m .I) in
     let p = next c w x (PC m) in
+    let st = stored c w x (Rb w m) u m in
     let s = store-keeps c w x (Rb w m) u m in
-    let r = written-keeps c w v (putPC p (count (stored c w x (Rb w m) u m .state))) in
+    let r = written-keeps c w v (putPC p (count (st .state))) in
     record {
       counts = ap (λ z. z .1) r ∙ ap (λ (t : State). t .n + 1) (s .state);
       even = λ h. ap (λ z. z .0 % 2) r ∙ next-even c w x (PC m) h;
       grows = s .grows;
       journaled = ap (λ z. z .2) r ∙ ap (λ (t : State). t .journaled) (s .state);
-      lent = s .lent;
+      lent = ap (λ k. (st .P, length (st .D), k, length (st .O))) (inputs-length c w (st .I)) ∙ s .lent;
     }
 
 step-shift : (c w : ℕ) (l : List ℕ) (m : Machine) → performed c w (shift l m) ≡ shift l (performed c w m)
@@ -113,7 +119,7 @@ step-shift c w l m =
     let x = Ra w m in
     let u = unit c w x (Rb w m) in
     let v = result c w u (PC m) (m .D) (m .I) in
-    ap (onState (λ s. written c w v (putPC (next c w x (PC m)) (count s)))) (store-shift c w x (Rb w m) u l m)
+    ap (λ (z : Machine). onState (λ s. written c w v (putPC (next c w x (PC m)) (count s))) (onInputs (inputsAfter c w) z)) (store-shift c w x (Rb w m) u l m)
 
 -- ---- What a stepper may be relied on for
 

@@ -1,8 +1,8 @@
 -- The control table (01): the fields of a control word c, a step by them, and the table's 32 words. w is the instruction
 -- word and m the machine before the step; registers are read before any is written.
 -- Open: a field value that 01 and 02 do not list (unit 6 and 7, result 5 to 7, second operand 3) stands for the number 0, and so does
--- unit 5's value for an f that it does not take or a zero divisor. No word of the table has such a field, and no step looks at such a
--- value of unit 5.
+-- unit 5's value for an f that it does not take or a zero divisor; such a result reads no port. No word of the table has such a field, and
+-- no step looks at such a value of unit 5.
 use Prim.Native.Nat.{ℕ, _+_, _*_, _%_}
 use mathlib.Core.Bool.{Bool, true, false, _&&_}
 use mathlib.Core.List.{List, [], _∷_}
@@ -12,7 +12,7 @@ use Rattle.word.specs.Fields.{bits, field, opcode, e-of, f-of, N6, N8}
 use Rattle.word.specs.Word.{pick, add, clear0, SE, operation, comparison}
 use Rattle.muldiv.specs.Muldiv.{muldiv}
 use Rattle.machine.specs.declared.State.{State}
-use Rattle.machine.specs.Machine.{Machine, putR, putPC, count, onState, putD, putO, wordAt, putWord, putByte}
+use Rattle.machine.specs.Machine.{Machine, putR, putPC, count, onState, putD, readFrom, onInputs, putO, wordAt, putWord, putByte}
 use Rattle.machine.specs.Step.{PC, Ra, Rb, d5-3, d8-6, d11-9, among, fetched, Next, cannot, to}
 use Rattle.machine.specs.Run.{Stepper}
 
@@ -40,6 +40,10 @@ results w u pc D I = u ∷ wordAt D (clear0 u) ∷ SE 8 (getD D u 0) ∷ add pc 
 
 unfoldable pub result : ℕ → ℕ → ℕ → ℕ → List ℕ → List ℕ → ℕ
 result c w u pc D I = getD (results w u pc D I) (field (bits 4 2) c) 0
+
+-- Result 4 reads the port N8, so that from port 1 it sets input 0 to zero (02, L8), whatever the destination. No other result looks at a port.
+unfoldable pub inputsAfter : ℕ → ℕ → List ℕ → List ℕ
+inputsAfter c w I = pick (eqb (field (bits 4 2) c) 4) (readFrom (N8 w) I) I
 
 -- Bits 13..12 next: 0 PC+2, 1 branch if Ra is zero, 2 if not (both as rule 8), 3 jump to Ra with bit 0 cleared.
 unfoldable pub next : ℕ → ℕ → ℕ → ℕ → ℕ
@@ -70,14 +74,14 @@ stored c w x y u m = pick (writesPort c) (putO (N8 w) x m) (putD (storedData c y
 unfoldable pub written : ℕ → ℕ → ℕ → State → State
 written c w v s = getD (s ∷ putR (d5-3 w) v s ∷ putR (d8-6 w) v s ∷ putR (d11-9 w) v s ∷ []) (field (bits 1 0) c) s
 
--- the machine after: the store, n grows by 1, PC, and the destination
+-- the machine after: the store, what the read of an input took, n grows by 1, PC, and the destination
 unfoldable pub performed : ℕ → ℕ → Machine → Machine
 performed c w m =
     let x = Ra w m in
     let y = Rb w m in
     let u = unit c w x y in
     let v = result c w u (PC m) (m .D) (m .I) in
-    onState (λ s. written c w v (putPC (next c w x (PC m)) (count s))) (stored c w x y u m)
+    onState (λ s. written c w v (putPC (next c w x (PC m)) (count s))) (onInputs (inputsAfter c w) (stored c w x y u m))
 
 -- ---- Whether it can be done
 

@@ -224,7 +224,7 @@ module _ (t : Bool) (words : List ℕ) {g : Given} {keeps : Bool} {journal₀ pl
 
     -- the step was made, counted and its entry kept
     pub turns : {x : ℕ} {journal' places' : List ℕ} {u' : Usage} → stop ≡ 0 → Counts w places₀ places u steps places' u'
-        → (keeps ≡ true → IsEntry w (h .state) (h .D) (h .O) x) → Written keeps (g .state .journaled + steps) x journal journal'
+        → (keeps ≡ true → IsEntry w (h .state) (h .D) (h .I) (h .O) x) → Written keeps (g .state .journaled + steps) x journal journal'
         → length (after .D) ≡ length (h .D) → length (after .I) ≡ length (h .I) → length (after .O) ≡ length (h .O) → length (after .log) ≡ length (h .log)
         → Going (chosen t words) g keeps journal₀ places₀ after (steps + 1) journal' places' u'
     turns {x} z c noted written d i o l =
@@ -254,5 +254,5 @@ module _ (t : Bool) (words : List ℕ) {g : Given} {keeps : Bool} {journal₀ pl
           summed = rw (c .one) (turned m w (tallied places u) fetches (goes .traces) counts-here);
           keeping =
               keeping-turns (chosen t words) g keeps journal₀ m _ keeping-here (goes .traces) b
-              (λ k. is-entry m (subst (λ w. IsEntry w (h .state) (h .D) (h .O) x) (sym fetches) (noted k))) written;
+              (λ k. is-entry m (subst (λ w. IsEntry w (h .state) (h .D) (h .I) (h .O) x) (sym fetches) (noted k))) written;
         }

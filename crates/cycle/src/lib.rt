@@ -64,7 +64,7 @@ pub fn run_accepted(
     while steps < budget {
         let w = bus::fetch(program, state.pc);
         if keeps {
-            entry = journal::entry(w, state, memory, outputs);
+            entry = journal::entry(w, state, memory, inputs, outputs);
         }
         let done = step(
             by_table,

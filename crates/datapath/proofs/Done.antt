@@ -1,6 +1,6 @@
 -- What a step by a control word comes to: it stops, or it is done, with an equation for each part.
 -- Assumes nothing.
-use mathlib.Core.Path.{_≡_, refl, sym, ap, _∙_}
+use mathlib.Core.Path.{_≡_, refl, sym, ap, subst, _∙_}
 use mathlib.Core.Bool.{Bool, true, false, _&&_}
 use mathlib.Core.List.{List}
 use Prim.Native.Nat.{ℕ, _+_, _*_, _<_, _≤_}
@@ -16,10 +16,10 @@ use Rattle.machine.specs.Machine.{R}
 use Rattle.machine.specs.Step.{cannot, to}
 use Rattle.machine.specs.Run.{Outcome, unless}
 use Rattle.machine.specs.Held.{Held, held, machineOf, isFull, outcomeOf, StepMeets}
-use Rattle.machine.proofs.Answers.{answered}
+use Rattle.machine.proofs.Answers.{Leaves}
 use Rattle.machine.proofs.Log.{put-take, put-drop}
-use Rattle.control.specs.Control.{result, next, storeField, writesPort, storedData, stored, performed, assigned, controlStep}
-use Rattle.datapath.specs.Parts.{unitOf, stateAfter, dataAfter, isZeroDivisor, stopOf, doneWith, resultAnswer}
+use Rattle.control.specs.Control.{result, inputsAfter, next, storeField, writesPort, storedData, stored, performed, assigned, controlStep}
+use Rattle.datapath.specs.Parts.{unitOf, stateAfter, dataAfter, isZeroDivisor, stopOf, doneWith, stoppedWith, Answered, withInputs, resultAnswer}
 
 module _ (c w : ℕ) (h : Held) where
   abbrev Meets : ℕ → Held → Type 0
@@ -50,27 +50,29 @@ module _ (c w : ℕ) (h : Held) where
 
   module _ (is-assigned : assigned c w ≡ true) (no-zero : isZeroDivisor c w (h .state) ≡ false) where
     -- where the store is not to a port
-    pub data-done : {s : State} {D : List ℕ} → h .entries ≤ length (h .log) → writesPort c ≡ false
+    pub data-done : {s : State} {D I : List ℕ} → h .entries ≤ length (h .log) → writesPort c ≡ false
         → s ≡ stateAfter c w (h .state) (h .D) (h .I)
         → D ≡ dataAfter c w (h .state) (h .D)
-        → Meets 0 (held s D (h .I) (h .O) (h .log) (h .entries))
+        → I ≡ inputsAfter c w (h .I)
+        → Meets 0 (held s D I (h .O) (h .log) (h .entries))
     unfolding performed stored
-    data-done {s} {D} filled no-port es eD = record { machine = λ P. made P true false false is-assigned no-zero (ap (λ t. t && isFull h) no-port) ∙ done P; rest = refl; filled = filled }
+    data-done {s} {D} {I} filled no-port es eD eI = record { machine = λ P. made P true false false is-assigned no-zero (ap (λ t. t && isFull h) no-port) ∙ done P; rest = refl; filled = filled }
       where
         done : (P : List ℕ) → _≡_ {A = Outcome} (record { reason = 0; after = performed c w (machineOf P h) })
-            (record { reason = 0; after = machineOf P (held s D (h .I) (h .O) (h .log) (h .entries)) })
-        done P = rw (no-port, es, eD)
+            (record { reason = 0; after = machineOf P (held s D I (h .O) (h .log) (h .entries)) })
+        done P = rw (no-port, es, eD, eI)
 
     -- where it is
-    pub port-done : {s : State} {D O log : List ℕ} {entries : ℕ} → h .entries < length (h .log) → writesPort c ≡ true
+    pub port-done : {s : State} {D I O log : List ℕ} {entries : ℕ} → h .entries < length (h .log) → writesPort c ≡ true
         → s ≡ stateAfter c w (h .state) (h .D) (h .I)
         → D ≡ h .D
+        → I ≡ inputsAfter c w (h .I)
         → O ≡ set (h .O) (N8 w) (R (h .state) (a-of w))
         → log ≡ set (h .log) (h .entries) (h .state .n * 16777216 + N8 w * 65536 + R (h .state) (a-of w))
         → entries ≡ h .entries + 1
-        → Meets 0 (held s D (h .I) O log entries)
+        → Meets 0 (held s D I O log entries)
     unfolding performed stored
-    port-done {s} {D} {O} {log} {entries} place port es eD eO el ee =
+    port-done {s} {D} {I} {O} {log} {entries} place port es eD eI eO el ee =
         let free : isFull h ≡ false = lt-leb _ _ place in
         record {
           machine = λ P. made P true false false is-assigned no-zero (ap (λ t. t && isFull h) port ∙ free) ∙ done P;
@@ -79,8 +81,8 @@ module _ (c w : ℕ) (h : Held) where
         }
       where
         done : (P : List ℕ) → _≡_ {A = Outcome} (record { reason = 0; after = performed c w (machineOf P h) })
-            (record { reason = 0; after = machineOf P (held s D (h .I) O log entries) })
-        done P = rw (port, es, eD, eO, el, ee, put-take (h .entries) (h .state .n * 16777216 + N8 w * 65536 + R (h .state) (a-of w)) (h .log) place)
+            (record { reason = 0; after = machineOf P (held s D I O log entries) })
+        done P = rw (port, es, eD, eI, eO, el, ee, put-take (h .entries) (h .state .n * 16777216 + N8 w * 65536 + R (h .state) (a-of w)) (h .log) place)
 
   -- a store to a port changes no data
   no-data : (s : State) (D : List ℕ) → writesPort c ≡ true → dataAfter c w s D ≡ D
@@ -88,47 +90,52 @@ module _ (c w : ℕ) (h : Held) where
   no-data s D port = let k : storeField c ≡ 3 = eqb-true (storeField c) 3 port in rw k
 
   -- by fields
-  pub fields-done : {s : State} {D O log : List ℕ} {entries : ℕ} → h .entries ≤ length (h .log) → stopOf c w (h .state) (isFull h) ≡ 0
+  pub fields-done : {s : State} {D I O log : List ℕ} {entries : ℕ} → h .entries ≤ length (h .log) → stopOf c w (h .state) (isFull h) ≡ 0
       → s ≡ stateAfter c w (h .state) (h .D) (h .I)
       → D ≡ dataAfter c w (h .state) (h .D)
+      → I ≡ inputsAfter c w (h .I)
       → (entries ≡ pick (writesPort c) (h .entries + 1) (h .entries))
       × (O ≡ pick (writesPort c) (set (h .O) (N8 w) (R (h .state) (a-of w))) (h .O))
       × (log ≡ pick (writesPort c) (set (h .log) (h .entries) (h .state .n * 16777216 + N8 w * 65536 + R (h .state) (a-of w))) (h .log))
-      → Meets 0 (held s D (h .I) O log entries)
-  fields-done {s} {D} {O} {log} {entries} filled go es eD port = by-tests (assigned c w) refl (isZeroDivisor c w (h .state)) refl (writesPort c) refl (isFull h) refl go port
+      → Meets 0 (held s D I O log entries)
+  fields-done {s} {D} {I} {O} {log} {entries} filled go es eD eI port = by-tests (assigned c w) refl (isZeroDivisor c w (h .state)) refl (writesPort c) refl (isFull h) refl go port
     where
       by-tests : (a : Bool) → assigned c w ≡ a → (z : Bool) → isZeroDivisor c w (h .state) ≡ z → (p : Bool) → writesPort c ≡ p → (f : Bool) → isFull h ≡ f
           → _≡_ {A = ℕ} (pick a (pick z 3 (pick (p && f) 2 0)) 1) 0
           → (entries ≡ pick p (h .entries + 1) (h .entries))
           × (O ≡ pick p (set (h .O) (N8 w) (R (h .state) (a-of w))) (h .O))
           × (log ≡ pick p (set (h .log) (h .entries) (h .state .n * 16777216 + N8 w * 65536 + R (h .state) (a-of w))) (h .log))
-          → Meets 0 (held s D (h .I) O log entries)
+          → Meets 0 (held s D I O log entries)
       by-tests false a z ez p ep f ef go e = absurd (omega arith)
       by-tests true a true ez p ep f ef go e = absurd (omega arith)
       by-tests true a false ez true ep true ef go e = absurd (omega arith)
       by-tests true a false ez true ep false ef go e =
-          port-done a ez (leb-false _ _ ef) ep es (eD ∙ no-data (h .state) (h .D) ep) (e .1) (e .2) (e .0)
+          port-done a ez (leb-false _ _ ef) ep es (eD ∙ no-data (h .state) (h .D) ep) eI (e .1) (e .2) (e .0)
       by-tests true a false ez false ep f ef go e =
-          rw (e .0, e .1, e .2) (data-done a ez filled ep es eD)
+          rw (e .0, e .1, e .2) (data-done a ez filled ep es eD eI)
+
+-- an answer meets the step, with nothing stored
+abbrev MeetsWith : ℕ → ℕ → Held → Answered → Type 0
+MeetsWith c w h x = Leaves (controlStep c w) (writesPort c) h (x .answer) (h .D) (x .inputs) (h .O) (h .log)
 
 -- the answer where nothing is stored, with PC+2
 pub result-done : (c w : ℕ) (h : Held) → h .entries ≤ length (h .log) → writesPort c ≡ false → dataAfter c w (h .state) (h .D) ≡ h .D
     → next c w (R (h .state) (a-of w)) (h .state .pc) ≡ add (h .state .pc) 2
-    → (r : Stepped)
-    → r ≡ resultAnswer c w (h .state) (h .D) (h .I) (h .entries)
-    → StepMeets (controlStep c w) (writesPort c) h (r .stop) (held (r .state) (h .D) (h .I) (h .O) (h .log) (r .entries))
-result-done c w h filled no-port no-store on r = by-tests (assigned c w) refl (isZeroDivisor c w (h .state)) refl
+    → (r : Stepped) {I : List ℕ}
+    → withInputs r I ≡ resultAnswer c w (h .state) (h .D) (h .I) (h .entries)
+    → MeetsWith c w h (withInputs r I)
+result-done c w h filled no-port no-store on r {I} = by-tests (assigned c w) refl (isZeroDivisor c w (h .state)) refl
   where
     by-tests : (a : Bool) → assigned c w ≡ a → (z : Bool) → isZeroDivisor c w (h .state) ≡ z
-        → r ≡ pick a
+        → withInputs r I ≡ pick a
         (pick z
-        (record { stop = 3; state = h .state; entries = h .entries })
-        (doneWith c w (result c w (unitOf c w (h .state)) (h .state .pc) (h .D) (h .I)) (h .state) (h .entries)))
-        (record { stop = 1; state = h .state; entries = h .entries })
-        → StepMeets (controlStep c w) (writesPort c) h (r .stop) (held (r .state) (h .D) (h .I) (h .O) (h .log) (r .entries))
-    by-tests true e true z a = answered r _ a (stopped c w h 3 filled (rw (e, z)) (λ z. omega arith))
-    by-tests true e false z a = answered r _ a (data-done c w h e z filled no-port (rw on) (sym no-store))
-    by-tests false e t z a = answered r _ a (stopped c w h 1 filled (rw e) (λ z. omega arith))
+        (withInputs (stoppedWith 3 (h .state) (h .entries)) (h .I))
+        (withInputs (doneWith c w (result c w (unitOf c w (h .state)) (h .state .pc) (h .D) (h .I)) (h .state) (h .entries)) (inputsAfter c w (h .I))))
+        (withInputs (stoppedWith 1 (h .state) (h .entries)) (h .I))
+        → MeetsWith c w h (withInputs r I)
+    by-tests true e true z a = subst (MeetsWith c w h) (sym a) (stopped c w h 3 filled (rw (e, z)) (λ z. omega arith))
+    by-tests true e false z a = subst (MeetsWith c w h) (sym a) (data-done c w h e z filled no-port (rw on) (sym no-store) refl)
+    by-tests false e t z a = subst (MeetsWith c w h) (sym a) (stopped c w h 1 filled (rw e) (λ z. omega arith))
 
 -- a port's step has a free place where nothing stops it
 pub free-place : (c w : ℕ) (s : State) (n places : ℕ) → stopOf c w s (leb places n) ≡ 0 → writesPort c ≡ true → n < places

@@ -15,14 +15,17 @@ use Rattle.word.proofs.Computed.{all}
 use Rattle.machine.specs.declared.State.{State}
 use Rattle.machine.specs.Machine.{R, putPC, count}
 use Rattle.word.specs.Codes.{below6But}
-use Rattle.control.specs.Control.{second, unit, result, next, writesPort, storedData, written, assigned, zeroDivisor}
-use Rattle.datapath.specs.Parts.{unitOf, stateAfter, dataAfter, isZeroDivisor, doneWith, resultAnswer, addressOf, isResult, isOperation, isComparison, isSum, isStore, isJump, isLink}
+use Rattle.control.specs.Control.{second, unit, result, inputsAfter, next, writesPort, storedData, written, assigned, zeroDivisor}
+use Rattle.datapath.specs.Parts.{unitOf, stateAfter, dataAfter, isZeroDivisor, doneWith, withInputs, resultAnswer, addressOf, isResult, isOperation, isComparison, isSum, isStore, isJump, isLink}
 use Rattle.datapath.proofs.Choice.{takes-f}
 
 -- ---- Bits of a field that is known as part of a wider one
 
 unit-of : (c : ℕ) → c % 4096 ≡ 0 → c / 32 % 8 ≡ 0
 unit-of c e = let m : c / 32 % 128 ≡ 0 = omega (arith, mod-mul c {m = 128} {c = 32} (omega arith) (omega arith)) in omega (arith, m)
+
+result-of : (c : ℕ) → c % 4096 ≡ 0 → c / 4 % 8 ≡ 0
+result-of c e = let m : c / 4 % 1024 ≡ 0 = omega (arith, mod-mul c {m = 1024} {c = 4} (omega arith) (omega arith)) in omega (arith, m)
 
 store-of : (c : ℕ) → c % 4096 ≡ 0 → c / 1024 % 4 ≡ 0
 store-of c e = omega (arith, mod-mul c {m = 4} {c = 1024} (omega arith) (omega arith))
@@ -74,22 +77,22 @@ module _ (c w : ℕ) (s : State) where
 
   -- its own groups, each with its result
   module _ (D I : List ℕ) (k : ℕ) (e : isResult c ≡ true) where
-    pub operation-group : isOperation c ≡ true → resultAnswer c w s D I k ≡ doneWith c w (operation (f-of w) (R s (a-of w)) (R s (b-of w))) s k
-    unfolding assigned zeroDivisor result unit second
+    pub operation-group : isOperation c ≡ true → resultAnswer c w s D I k ≡ withInputs (doneWith c w (operation (f-of w) (R s (a-of w)) (R s (b-of w))) s k) I
+    unfolding assigned zeroDivisor result inputsAfter unit second
     operation-group g =
         let m = middle c (eqb-true _ 0 g) in
         let l = lower c (m .1) in
         rw (upper c (eqb-true _ 16 e) .0, m .0, l .0, l .1)
 
-    pub comparison-group : isComparison c w ≡ true → resultAnswer c w s D I k ≡ doneWith c w (comparison (f-of w) (R s (a-of w)) (R s (b-of w))) s k
-    unfolding assigned zeroDivisor result unit second all
+    pub comparison-group : isComparison c w ≡ true → resultAnswer c w s D I k ≡ withInputs (doneWith c w (comparison (f-of w) (R s (a-of w)) (R s (b-of w))) s k) I
+    unfolding assigned zeroDivisor result inputsAfter unit second all
     comparison-group g =
         let p = and-eq-true-iff (eqb (c / 4 % 256) 8) (below6But 2 (f-of w)) .0 g in
         let m = middle c (eqb-true _ 8 (p .0)) in
         let l = lower c (m .1) in
         rw (upper c (eqb-true _ 16 e) .0, m .0, l .0, l .1, sym (takes-f 1 2 tt (f-of w) (omega arith)) ∙ p .1)
 
-    pub sum-group : isSum c ≡ true → resultAnswer c w s D I k ≡ doneWith c w (result c w (addressOf w s) (s .pc) D I) s k
+    pub sum-group : isSum c ≡ true → resultAnswer c w s D I k ≡ withInputs (doneWith c w (result c w (addressOf w s) (s .pc) D I) s k) (inputsAfter c w I)
     unfolding assigned zeroDivisor
     sum-group g =
         let bits : c / 32 % 32 ≡ 10 = eqb-true _ _ g in
@@ -102,9 +105,10 @@ module _ (c w : ℕ) (s : State) where
     pub no-port : writesPort c ≡ false
     pub address : unitOf c w s ≡ addressOf w s
     pub state : (D I : List ℕ) → stateAfter c w s D I ≡ putPC (add (s .pc) 2) (count s)
+    pub no-read : (I : List ℕ) → inputsAfter c w I ≡ I
 
   pub store-group : isStore c ≡ true → Store
-  unfolding assigned zeroDivisor next written
+  unfolding assigned zeroDivisor inputsAfter next written
   store-group e =
       let p = and-eq-true-iff (eqb (c % 1024) 320 && ltb 15 (c / 1024 % 32)) (ltb (c / 1024 % 32) 19) .0 e in
       let q = and-eq-true-iff (eqb (c % 1024) 320) (ltb 15 (c / 1024 % 32)) .0 (p .0) in
@@ -113,6 +117,7 @@ module _ (c w : ℕ) (s : State) where
       let t = no-port-of (c / 1024 % 32) (ltb-true _ _ (q .1)) (ltb-true _ _ (p .1)) in
       let u : c / 32 % 8 ≡ 2 = omega arith in
       let bits : c / 32 % 32 ≡ 10 = omega arith in
+      let r : c / 4 % 8 ≡ 0 = omega arith in
       let d : c / 1 % 4 ≡ 0 = omega arith in
       let n : c / 4096 % 4 ≡ 0 = h .1 ∙ t .1 in
       let a : c / 16384 % 2 ≡ 1 = h .0 ∙ t .0 in
@@ -122,6 +127,7 @@ module _ (c w : ℕ) (s : State) where
         no-port = ne-eqb _ 3 (λ e. t .2 (sym (h .2) ∙ e));
         address = sums c w _ _ bits;
         state = λ D I. rw (d, n);
+        no-read = λ I. rw r;
       }
 
   -- no store, and this state after the step
@@ -131,9 +137,10 @@ module _ (c w : ℕ) (s : State) where
     pub no-port : writesPort c ≡ false
     pub state : (D I : List ℕ) → stateAfter c w s D I ≡ after
     pub no-store : (D : List ℕ) → dataAfter c w s D ≡ D
+    pub no-read : (I : List ℕ) → inputsAfter c w I ≡ I
 
   pub jump-group : isJump c ≡ true → Moved (putPC (next c w (R s (a-of w)) (s .pc)) (count s))
-  unfolding assigned zeroDivisor storedData written
+  unfolding assigned zeroDivisor inputsAfter storedData written
   jump-group e =
       let q = and-eq-true-iff (eqb (c % 4096) 0) (eqb (c / 16384 % 2) 1) .0 e in
       let low : c % 4096 ≡ 0 = eqb-true _ _ (q .0) in
@@ -141,12 +148,12 @@ module _ (c w : ℕ) (s : State) where
       let u : c / 32 % 8 ≡ 0 = unit-of c low in
       let d : c / 1 % 4 ≡ 0 = omega arith in
       let st : c / 1024 % 4 ≡ 0 = store-of c low in
-      record { is-assigned = rw (a, u); no-zero = rw u; no-port = rw st; state = λ D I. rw d; no-store = λ D. rw st }
+      record { is-assigned = rw (a, u); no-zero = rw u; no-port = rw st; state = λ D I. rw d; no-store = λ D. rw st; no-read = λ I. rw (result-of c low) }
 
   pub link-group : isLink c ≡ true → Moved (written c w (add (s .pc) 2) (putPC (clear0 (R s (a-of w))) (count s)))
-  unfolding assigned zeroDivisor storedData result next
+  unfolding assigned zeroDivisor storedData result inputsAfter next
   link-group e =
       let q = and-eq-true-iff (eqb (c / 1024 % 32) 28) (eqb (c / 4 % 64) 3) .0 e in
       let h = upper c (eqb-true _ 28 (q .0)) in
       let l = lower c (eqb-true _ 3 (q .1)) in
-      record { is-assigned = rw (h .0, l .0); no-zero = rw (l .0); no-port = rw (h .2); state = λ D I. rw (l .1, h .1); no-store = λ D. rw (h .2) }
+      record { is-assigned = rw (h .0, l .0); no-zero = rw (l .0); no-port = rw (h .2); state = λ D I. rw (l .1, h .1); no-store = λ D. rw (h .2); no-read = λ I. rw (l .1) }

@@ -11,7 +11,7 @@ use Rattle.word.specs.Word.{pick, add, SE}
 use Rattle.machine.specs.declared.State.{State}
 use Rattle.machine.specs.declared.Stepped.{Stepped}
 use Rattle.machine.specs.Machine.{R, putPC, count}
-use Rattle.control.specs.Control.{unit, result, next, writesPort, storedData, written, assigned, zeroDivisor}
+use Rattle.control.specs.Control.{unit, result, inputsAfter, next, writesPort, storedData, written, assigned, zeroDivisor}
 
 -- what the state after a step takes: a count that can grow, a memory and inputs of their lengths
 pub record Lent (s : State) (D I : List ℕ) : Type 0 where
@@ -42,14 +42,26 @@ stopOf c w s full = pick (assigned c w) (pick (isZeroDivisor c w s) 3 (pick (wri
 abbrev pub doneWith : ℕ → ℕ → ℕ → State → ℕ → Stepped
 doneWith c w v s entries = record { stop = 0; state = written c w v (putPC (add (s .pc) 2) (count s)); entries = entries }
 
--- what is answered where nothing is stored, with PC+2
-abbrev pub resultAnswer : ℕ → ℕ → State → List ℕ → List ℕ → ℕ → Stepped
+-- what is answered where no step is made
+abbrev pub stoppedWith : ℕ → State → ℕ → Stepped
+stoppedWith stop s entries = record { stop = stop; state = s; entries = entries }
+
+-- an answer, with the inputs left
+pub record Answered : Type 0 where
+  pub answer : Stepped
+  pub inputs : List ℕ
+
+abbrev pub withInputs : Stepped → List ℕ → Answered
+withInputs r I = record { answer = r; inputs = I }
+
+-- what is answered and left where nothing is stored, with PC+2
+abbrev pub resultAnswer : ℕ → ℕ → State → List ℕ → List ℕ → ℕ → Answered
 resultAnswer c w s D I entries =
     pick (assigned c w)
     (pick (isZeroDivisor c w s)
-    (record { stop = 3; state = s; entries = entries })
-    (doneWith c w (result c w (unitOf c w s) (s .pc) D I) s entries))
-    (record { stop = 1; state = s; entries = entries })
+    (withInputs (stoppedWith 3 s entries) I)
+    (withInputs (doneWith c w (result c w (unitOf c w s) (s .pc) D I) s entries) (inputsAfter c w I)))
+    (withInputs (stoppedWith 1 s entries) I)
 
 -- ---- The groups
 

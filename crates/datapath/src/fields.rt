@@ -7,7 +7,7 @@ ghost use lib.ListN.{getD, length, set};
 ghost use Rattle.word.specs.Fields.{b-of, f-of, N8};
 ghost use Rattle.word.specs.Word.{pick};
 ghost use Rattle.machine.specs.Machine.{R};
-ghost use Rattle.control.specs.Control.{second, units, unitField, unit, result, next, writesPort, storedData, written, assigned, zeroDivisor};
+ghost use Rattle.control.specs.Control.{second, units, unitField, unit, result, inputsAfter, next, writesPort, storedData, written, assigned, zeroDivisor};
 use machine::Address;
 use machine::Port;
 use machine::State;
@@ -69,9 +69,16 @@ pub fn unit_result(control: u16, w: u16, x: u16, y: u16) -> u16
 }
 
 // Bits 4..2.
-pub fn chosen_result(control: u16, w: u16, u: u16, pc: u16, memory: &[u8], inputs: &[u16]) -> u16
+pub fn chosen_result(
+    control: u16,
+    w: u16,
+    u: u16,
+    pc: u16,
+    memory: &[u8],
+    inputs: &mut [u16],
+) -> u16
     requires { ⌜ (length (now memory) ≡ 65536) × (length (now inputs) ≡ 256) ⌝ }
-    ensures { λ r. ⌜ r ≡ result control w u pc (now (memory .entry)) (now (inputs .entry)) ⌝ }
+    ensures { λ r. ⌜ (r ≡ result control w u pc (now (memory .entry)) (now (inputs .entry))) × (now (inputs .exit) ≡ inputsAfter control w (now (inputs .entry))) ⌝ }
 {
     if control / 16 % 2 == 0 {
         if control / 8 % 2 == 0 {
@@ -89,7 +96,7 @@ pub fn chosen_result(control: u16, w: u16, u: u16, pc: u16, memory: &[u8], input
         }
     } else {
         if control / 4 % 4 == 0 {
-            bus::read_port(inputs, Port((w % 256) as u8))
+            bus::read_input(inputs, Port((w % 256) as u8))
         } else {
             0
         }

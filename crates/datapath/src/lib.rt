@@ -6,7 +6,7 @@ ghost use lib.Dec.{leb};
 ghost use lib.ListN.{length};
 ghost use Rattle.machine.specs.Held.{held, Ready, StepsAs};
 ghost use Rattle.control.specs.Control.{writesPort, controlStep};
-ghost use Rattle.datapath.specs.Parts.{Lent, stopOf, doneWith, resultAnswer, isResult};
+ghost use Rattle.datapath.specs.Parts.{Lent, stopOf, doneWith, withInputs, resultAnswer, isResult};
 use machine::State;
 use machine::Stepped;
 
@@ -128,11 +128,11 @@ fn other_result(
     w: u16,
     state: State,
     memory: &[u8],
-    inputs: &[u16],
+    inputs: &mut [u16],
     entries: usize,
 ) -> Stepped
     requires { ⌜ Lent state (now memory) (now inputs) ⌝ }
-    ensures { λ r. ⌜ r ≡ resultAnswer control w state (now (memory .entry)) (now (inputs .entry)) entries ⌝ }
+    ensures { λ r. ⌜ withInputs r (now (inputs .exit)) ≡ resultAnswer control w state (now (memory .entry)) (now (inputs .entry)) entries ⌝ }
 {
     if fields::is_assigned(control, w) {
         if fields::divides_by_zero(control, w, state) {
@@ -154,11 +154,11 @@ fn result_step(
     w: u16,
     state: State,
     memory: &[u8],
-    inputs: &[u16],
+    inputs: &mut [u16],
     entries: usize,
 ) -> Stepped
     requires { ⌜ Lent state (now memory) (now inputs) × (isResult control ≡ true) ⌝ }
-    ensures { λ r. ⌜ r ≡ resultAnswer control w state (now (memory .entry)) (now (inputs .entry)) entries ⌝ }
+    ensures { λ r. ⌜ withInputs r (now (inputs .exit)) ≡ resultAnswer control w state (now (memory .entry)) (now (inputs .entry)) entries ⌝ }
 {
     if groups::is_operation(control) {
         let p = state.sources(w);

@@ -14,17 +14,17 @@ use Rattle.journal.specs.Parts.{machineWith, IsUndone}
 abbrev pub retreatedBy : ℕ → State → State
 retreatedBy x s = putPC (pcIn x) (putN (s .n - 1) s)
 
-module _ (x : ℕ) (s : State) (D O : List ℕ) (s′ : State) (D′ O′ : List ℕ) where
+module _ (x : ℕ) (s : State) (D I O : List ℕ) (s′ : State) (D′ I′ O′ : List ℕ) where
   -- what is overwritten is put back
   abbrev PutsBack : Overwritten → Type 0
-  PutsBack o = (P I L : List ℕ) → onState (retreatedBy x) (putBack o (machineWith s D O P I L)) ≡ machineWith s′ D′ O′ P I L
+  PutsBack o = (P L : List ℕ) → onState (retreatedBy x) (putBack o (machineWith s D I O P L)) ≡ machineWith s′ D′ I′ O′ P L
 
-  put-back : {o : Overwritten} → getD (readings x) (whatIn x) nothing ≡ o → PutsBack o → IsUndone x s D O s′ D′ O′
+  put-back : {o : Overwritten} → getD (readings x) (whatIn x) nothing ≡ o → PutsBack o → IsUndone x s D I O s′ D′ I′ O′
   unfolding undo overwrittenIn
-  put-back t e = λ P I L. ap (λ y. onState (retreatedBy x) (putBack y (machineWith s D O P I L))) t ∙ e P I L
+  put-back t e = λ P L. ap (λ y. onState (retreatedBy x) (putBack y (machineWith s D I O P L))) t ∙ e P L
 
-  pub undo-at : (j : ℕ) → whatIn x ≡ j → PutsBack (getD (readings x) j nothing) → IsUndone x s D O s′ D′ O′
+  pub undo-at : (j : ℕ) → whatIn x ≡ j → PutsBack (getD (readings x) j nothing) → IsUndone x s D I O s′ D′ I′ O′
   undo-at j has = put-back (ap (λ k. getD (readings x) k nothing) has)
 
-  pub undo-of-none : ((whatIn x ≡ 0 → ⊥) → 5 ≤ whatIn x) → PutsBack nothing → IsUndone x s D O s′ D′ O′
+  pub undo-of-none : ((whatIn x ≡ 0 → ⊥) → 6 ≤ whatIn x) → PutsBack nothing → IsUndone x s D I O s′ D′ I′ O′
   undo-of-none h = put-back (sym (vacant (readings x) 0 nothing (whatIn x) refl h))

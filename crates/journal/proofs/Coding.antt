@@ -8,7 +8,7 @@ use lib.Dec.{eqb}
 use lib.ListN.{getD}
 use Rattle.word.specs.Word.{clear0}
 use Rattle.word.proofs.Tables.{looked-up}
-use Rattle.journal.specs.Journal.{Overwritten, nothing, register, data-word, data-byte, output-word, coded, pcIn, valueIn, placeIn, whatIn, entryWith, readings, overwrittenIn, isOutput}
+use Rattle.journal.specs.Journal.{Overwritten, nothing, register, data-word, data-byte, output-word, key-read, coded, pcIn, valueIn, placeIn, whatIn, whichIn, entryWith, readings, overwrittenIn, isOutput}
 use Rattle.journal.proofs.Widths.{_then_, IsWord}
 
 -- the places and numbers that an entry can hold
@@ -18,6 +18,7 @@ Fits (register k v) = (k < 8) × IsWord v
 Fits (data-word k v) = IsWord k × (k % 2 ≡ 0) × IsWord v
 Fits (data-byte k v) = IsWord k × IsWord v
 Fits (output-word k v) = (k < 256) × IsWord v
+Fits (key-read k v s) = (k < 8) × IsWord v × IsWord s
 
 -- an output is what was overwritten
 abbrev pub isPort : Overwritten → Bool
@@ -26,18 +27,28 @@ isPort (register k v) = false
 isPort (data-word k v) = false
 isPort (data-byte k v) = false
 isPort (output-word k v) = true
+isPort (key-read k v s) = false
 
 -- ---- The fields of an entry
 
-record Fields (pc v k what x : ℕ) : Type 0 where
+record Fields (pc v k what which x : ℕ) : Type 0 where
   pc-is : pcIn x ≡ pc
   value-is : valueIn x ≡ v
   place-is : placeIn x ≡ k
   what-is : whatIn x ≡ what
+  which-is : whichIn x ≡ which
   small : x < 18446744073709551616
 
-fields : (pc v k what : ℕ) → IsWord pc → IsWord v → IsWord k → what < 256 → Fields pc v k what (coded pc v k what)
-fields pc v k what hp hv hk hw = record { pc-is = omega arith; value-is = omega arith; place-is = omega arith; what-is = omega arith; small = omega arith }
+fields : (pc v k what which : ℕ) → IsWord pc → IsWord v → IsWord k → what < 256 → which < 256 → Fields pc v k what which (coded pc v k what which)
+fields pc v k what which hp hv hk hw hr =
+    record {
+      pc-is = omega arith;
+      value-is = omega arith;
+      place-is = omega arith;
+      what-is = omega arith;
+      which-is = omega arith;
+      small = omega arith;
+    }
 
 -- ---- What is read from an entry, and from any number
 
@@ -47,7 +58,7 @@ pub record Reads (pc : ℕ) (o : Overwritten) (x : ℕ) : Type 0 where
   pub port : isOutput x ≡ isPort o
   pub small : x < 18446744073709551616
 
-module _ {pc v k what x : ℕ} (f : Fields pc v k what x) where
+module _ {pc v k what which x : ℕ} (f : Fields pc v k what which x) where
   reads : (o : Overwritten) → getD (readings x) what nothing ≡ o → eqb what 4 ≡ isPort o → Reads pc o x
   unfolding overwrittenIn
   reads o e t =
@@ -62,26 +73,36 @@ even : (k : ℕ) → k % 2 ≡ 0 → clear0 k ≡ k
 even k h = omega arith
 
 pub read-back : (pc : ℕ) (o : Overwritten) → IsWord pc → Fits o → Reads pc o (entryWith pc o)
-read-back pc nothing hp h = reads (fields pc 0 0 0 hp (omega arith) (omega arith) (omega arith)) nothing refl refl
+read-back pc nothing hp h = reads (fields pc 0 0 0 0 hp (omega arith) (omega arith) (omega arith) (omega arith)) nothing refl refl
 read-back pc (register k v) hp h =
-    let f = fields pc v k 1 hp (h .1) (omega arith) (omega arith) in
-    let p : placeIn (coded pc v k 1) % 8 ≡ k = omega (arith, f .place-is) in
+    let f = fields pc v k 1 0 hp (h .1) (omega arith) (omega arith) (omega arith) in
+    let p : placeIn (coded pc v k 1 0) % 8 ≡ k = omega (arith, f .place-is) in
     reads f (register k v) (λ i. register (p i) (f .value-is i)) refl
 read-back pc (data-word k v) hp h =
-    let f = fields pc v k 2 hp (h .2) (h .0) (omega arith) in
-    let p : clear0 (placeIn (coded pc v k 2)) ≡ k = ap clear0 (f .place-is) ∙ even k (h .1) in
+    let f = fields pc v k 2 0 hp (h .2) (h .0) (omega arith) (omega arith) in
+    let p : clear0 (placeIn (coded pc v k 2 0)) ≡ k = ap clear0 (f .place-is) ∙ even k (h .1) in
     reads f (data-word k v) (λ i. data-word (p i) (f .value-is i)) refl
 read-back pc (data-byte k v) hp h =
-    let f = fields pc v k 3 hp (h .1) (h .0) (omega arith) in
+    let f = fields pc v k 3 0 hp (h .1) (h .0) (omega arith) (omega arith) in
     reads f (data-byte k v) (λ i. data-byte (f .place-is i) (f .value-is i)) refl
 read-back pc (output-word k v) hp h =
-    let f = fields pc v k 4 hp (h .1) (omega arith) (omega arith) in
-    let p : placeIn (coded pc v k 4) % 256 ≡ k = omega (arith, f .place-is) in
+    let f = fields pc v k 4 0 hp (h .1) (omega arith) (omega arith) (omega arith) in
+    let p : placeIn (coded pc v k 4 0) % 256 ≡ k = omega (arith, f .place-is) in
     reads f (output-word k v) (λ i. output-word (p i) (f .value-is i)) refl
+read-back pc (key-read k v s) hp h =
+    let f = fields pc v s 5 k hp (h .1) (h .2) (omega arith) (omega arith) in
+    let p : whichIn (coded pc v s 5 k) % 8 ≡ k = omega (arith, f .which-is) in
+    reads f (key-read k v s) (λ i. key-read (p i) (f .value-is i) (f .place-is i)) refl
 
 pub reading-fits : (x : ℕ) → Fits (overwrittenIn x)
 unfolding overwrittenIn
 reading-fits x =
     looked-up Fits (readings x)
-    (tt then (omega arith, omega arith) then (omega arith, omega arith, omega arith) then (omega arith, omega arith) then (omega arith, omega arith) then tt)
+    (tt
+    then (omega arith, omega arith)
+    then (omega arith, omega arith, omega arith)
+    then (omega arith, omega arith)
+    then (omega arith, omega arith)
+    then (omega arith, omega arith, omega arith)
+    then tt)
     tt (whatIn x)

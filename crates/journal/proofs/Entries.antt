@@ -15,15 +15,15 @@ use Rattle.journal.specs.Parts.{machineWith, IsEntry}
 pub over-11 : (op : ℕ) → 8 ≤ op → (op ≡ 9 → ⊥) → (op ≡ 10 → ⊥) → (op ≡ 11 → ⊥) → (op ≡ 8 → ⊥) → 12 ≤ op
 over-11 op l n9 n10 n11 n8 = omega arith
 
-module _ (w : ℕ) (s : State) (D O : List ℕ) (small : w < 65536) {x : ℕ} where
-  pub entry-at : (op : ℕ) → w / 4096 ≡ op → ((P I L : List ℕ) → x ≡ entryWith (s .pc) (getD (overwrittenBy w (machineWith s D O P I L)) op nothing)) → IsEntry w s D O x
+module _ (w : ℕ) (s : State) (D I O : List ℕ) (small : w < 65536) {x : ℕ} where
+  pub entry-at : (op : ℕ) → w / 4096 ≡ op → ((P L : List ℕ) → x ≡ entryWith (s .pc) (getD (overwrittenBy w (machineWith s D I O P L)) op nothing)) → IsEntry w s D I O x
   unfolding overwritten
   entry-at op has e =
       let i : op ≡ opcode w = omega arith in
-      λ P I L. e P I L ∙ ap (λ k. entryWith (s .pc) (getD (overwrittenBy w (machineWith s D O P I L)) k nothing)) i
+      λ P L. e P L ∙ ap (λ k. entryWith (s .pc) (getD (overwrittenBy w (machineWith s D I O P L)) k nothing)) i
 
   -- nothing is overwritten where the opcode is 8 or there is none
-  pub entry-of-none : ((w / 4096 ≡ 8 → ⊥) → 12 ≤ w / 4096) → x ≡ coded (s .pc) 0 0 0 → IsEntry w s D O x
+  pub entry-of-none : ((w / 4096 ≡ 8 → ⊥) → 12 ≤ w / 4096) → x ≡ coded (s .pc) 0 0 0 0 → IsEntry w s D I O x
   unfolding overwritten
   entry-of-none h e =
-      λ P I L. e ∙ ap (entryWith (s .pc)) (vacant (overwrittenBy w (machineWith s D O P I L)) 8 nothing (opcode w) refl (λ n. omega (arith, h (λ z. n (omega arith)))))
+      λ P L. e ∙ ap (entryWith (s .pc)) (vacant (overwrittenBy w (machineWith s D I O P L)) 8 nothing (opcode w) refl (λ n. omega (arith, h (λ z. n (omega arith)))))

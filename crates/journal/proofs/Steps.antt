@@ -1,30 +1,40 @@
 -- What the step of a word writes, by the table of opcodes: of each rule, what it writes over what and where PC goes, from the machine
 -- before the step.
 -- Assumes nothing.
-use mathlib.Core.Path.{_≡_, refl}
+use mathlib.Core.Path.{_≡_, refl, subst}
 use mathlib.Core.Bool.{Bool, true, false, _&&_}
 use mathlib.Core.List.{List, [], _∷_}
 use Prim.Native.Nat.{ℕ, zero, suc, _+_, _*_, _%_, _<_}
 use native.Mathlib.Omega.{arith}
 use borrow.Author.Tests.{eqb-true, eqb-false, eq-eqb}
 use lib.Dec.{eqb}
-use lib.ListN.{length, getD, length-append}
+use lib.ListN.{length, getD, set, length-append}
+use lib.Seq.{getD-set-other}
 use Rattle.word.specs.Fields.{opcode, a-of, b-of, e-of, f-of, N8}
 use Rattle.word.specs.Word.{pick, flag, add, clear0, SE, operation, comparison}
 use Rattle.muldiv.specs.Muldiv.{muldiv}
-use Rattle.word.proofs.Tests.{clash}
-use Rattle.machine.specs.Machine.{Machine, R, putPC, count, onState, putO, wordAt}
-use Rattle.machine.specs.Step.{PC, Ra, Rb, A, A', d5-3, d8-6, d11-9, jump, Rule, compute, compare, addi, ld, st, ldb, stb, jalr, bz, bnz, movi, movhi, input, output, multiplyDivide, RuleRow, by-f, by-f-dividing, one, by-e, no-rule, ruleRows, among, rule, division, unassigned, ruleInRow, choice, fetched, cannot, to, doing, stepBy, step}
+use Rattle.word.proofs.Tables.{looked-up}
+use Rattle.word.proofs.Tests.{clash, either}
+use Rattle.machine.specs.Machine.{Machine, R, putPC, count, onState, onInputs, putO, wordAt}
+use Rattle.machine.specs.Step.{PC, Ra, Rb, A, A', d5-3, d8-6, d11-9, write, jump, Rule, compute, compare, addi, ld, st, ldb, stb, jalr, bz, bnz, movi, movhi, input, output, multiplyDivide, RuleRow, by-f, by-f-dividing, one, by-e, no-rule, ruleRows, among, rule, division, unassigned, ruleInRow, choice, fetched, cannot, to, doing, stepBy, step}
 use Rattle.machine.specs.Run.{isOut}
-use Rattle.journal.specs.Journal.{Overwritten, nothing, inRegister, register, data-word, data-byte, output-word, overwrittenBy, overwritten, putBack, butFor}
+use Rattle.journal.specs.Journal.{Overwritten, nothing, inRegister, byInput, register, data-word, data-byte, output-word, key-read, overwrittenBy, overwritten, putBack, readsKey, butFor}
 use Rattle.journal.specs.Ranges.{InRange}
 use Rattle.journal.proofs.Widths.{_then_, IsWord, extended-fits, operation-fits, comparison-fits, muldiv-fits}
 use Rattle.journal.proofs.Coding.{Fits, isPort}
-use Rattle.journal.proofs.Written.{heldIn}
+use Rattle.journal.proofs.Written.{heldIn, inputsPut}
 
 -- PC = PC+2 is done
 abbrev on : Machine → Machine
 on m = jump (add (PC m) 2) m
+
+-- the log becomes L
+abbrev pub logged : List ℕ → Machine → Machine
+logged L m = butFor (m .I) L m
+
+-- what IN overwrites, where t says that it reads the key
+abbrev byInputOf : Bool → ℕ → Machine → Overwritten
+byInputOf t w m = pick t (key-read (d11-9 w) (R (m .state) (d11-9 w)) (getD (m .I) 0 0)) (inRegister (d11-9 w) m)
 
 -- What a rule makes of m, PC = PC+2 done. It writes c, which overwrites o, PC becomes p, and the log becomes L, which is longer by one
 -- where a port is written.
@@ -32,7 +42,7 @@ pub record Makes (m after : Machine) (o : Overwritten) (port : Bool) : Type 0 wh
   pub c : Overwritten
   pub p : ℕ
   pub L : List ℕ
-  pub after-is : after ≡ butFor (m .I) L (onState (putPC p) (putBack c m))
+  pub after-is : after ≡ logged L (onState (putPC p) (putBack c m))
   pub over : heldIn c m ≡ o
   pub fits : InRange m → Fits c
   pub goes : InRange m → IsWord p
@@ -46,7 +56,7 @@ Stepped m next o port = (after : Machine) × (next ≡ onState count after) × M
 module _ (m : Machine) (w : ℕ) where
   -- c is written, no port, and PC becomes p
   abbrev Written : Rule → Overwritten → ℕ → Type 0
-  Written x c p = x w (on m) ≡ butFor (m .I) (m .L) (onState (putPC p) (putBack c m))
+  Written x c p = x w (on m) ≡ logged (m .L) (onState (putPC p) (putBack c m))
 
   quiet : (x : Rule) (c : Overwritten) (p : ℕ) → Written x c p → (InRange m → Fits c) → (InRange m → IsWord p) → isPort (heldIn c m) ≡ false → Makes m (x w (on m)) (heldIn c m) false
   quiet x c p e f g t =
@@ -90,10 +100,18 @@ module _ (m : Machine) (w : ℕ) where
   other-e true e = rw (eqb-true (e-of w) 0 e)
   other-e false e = eq-eqb (e-of w) 1 (omega (arith, eqb-false (e-of w) 0 e))
 
+  abbrev inputBy : Bool → Rule
+  inputBy t w m = onInputs (λ I. pick t (set I 0 0) I) (write (d11-9 w) (getD (m .I) (N8 w) 0) m)
+
+  by-key : (t : Bool) → Makes m (inputBy t w (on m)) (byInputOf t w m) false
+  by-key true =
+      quiet (inputBy true) (key-read (d11-9 w) (getD (m .I) (N8 w) 0) 0) (add (PC m) 2) refl (λ r. (omega arith, r .inputs .below (N8 w), omega arith)) (λ r. omega arith) refl
+  by-key false = writes (inputBy false) (d11-9 w) (getD (m .I) (N8 w) 0) refl (omega arith) (λ r. r .inputs .below (N8 w))
+
   by-port : (t : Bool) → eqb (e-of w) 0 ≡ t
-      → Makes m (pick t input output w (on m)) (pick (eqb (e-of w) 0) (inRegister (d11-9 w) m) (output-word (N8 w) (getD (m .O) (N8 w) 0))) (eqb (e-of w) 1)
+      → Makes m (pick t input output w (on m)) (pick (eqb (e-of w) 0) (byInput w m) (output-word (N8 w) (getD (m .O) (N8 w) 0))) (eqb (e-of w) 1)
   unfolding input output
-  by-port true e = rw (e, other-e true e) (writes input (d11-9 w) (getD (m .I) (N8 w) 0) refl (omega arith) (λ r. r .inputs .below (N8 w)))
+  by-port true e = rw (e, other-e true e) (by-key (eqb (N8 w) 1))
   by-port false e =
       rw (e, other-e false e)
       (record {
@@ -179,3 +197,55 @@ stepped m next e =
     let w = fetched m in
     by-row m w (getD ruleRows (opcode w) no-rule)
     (along-at m w ruleRows (overwrittenBy w m) (λ op. eqb op 10 && eqb (e-of w) 1) (all-rows m w) (opcode w)) e
+
+-- ---- What the step of w overwrites fits an entry.
+
+pub overwritten-fits : (w : ℕ) {m : Machine} → InRange m → Fits (overwritten w m)
+unfolding overwritten
+overwritten-fits w {m} r =
+    looked-up Fits (overwrittenBy w m)
+    (held (d5-3 w) (omega arith)
+    then held (d5-3 w) (omega arith)
+    then held (d8-6 w) (omega arith)
+    then held (d8-6 w) (omega arith)
+    then (omega arith, omega arith, omega (arith, r .memory .below (A' w m), r .memory .below (add (A' w m) 1)))
+    then held (d8-6 w) (omega arith)
+    then (omega arith, omega (arith, r .memory .below (A w m)))
+    then held (d8-6 w) (omega arith)
+    then tt
+    then held (d11-9 w) (omega arith)
+    then either Fits (eqb (e-of w) 0)
+    (either Fits (eqb (N8 w) 1) (omega arith, r .registers .below (d11-9 w), r .inputs .below 0) (held (d11-9 w) (omega arith)))
+    (omega arith, r .outputs .below (N8 w))
+    then held (d5-3 w) (omega arith)
+    then tt)
+    tt (opcode w)
+  where
+    held : (d : ℕ) → d < 8 → Fits (inRegister d m)
+    held d h = (h, r .registers .below d)
+
+-- ---- Where what the step of w overwrote is put back, input 0 is that of m if w reads the key, and no other input changes.
+
+module _ (m : Machine) (w : ℕ) (I : List ℕ) where
+  abbrev Puts : Overwritten → Bool → Type 0
+  Puts o key = inputsPut o I ≡ pick key (set I 0 (getD (m .I) 0 0)) I
+
+  by-e-and-port : (t k : Bool) → Puts (pick t (byInputOf k w m) (output-word (N8 w) (getD (m .O) (N8 w) 0))) (t && k)
+  by-e-and-port true true = refl
+  by-e-and-port true false = refl
+  by-e-and-port false k = refl
+
+  -- the other opcodes
+  none-else : (opcode w ≡ 10 → ⊥) → Puts (getD (overwrittenBy w m) (opcode w) nothing) false
+  none-else n =
+      subst (λ o. Puts o false) (getD-set-other (overwrittenBy w m) 10 (opcode w) nothing nothing n)
+      (looked-up (λ o. Puts o false) (set (overwrittenBy w m) 10 nothing)
+      (refl then refl then refl then refl then refl then refl then refl then refl then refl then refl then refl then refl then tt) refl (opcode w))
+
+  pub key-put : Puts (overwritten w m) (readsKey w)
+  unfolding overwritten
+  key-put = go (eqb (opcode w) 10) refl
+    where
+      go : (t : Bool) → eqb (opcode w) 10 ≡ t → Puts (getD (overwrittenBy w m) (opcode w) nothing) (t && eqb (e-of w) 0 && eqb (N8 w) 1)
+      go true e = rw (eqb-true (opcode w) 10 e) (by-e-and-port (eqb (e-of w) 0) (eqb (N8 w) 1))
+      go false e = none-else (eqb-false (opcode w) 10 e)

@@ -1,4 +1,5 @@
 pub mod Log
 pub mod Registers
+pub mod Inputs
 pub mod Runs
 pub mod Answers

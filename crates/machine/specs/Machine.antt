@@ -1,8 +1,9 @@
 -- The plain machine (01): its state, and what may be written in it.
 use Prim.Native.Nat.{ℕ, _+_, _-_, _*_, _/_, _%_}
 use mathlib.Core.List.{List, [], _∷_, _++_}
+use lib.Dec.{eqb}
 use lib.ListN.{getD, set, replicate}
-use Rattle.word.specs.Word.{add}
+use Rattle.word.specs.Word.{pick, add}
 use Rattle.machine.specs.declared.State.{State}
 
 -- ---- The register state: R0 to R7 and PC (16 bits each); n, the steps done (32 bits); the count of journal entries (02, L7; 64 bits).
@@ -59,6 +60,14 @@ putD D m = record { state = m .state; P = m .P; D = D; I = m .I; O = m .O; L = m
 -- Set (p, v): I[p] becomes v. Nothing else changes.
 abbrev pub putI : ℕ → ℕ → Machine → Machine
 putI p v m = record { state = m .state; P = m .P; D = m .D; I = set (m .I) p v; O = m .O; L = m .L }
+
+-- the inputs after a read of port p: reading port 1, the key's data, also sets input 0, the key's status, to zero (02, L8)
+abbrev pub readFrom : ℕ → List ℕ → List ℕ
+readFrom p I = pick (eqb p 1) (set I 0 0) I
+
+-- the inputs change
+abbrev pub onInputs : (List ℕ → List ℕ) → Machine → Machine
+onInputs f m = record { state = m .state; P = m .P; D = m .D; I = f (m .I); O = m .O; L = m .L }
 
 -- O[p] becomes v, and L gains an entry: n before the step times 16,777,216, plus port times 65,536, plus value
 abbrev pub putO : ℕ → ℕ → Machine → Machine

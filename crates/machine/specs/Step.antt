@@ -7,7 +7,7 @@ use lib.ListN.{getD}
 use Rattle.word.specs.Fields.{bits, field, opcode, a-of, b-of, e-of, f-of, N6, N8}
 use Rattle.word.specs.Word.{pick, add, clear0, SE, operation, comparison}
 use Rattle.muldiv.specs.Muldiv.{muldiv}
-use Rattle.machine.specs.Machine.{Machine, R, putR, putPC, count, onState, putD, putO, wordAt, putWord, putByte}
+use Rattle.machine.specs.Machine.{Machine, R, putR, putPC, count, onState, putD, readFrom, onInputs, putO, wordAt, putWord, putByte}
 
 -- ---- What the rules are made of
 
@@ -99,9 +99,9 @@ movi w m = write (d11-9 w) (SE 8 (N8 w)) m
 unfoldable pub movhi : Rule
 movhi w m = write (d11-9 w) (R (m .state) (d11-9 w) % 256 + N8 w * 256) m
 
--- IN Rd, N8           Rd=Input[N8]
+-- IN Rd, N8           Rd=Input[N8]; from port 1 then Input[0]=0
 unfoldable pub input : Rule
-input w m = write (d11-9 w) (getD (m .I) (N8 w) 0) m
+input w m = onInputs (readFrom (N8 w)) (write (d11-9 w) (getD (m .I) (N8 w) 0) m)
 
 -- OUT N8, Ra          Output[N8]=Ra
 unfoldable pub output : Rule

@@ -1,4 +1,4 @@
--- The file of case c (docs/CONFORMANCE.md).
+-- The file of case c (docs/CONFORMANCE.md), of each sort: as under "The file of case c", as under "Keys", and as for a table from 128 on.
 use Prim.Native.Nat.{ℕ, _+_, _-_, _*_, _/_, _%_}
 use mathlib.Core.List.{List, [], _∷_}
 use lib.Dec.{ltb, eqb}
@@ -6,10 +6,17 @@ use lib.ListN.{getD}
 use Rattle.word.specs.Word.{pick, flag}
 use Rattle.numbers.specs.Numbers.{numberOf}
 use Rattle.player.specs.Lists.{places}
+use Rattle.player.specs.declared.file.Sort.{Sort}
+use Rattle.player.specs.declared.file.Sort.the-variants.{Any, Keys, LowPorts}
 
--- W = 1 + number(c, 0) mod 200, C = number(c, 1) mod 300
-abbrev pub W : ℕ → ℕ
-W c = 1 + numberOf c 0 % 200
+-- W = 1 + number(c, 0) mod 200, C = number(c, 1) mod 300; under "Keys" W is 32
+abbrev pub anyW : ℕ → ℕ
+anyW c = 1 + numberOf c 0 % 200
+
+unfoldable pub W : Sort → ℕ → ℕ
+W Any c = anyW c
+W Keys c = 32
+W LowPorts c = anyW c
 
 abbrev pub C : ℕ → ℕ
 C c = numberOf c 1 % 300
@@ -19,20 +26,37 @@ abbrev pub damageOf : ℕ → ℕ
 damageOf c = numberOf c 2 % 16
 
 -- The file's length is 16 + 2·W + C; damage 0: it becomes number(c, 3) mod the length.
-unfoldable pub lengthOf : ℕ → ℕ → ℕ
-lengthOf c damage = let whole = 16 + 2 * W c + C c in pick (eqb damage 0) (numberOf c 3 % whole) whole
+unfoldable pub lengthOf : Sort → ℕ → ℕ → ℕ
+lengthOf sort c damage = let whole = 16 + 2 * W sort c + C c in pick (eqb damage 0) (numberOf c 3 % whole) whole
 
 -- Its header is W, 16, C, 16 + 2·W; damage 1: W grows by 32,768; 2: the program offset becomes 15; 3: the data offset grows by 1.
-unfoldable pub header : ℕ → ℕ → List ℕ
-header c damage =
-    (W c + 32768 * flag (eqb damage 1)) ∷ (16 - flag (eqb damage 2)) ∷ C c ∷ (16 + 2 * W c + flag (eqb damage 3)) ∷ []
+unfoldable pub header : Sort → ℕ → ℕ → List ℕ
+header sort c damage =
+    (W sort c + 32768 * flag (eqb damage 1)) ∷ (16 - flag (eqb damage 2)) ∷ C c ∷ (16 + 2 * W sort c + flag (eqb damage 3)) ∷ []
 
 -- Word j of the program is made from x = number(c, 1,000 + j): where number(c, 2,000 + j) mod 16 is 0 it is x; else it is
 -- (x / 4,096 mod 12) · 4,096 + x mod 4,096.
-unfoldable pub programWord : ℕ → ℕ → ℕ
-programWord c j =
+unfoldable pub anyWord : ℕ → ℕ → ℕ
+anyWord c j =
     let x = numberOf c (1000 + j) in
     pick (eqb (numberOf c (2000 + j) % 16) 0) x (x / 4096 % 12 * 4096 + x % 4096)
+
+-- Under "Keys": word j, for j from 0 to 29, where number(c, 4,000 + j) mod 2 is 0, is 40,960 + 512 · (x mod 8) + (x / 8) mod 4; else it is as
+-- above; word 30 is 32,993 and word 31 is 33,248.
+unfoldable pub keyWord : ℕ → ℕ → ℕ
+keyWord c j =
+    let x = numberOf c (1000 + j) in
+    pick (ltb j 30) (pick (eqb (numberOf c (4000 + j) % 2) 0) (40960 + 512 * (x % 8) + x / 8 % 4) (anyWord c j))
+    (pick (eqb j 30) 32993 33248)
+
+-- For a table from 128 on: the low byte of word j is made number(c, 4,000 + j) mod 4.
+unfoldable pub lowPortWord : ℕ → ℕ → ℕ
+lowPortWord c j = anyWord c j / 256 * 256 + numberOf c (4000 + j) % 4
+
+unfoldable pub programWord : Sort → ℕ → ℕ → ℕ
+programWord Any c j = anyWord c j
+programWord Keys c j = keyWord c j
+programWord LowPorts c j = lowPortWord c j
 
 -- the bytes of a number under 65,536, the low one first; others are 0
 abbrev pub bytesOf : ℕ → List ℕ
@@ -43,14 +67,14 @@ byteOf x k = getD (bytesOf x) k 0
 
 -- Byte `at` of the file: of the header, four bytes a number; byte i of the program, two a word; data byte j is number(c, 3,000 + j) mod 256.
 -- The rest of the file buffer is zero.
-unfoldable pub fileByte : ℕ → ℕ → ℕ → ℕ
-fileByte c damage at =
+unfoldable pub fileByte : Sort → ℕ → ℕ → ℕ → ℕ
+fileByte sort c damage at =
     let i = at - 16 in
-    let j = i - 2 * W c in
-    pick (ltb at 16) (byteOf (getD (header c damage) (at / 4) 0) (at % 4))
-    (pick (ltb i (2 * W c)) (byteOf (programWord c (i / 2)) (i % 2))
+    let j = i - 2 * W sort c in
+    pick (ltb at 16) (byteOf (getD (header sort c damage) (at / 4) 0) (at % 4))
+    (pick (ltb i (2 * W sort c)) (byteOf (programWord sort c (i / 2)) (i % 2))
     (pick (ltb j (C c)) (numberOf c (3000 + j) % 256) 0))
 
 -- the file buffer of 65,537 bytes
-abbrev pub fileOf : ℕ → ℕ → List ℕ
-fileOf c damage = places 65537 (fileByte c damage)
+abbrev pub fileOf : Sort → ℕ → ℕ → List ℕ
+fileOf sort c damage = places 65537 (fileByte sort c damage)

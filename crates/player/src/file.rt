@@ -4,9 +4,16 @@ ghost use Prim.Native.Nat.{_<_};
 ghost use lib.Dec.{eqb};
 ghost use lib.ListN.{getD};
 ghost use Rattle.word.specs.Word.{flag};
-ghost use Rattle.player.specs.File.{W, C, damageOf, lengthOf, header, programWord, byteOf, fileByte, fileOf};
+ghost use Rattle.player.specs.File.{anyW, W, C, damageOf, lengthOf, header, anyWord, keyWord, lowPortWord, programWord, byteOf, fileByte, fileOf};
 use crate::lent::File;
 use numbers::number;
+
+// The sort of a file, by its program: a case's, one of "Keys", or one for a table from 128 on.
+pub enum Sort {
+    Any,
+    Keys,
+    LowPorts,
+}
 
 // A damage that is none.
 pub const NO_DAMAGE: u16 = 16;
@@ -18,11 +25,21 @@ pub fn damage(c: u16) -> u16
     number(c, 2) % 16
 }
 
-// W of the page.
-fn words(c: u16) -> u16
-    ensures { λ r. ⌜ (r ≡ W c) × (r < 201) ⌝ }
+fn any_words(c: u16) -> u16
+    ensures { λ r. ⌜ (r ≡ anyW c) × (r < 201) ⌝ }
 {
     1 + number(c, 0) % 200
+}
+
+// W of the page.
+fn words(sort: Sort, c: u16) -> u16
+    ensures { λ r. ⌜ (r ≡ W sort c) × (r < 201) ⌝ }
+{
+    match sort {
+        Sort::Any => any_words(c),
+        Sort::Keys => 32,
+        Sort::LowPorts => any_words(c),
+    }
 }
 
 // C of the page.
@@ -40,28 +57,61 @@ fn equal(x: u16, y: u16) -> u16
 }
 
 // Number i of the header.
-fn header(c: u16, damage: u16, i: usize) -> u16
-    ensures { λ r. ⌜ r ≡ getD (header c damage) i 0 ⌝ }
+fn header(sort: Sort, c: u16, damage: u16, i: usize) -> u16
+    ensures { λ r. ⌜ r ≡ getD (header sort c damage) i 0 ⌝ }
 {
     match i {
-        0 => words(c) + 32768 * equal(damage, 1),
+        0 => words(sort, c) + 32768 * equal(damage, 1),
         1 => 16 - equal(damage, 2),
         2 => bytes(c),
-        3 => 16 + 2 * words(c) + equal(damage, 3),
+        3 => 16 + 2 * words(sort, c) + equal(damage, 3),
         _ => 0,
     }
 }
 
-// Word j of the program.
-fn program_word(c: u16, j: u16) -> u16
+fn any_word(c: u16, j: u16) -> u16
     requires { ⌜ j < 200 ⌝ }
-    ensures { λ r. ⌜ r ≡ programWord c j ⌝ }
+    ensures { λ r. ⌜ r ≡ anyWord c j ⌝ }
 {
     let x = number(c, 1000 + j);
     if number(c, 2000 + j) % 16 == 0 {
         x
     } else {
         x / 4096 % 12 * 4096 + x % 4096
+    }
+}
+
+// An IN of a port from 0 to 3, or any word; at the end a BZ and a BNZ of R0 to address 0.
+fn key_word(c: u16, j: u16) -> u16
+    requires { ⌜ j < 200 ⌝ }
+    ensures { λ r. ⌜ r ≡ keyWord c j ⌝ }
+{
+    if j >= 30 {
+        return if j == 30 { 32993 } else { 33248 };
+    }
+    if number(c, 4000 + j) % 2 != 0 {
+        return any_word(c, j);
+    }
+    let x = number(c, 1000 + j);
+    40960 + 512 * (x % 8) + x / 8 % 4
+}
+
+fn low_port_word(c: u16, j: u16) -> u16
+    requires { ⌜ j < 200 ⌝ }
+    ensures { λ r. ⌜ r ≡ lowPortWord c j ⌝ }
+{
+    any_word(c, j) / 256 * 256 + number(c, 4000 + j) % 4
+}
+
+// Word j of the program.
+fn program_word(sort: Sort, c: u16, j: u16) -> u16
+    requires { ⌜ j < 200 ⌝ }
+    ensures { λ r. ⌜ r ≡ programWord sort c j ⌝ }
+{
+    match sort {
+        Sort::Any => any_word(c, j),
+        Sort::Keys => key_word(c, j),
+        Sort::LowPorts => low_port_word(c, j),
     }
 }
 
@@ -77,16 +127,16 @@ fn part(x: u16, i: usize) -> u8
 }
 
 // Byte `at` of the file, zero after its end.
-fn byte(c: u16, damage: u16, at: usize) -> u8
-    ensures { λ r. ⌜ r ≡ fileByte c damage at ⌝ }
+fn byte(sort: Sort, c: u16, damage: u16, at: usize) -> u8
+    ensures { λ r. ⌜ r ≡ fileByte sort c damage at ⌝ }
 {
     if at < 16 {
-        return part(header(c, damage, at / 4), at % 4);
+        return part(header(sort, c, damage, at / 4), at % 4);
     }
     let at = at - 16;
-    let program_bytes = 2 * words(c) as usize;
+    let program_bytes = 2 * words(sort, c) as usize;
     if at < program_bytes {
-        return part(program_word(c, (at / 2) as u16), at % 2);
+        return part(program_word(sort, c, (at / 2) as u16), at % 2);
     }
     let at = at - program_bytes;
     if at < bytes(c) as usize {
@@ -96,20 +146,20 @@ fn byte(c: u16, damage: u16, at: usize) -> u8
 }
 
 // The file of case c with a damage, and zeros after it.
-pub fn make(c: u16, damage: u16) -> File
-    ensures { λ r. ⌜ r ≡ fileOf c damage ⌝ }
+pub fn make(sort: Sort, c: u16, damage: u16) -> File
+    ensures { λ r. ⌜ r ≡ fileOf sort c damage ⌝ }
 {
     let mut file = [0; 65537];
     for at in 0..65537 {
-        file[at] = byte(c, damage, at);
+        file[at] = byte(sort, c, damage, at);
     }
     file
 }
 
-pub fn length(c: u16, damage: u16) -> u16
-    ensures { λ r. ⌜ r ≡ lengthOf c damage ⌝ }
+pub fn length(sort: Sort, c: u16, damage: u16) -> u16
+    ensures { λ r. ⌜ r ≡ lengthOf sort c damage ⌝ }
 {
-    let whole = 16 + 2 * words(c) + bytes(c);
+    let whole = 16 + 2 * words(sort, c) + bytes(c);
     if damage == 0 {
         number(c, 3) % whole
     } else {

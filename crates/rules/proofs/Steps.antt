@@ -1,6 +1,6 @@
 -- What is held after the step of a word: at no port, IN, and OUT.
 -- Assumes nothing.
-use mathlib.Core.Path.{_≡_, refl, sym, ap, subst, _∙_}
+use mathlib.Core.Path.{_≡_, refl, sym, ap, ap₂, _∙_}
 use mathlib.Core.Bool.{Bool, true, false, _&&_}
 use mathlib.Core.List.{List}
 use Prim.Native.Nat.{ℕ, _+_, _*_, _%_, _≤_, _<_}
@@ -10,7 +10,7 @@ use lib.ListN.{length, getD, set, length-set}
 use Rattle.word.specs.Fields.{N8}
 use Rattle.machine.specs.declared.State.{State}
 use Rattle.machine.specs.declared.Stepped.{Stepped}
-use Rattle.machine.specs.Machine.{Machine, putR, onState}
+use Rattle.machine.specs.Machine.{putR, readFrom}
 use Rattle.machine.specs.Step.{d11-9, rule, choice, Next, cannot, to, stepBy, input, output}
 use Rattle.machine.specs.Run.{isOut, unless}
 use Rattle.machine.specs.Held.{Held, held, machineOf, isFull, outcomeOf, StepMeets}
@@ -48,13 +48,16 @@ module _ (w : ℕ) (h : Held) (filled : h .entries ≤ length (h .log)) {r : Ste
       }
 
   module _ {next : State} (advanced : next ≡ advancedOf (h .state)) where
-    pub in-done : {t : State} → t ≡ putR (d11-9 w) (getD (h .I) (N8 w) 0) next → r ≡ answer 0 t (h .entries)
-        → Leaves (stepBy (rule input) w) false h r (h .D) (h .I) (h .O) (h .log)
+    pub in-done : {t : State} {I′ : List ℕ} → (t ≡ putR (d11-9 w) (getD (h .I) (N8 w) 0) next) × (I′ ≡ readFrom (N8 w) (h .I)) → r ≡ answer 0 t (h .entries)
+        → Leaves (stepBy (rule input) w) false h r (h .D) I′ (h .O) (h .log)
     unfolding input
-    in-done et er =
+    in-done e er =
         answered r _ er
         record {
-          machine = λ P. ap (λ u. record { reason = 0; after = onState (λ s. u) (machineOf P h) }) (sym (et ∙ ap (putR (d11-9 w) (getD (h .I) (N8 w) 0)) advanced));
+          machine =
+              λ P.
+              ap₂ (λ u J. record { reason = 0; after = machineOf P (held u (h .D) J (h .O) (h .log) (h .entries)) })
+              (sym (e .0 ∙ ap (putR (d11-9 w) (getD (h .I) (N8 w) 0)) advanced)) (sym (e .1));
           rest = refl;
           filled = filled;
         }

@@ -112,14 +112,14 @@ fn at_port(
     w: u16,
     state: State,
     next: State,
-    inputs: &[u16],
+    inputs: &mut [u16],
     outputs: &mut [u16],
     log: &mut [u64],
     entries: usize,
 ) -> Stepped
     requires { ⌜ Begun 10 w state next ⌝ }
     requires { ⌜ (length (now inputs) ≡ 256) × (length (now outputs) ≡ 256) × (entries ≤ length (now log)) ⌝ }
-    ensures { λ r. ⌜ ((D : List ℕ) → StepMeets (stepBy (choice w) w) (isOut w) (held state D (now (inputs .entry)) (now (outputs .entry)) (now (log .entry)) entries) (r .stop) (held (r .state) D (now (inputs .entry)) (now (outputs .exit)) (now (log .exit)) (r .entries))) ⌝ }
+    ensures { λ r. ⌜ ((D : List ℕ) → StepMeets (stepBy (choice w) w) (isOut w) (held state D (now (inputs .entry)) (now (outputs .entry)) (now (log .entry)) entries) (r .stop) (held (r .state) D (now (inputs .exit)) (now (outputs .exit)) (now (log .exit)) (r .entries))) ⌝ }
 {
     if w / 256 % 2 == 0 {
         Stepped::done(rule::input(w, next, inputs), entries)

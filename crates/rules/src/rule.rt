@@ -4,7 +4,7 @@ ghost use lib.ListN.{length, getD};
 ghost use Rattle.word.specs.Fields.{f-of, N6, N8};
 ghost use Rattle.word.specs.Word.{add, clear0, SE, operation, comparison};
 ghost use Rattle.muldiv.specs.Muldiv.{muldiv};
-ghost use Rattle.machine.specs.Machine.{putR, putWord, putByte};
+ghost use Rattle.machine.specs.Machine.{putR, readFrom, putWord, putByte};
 ghost use Rattle.machine.specs.Step.{d5-3, d8-6, d11-9};
 ghost use Rattle.rules.specs.Parts.{dividesByZero, raOf, rbOf, sumOf, wordOf, byteOf, branchOf, linkOf, moveOf};
 use machine::Address;
@@ -136,10 +136,10 @@ pub fn moved(w: u16, state: State, next: State) -> State
 }
 
 // IN.
-pub fn input(w: u16, next: State, inputs: &[u16]) -> State
+pub fn input(w: u16, next: State, inputs: &mut [u16]) -> State
     requires { ⌜ length (now inputs) ≡ 256 ⌝ }
-    ensures { λ r. ⌜ r ≡ putR (d11-9 w) (getD (now (inputs .entry)) (N8 w) 0) next ⌝ }
+    ensures { λ r. ⌜ (r ≡ putR (d11-9 w) (getD (now (inputs .entry)) (N8 w) 0) next) × (now (inputs .exit) ≡ readFrom (N8 w) (now (inputs .entry))) ⌝ }
 {
     let port = Port((w % 256) as u8);
-    next.with_register(w / 512, bus::read_port(inputs, port))
+    next.with_register(w / 512, bus::read_input(inputs, port))
 }

@@ -6,6 +6,7 @@ mod backs;
 mod calls;
 mod files;
 mod host;
+mod keys;
 mod runs;
 mod saves;
 mod tables;
@@ -13,7 +14,8 @@ pub mod texts;
 
 pub use calls::lines;
 pub use files::file;
-pub use tables::{lines as table_lines, table};
+pub use keys::key_file;
+pub use tables::{file as table_file, lines as table_lines, table};
 
 use std::fmt;
 

@@ -7,7 +7,7 @@
 
 use crate::machine::{
     branch_target, comparison, data_word, divides_by_zero, e, extension, f, log_entry, opcode,
-    operation, store_data_word, Places, State, Stepped,
+    operation, store_data_word, take_input, Places, State, Stepped,
 };
 use crate::number::{bit_0_cleared, bits, modulo16, sign_extend, unsigned};
 
@@ -118,8 +118,9 @@ impl Read {
 
 /// "Bits 4..2 result: 0 unit, 1 word read, 2 SE of the byte read, 3 PC+2,
 /// 4 input." "The unit's result is the data address, with bit 0 cleared for a
-/// word".
-fn result(c: u16, x: &Read, places: &Places) -> u16 {
+/// word". Result 4 takes the key as IN does, whatever the destination; no other
+/// result looks at a port.
+fn result(c: u16, x: &Read, places: &mut Places) -> u16 {
     match bits(c, 4, 2) {
         0 => x.unit,
         1 => data_word(places.d, bit_0_cleared(x.unit)),
@@ -128,7 +129,7 @@ fn result(c: u16, x: &Read, places: &Places) -> u16 {
             modulo16(sign_extend(byte, 8))
         }
         3 => x.pc_plus_2,
-        4 => places.i[usize::from(x.port)],
+        4 => take_input(places.i, x.port),
         _ => 0,
     }
 }

@@ -1,10 +1,10 @@
-//! The journal that a run may keep, as document 02's request L7 says, and its
-//! entries' coding.
+//! The journal that a run may keep, as document 02's requests L7 and L8 say, and
+//! its entries' coding.
 //!
-//! Sentences in quotation marks are that request's.
+//! Sentences in quotation marks are L7's unless L8 is named before them.
 
 use crate::instruction::{read, Instruction, Kind};
-use crate::machine::{data_word, store_data_word, word, Places, State};
+use crate::machine::{data_word, reads_key, store_data_word, word, Places, State};
 use crate::masks::{masks, registers};
 use crate::number::modulo16;
 
@@ -38,6 +38,8 @@ pub fn add(journal: &mut Journal, state: &mut State, entry: Option<u64>) {
 enum Overwritten {
     Nothing,
     Register(u8, u16),
+    /// And input 0, last: the step read the key.
+    RegisterAndStatus(u8, u16, u16),
     /// At an even address.
     DataWord(u16, u16),
     DataByte(u16, u8),
@@ -60,6 +62,9 @@ impl Overwritten {
                 Overwritten::DataByte(at, places.d[usize::from(at)])
             }
             Kind::Out => Overwritten::Output(x.n as u8, places.o[x.n as usize]),
+            Kind::In if reads_key(x.n as u8) => {
+                Overwritten::RegisterAndStatus(x.d as u8, state.r[x.d as usize], places.i[0])
+            }
             _ => match registers(masks(w).writes).next() {
                 Some(k) => Overwritten::Register(k as u8, state.r[k]),
                 None => Overwritten::Nothing,
@@ -67,11 +72,16 @@ impl Overwritten {
         }
     }
 
-    /// Puts it back.
+    /// Puts it back. L8: "Stepping back past such a read gives input 0 what it held
+    /// before the read, even if it was set since."
     fn put_back(self, state: &mut State, places: &mut Places) {
         match self {
             Overwritten::Nothing => {}
             Overwritten::Register(k, value) => state.r[usize::from(k)] = value,
+            Overwritten::RegisterAndStatus(k, value, status) => {
+                state.r[usize::from(k)] = value;
+                places.i[0] = status;
+            }
             Overwritten::DataWord(even, value) => store_data_word(places.d, even, value),
             Overwritten::DataByte(at, value) => places.d[usize::from(at)] = value,
             Overwritten::Output(port, value) => places.o[usize::from(port)] = value,
@@ -100,6 +110,7 @@ impl Parts {
             Overwritten::DataWord(even, value) => (2, 0, value, even),
             Overwritten::DataByte(at, value) => (3, 0, u16::from(value), at),
             Overwritten::Output(port, value) => (4, port, value, 0),
+            Overwritten::RegisterAndStatus(k, value, status) => (5, k, value, status),
         };
         let rest = u64::from(small) + 4_096 * (u64::from(first) + 65_536 * u64::from(second));
         what + 16 * (u64::from(self.pc) + 65_536 * rest)
@@ -118,6 +129,7 @@ impl Parts {
                 2 => Overwritten::DataWord(second / 2 * 2, first),
                 3 => Overwritten::DataByte(second, (first % 256) as u8),
                 4 => Overwritten::Output((small % 256) as u8, first),
+                5 => Overwritten::RegisterAndStatus((small % 8) as u8, first, second),
                 _ => Overwritten::Nothing,
             },
         }
@@ -138,7 +150,7 @@ pub fn is_output(entry: u64) -> bool {
     matches!(Parts::of(entry).overwritten, Overwritten::Output(..))
 }
 
-/// Takes registers, PC, n, data and outputs back by an entry, any number.
+/// Takes registers, PC, n, data, outputs and input 0 back by an entry, any number.
 pub fn undo(entry: u64, state: &mut State, places: &mut Places) {
     let parts = Parts::of(entry);
     parts.overwritten.put_back(state, places);

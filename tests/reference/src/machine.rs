@@ -31,11 +31,12 @@ impl State {
     }
 }
 
-/// P, D, I and O as a host lends them, of any lengths.
+/// P, D, I and O as a host lends them, of any lengths. L8: "inputs count among
+/// what a run may change".
 pub struct Lent<'a> {
     pub p: &'a [u8],
     pub d: &'a mut [u8],
-    pub i: &'a [u16],
+    pub i: &'a mut [u16],
     pub o: &'a mut [u16],
 }
 
@@ -43,7 +44,7 @@ pub struct Lent<'a> {
 pub struct Places<'a> {
     pub p: &'a [u8; MEMORY],
     pub d: &'a mut [u8; MEMORY],
-    pub i: &'a [u16; PORTS],
+    pub i: &'a mut [u16; PORTS],
     pub o: &'a mut [u16; PORTS],
 }
 
@@ -200,6 +201,20 @@ pub fn store_data_word(d: &mut [u8; MEMORY], even: u16, rb: u16) {
     d[at + 1] = (rb / 256) as u8;
 }
 
+/// I[port]. L8: "IN from port 1 now also sets input 0 to zero".
+pub fn take_input(i: &mut [u16; PORTS], port: u8) -> u16 {
+    let value = i[usize::from(port)];
+    if reads_key(port) {
+        i[0] = 0;
+    }
+    value
+}
+
+/// L8: "Input port 0 is the key's status and port 1 its data."
+pub fn reads_key(port: u8) -> bool {
+    port == 1
+}
+
 /// "n before the step times 16,777,216, plus port times 65,536, plus value"
 pub fn log_entry(n: u32, port: u8, value: u16) -> u64 {
     u64::from(n) * 16_777_216 + u64::from(port) * 65_536 + u64::from(value)
@@ -340,8 +355,8 @@ fn move_immediate(w: u16, x: &Fields, after: &mut State) {
 /// Opcode 10: the entry that L gains, if any.
 fn access_port(w: u16, x: &Fields, n: u32, places: &mut Places, after: &mut State) -> Option<u64> {
     if e(w) == 0 {
-        // "e=0 IN: Rd = I[N8]"; "IN changes no input."
-        after.r[x.d_11_9] = places.i[usize::from(x.n8)];
+        // "e=0 IN: Rd = I[N8]"
+        after.r[x.d_11_9] = take_input(places.i, x.n8);
         return None;
     }
     // "e=1 OUT: O[N8] = Ra, and L gains an entry"

@@ -41,7 +41,7 @@ fn outcome(file: &[u8]) -> Result<Vec<String>, u8> {
     let lent = Lent {
         p: &p,
         d: &mut d,
-        i: &i,
+        i: &mut i,
         o: &mut o,
     };
     match run(Engine::PAPER_TABLE, state, lent, 1_000, &mut log) {

@@ -212,10 +212,10 @@ fn counted(
     log: &mut [u64],
     journal: Journal,
 ) -> Returned {
-    let (p, i) = (lent.p, lent.i);
-    let (mut d, mut o) = (lent.d.to_vec(), lent.o.to_vec());
+    let p = lent.p;
+    let (mut d, mut i, mut o) = (lent.d.to_vec(), lent.i.to_vec(), lent.o.to_vec());
     let reply = run_keeping(engine, state, lent, budget, log, journal);
-    let (d, o) = (&mut d[..], &mut o[..]);
+    let (d, i, o) = (&mut d[..], &mut i[..], &mut o[..]);
     let usage = Places::of(Lent { p, d, i, o })
         .map(|mut places| Usage::of_steps(state, &mut places, reply.steps()))
         .unwrap_or_default();

@@ -21,7 +21,7 @@ returns-3 c =
 
 go-back-requires : tie.Need-go-back-requires
 go-back-requires c κs =
-    let tests = c .before .before in
+    let tests = c .before .before .before in
     let held = tests .before in
     let l = held .before .before .before in
     let a = l .before .before .before .before .before .before .before .before .before .before .args in
@@ -31,8 +31,8 @@ go-back-requires c κs =
 
 returns-4 : tie.Need-returns-4
 returns-4 c =
-    let gone = c .before .before .before .before in
-    let tests = gone .before .before .before in
+    let gone = c .before .before .before .before .before .before in
+    let tests = gone .before .before .before .before in
     let held = tests .before in
     let l = held .before .before .before in
     gone-left _

@@ -1,4 +1,4 @@
--- The measure is the number of cases left.
+-- The measures are the cases left.
 -- Assumes nothing.
 use Prim.Native.Nat.{_-_}
 use native.Mathlib.Omega.{arith}
@@ -11,6 +11,8 @@ main-spec =
     (tie.spec
     (λ _ _ _ _ _ _ _ _ _ _ _ _. Unit {0})
     (λ _ _ _ _ _ _ _ _ _ _ _ c. 64 - c)
+    (λ _ _ _ _ _ _ _ _ _ _ _ _. Unit {0})
+    (λ _ _ _ _ _ _ _ _ _ _ _ c. 80 - c)
     (λ c κs. tt)
     (λ c. tt)
     (λ c κs. tt)
@@ -18,4 +20,9 @@ main-spec =
     (λ c. omega arith)
     (λ c. tt)
     (λ c κs. tt)
+    (λ c. tt)
+    (λ c κs. tt)
+    (λ c. omega arith)
+    (λ c. omega arith)
+    (λ c. tt)
     (λ c. tt))

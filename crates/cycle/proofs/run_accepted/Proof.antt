@@ -38,7 +38,7 @@ fetch-requires : tie.Need-fetch-requires Inv-loop μ-loop
 fetch-requires c κs = let v = c .before .loop .inv in (v .program, v .even)
 
 entry-requires : tie.Need-entry-requires Inv-loop μ-loop
-entry-requires c κs = let v = c .before .before .before .before .before .loop .inv in (v .memory, v .outputs)
+entry-requires c κs = let v = c .before .before .before .before .before .before .loop .inv in (v .memory, v .inputs, v .outputs)
 
 step-requires : tie.Need-step-requires Inv-loop μ-loop
 step-requires c κs =
@@ -105,7 +105,7 @@ loop-again c =
     (λ w. counts-by-place _ (v .counting) (f .fetch .ok) (w .1 .ensures .0) (w .1 .ensures .1) (w .0 .taken) (w .3) (λ i. counters (w .4 i) (w .5 i) (w .6 i)))
     (λ w. counts-at-once _ (v .counting) (w .0 .left) (w .5) ((λ i. counters (w .6 i) (w .7 i) (w .8 i)) ∙ w .4 .ensures))
     (c .if4 .came))
-    (⊎-elim (λ w k P I L. w .4 ∙ w .3 .ensures P I L) (λ w k. never (sym (w .0 .left) ∙ k)) (j .if1 .came))
+    (⊎-elim (λ w k P L. w .5 ∙ w .4 .ensures P L) (λ w k. never (sym (w .0 .left) ∙ k)) (j .if1 .came))
     (⊎-elim (λ w. inl (w .0 .taken, w .1)) (λ w. inr (w .0 .left, w .1)) (c .before .if3 .came))
     (k .step .kept .1 .1 .1 .1 .0)
     (k .step .kept .1 .1 .1 .1 .1 .0)

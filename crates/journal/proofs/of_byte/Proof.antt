@@ -14,7 +14,7 @@ returns c =
     let at = loaded .before in
     let args = at .before .before .args in
     c .coded .ensures
-    ∙ (λ i. coded (args .state .pc) ((loaded .load-byte .ensures ∙ (λ j. getD (now (args .memory)) (at .address .ensures j) 0)) i) (at .address .ensures i) 3)
+    ∙ (λ i. coded (args .state .pc) ((loaded .load-byte .ensures ∙ (λ j. getD (now (args .memory)) (at .address .ensures j) 0)) i) (at .address .ensures i) 3 0)
 
 pub of-byte-spec : {M : Type 1} → statement M
 of-byte-spec = tie.close (tie.spec (λ c κs. search needs) (λ c κs. search needs) (λ c κs. search needs) returns)

@@ -16,7 +16,7 @@ returns c =
     let args = at .before .before .args in
     c .coded .ensures
     ∙ (λ i. coded (args .state .pc) ((loaded .load-word .ensures ∙ (λ j. wordAt (now (args .memory)) (clear0 (at .address .ensures j)))) i)
-    ((c .before .clear-bit0 .ensures ∙ (λ j. clear0 (at .address .ensures j))) i) 2)
+    ((c .before .clear-bit0 .ensures ∙ (λ j. clear0 (at .address .ensures j))) i) 2 0)
 
 pub of-word-spec : {M : Type 1} → statement M
 of-word-spec = tie.close (tie.spec (λ c κs. search needs) (λ c κs. search needs) (λ c κs. search needs) (λ c κs. search needs) returns)

@@ -6,7 +6,7 @@ use native.Mathlib.Omega.{arith}
 use borrow.Author.Needs.{needs}
 use denote.Ref.{now}
 use Rattle.machine.specs.Machine.{putR}
-use Rattle.journal.specs.Journal.{valueIn, placeIn}
+use Rattle.journal.specs.Journal.{valueIn, placeIn, whichIn}
 use Rattle.journal.specs.Parts.{machineWith}
 use Rattle.journal.proofs.Backs.{undo-at, undo-of-none}
 use Rattle.journal.proofs.undo.Statement.{statement}
@@ -15,42 +15,52 @@ use Rattle.journal.proofs.undo.Tie as tie
 returns : tie.Need-returns
 returns c =
     let back = c .before .before in
-    let a = back .before .before .before .args in
+    let a = back .before .before .before .before .args in
     let x = a .entry in
-    undo-at x _ _ _ _ _ _ 1 (c .before .match .keys1)
-    (λ P I L. ap (λ t. machineWith t (now (a .memory)) (now (a .outputs)) P I L)
+    undo-at x _ _ _ _ _ _ _ _ 1 (c .before .match .keys1)
+    (λ P L. ap (λ t. machineWith t (now (a .memory)) (now (a .inputs)) (now (a .outputs)) P L)
     (sym (c .with-register .ensures ∙ ap (putR (placeIn x % 8) (valueIn x)) (back .retreated .ensures))))
 
 returns-2 : tie.Need-returns-2
 returns-2 c =
     let stored = c .before .before in
     let back = stored .before .before .before in
-    let a = back .before .before .before .args in
-    undo-at _ _ _ _ _ _ _ 2 (stored .before .before .match .keys2)
-    (λ P I L i. machineWith (sym (back .retreated .ensures) i) (sym (stored .store-word .ensures) i) (now (a .outputs)) P I L)
+    let a = back .before .before .before .before .args in
+    undo-at _ _ _ _ _ _ _ _ _ 2 (stored .before .before .match .keys2)
+    (λ P L i. machineWith (sym (back .retreated .ensures) i) (sym (stored .store-word .ensures) i) (now (a .inputs)) (now (a .outputs)) P L)
 
 returns-3 : tie.Need-returns-3
 returns-3 c =
     let stored = c .before .before in
     let back = stored .before .before .before in
-    let a = back .before .before .before .args in
-    undo-at _ _ _ _ _ _ _ 3 (stored .before .before .match .keys3)
-    (λ P I L i. machineWith (sym (back .retreated .ensures) i) (sym (stored .store-byte .ensures) i) (now (a .outputs)) P I L)
+    let a = back .before .before .before .before .args in
+    undo-at _ _ _ _ _ _ _ _ _ 3 (stored .before .before .match .keys3)
+    (λ P L i. machineWith (sym (back .retreated .ensures) i) (sym (stored .store-byte .ensures) i) (now (a .inputs)) (now (a .outputs)) P L)
 
 returns-4 : tie.Need-returns-4
 returns-4 c =
     let stored = c .before .before in
     let back = stored .before .before .before in
-    let a = back .before .before .before .args in
-    undo-at _ _ _ _ _ _ _ 4 (stored .before .before .match .keys4)
-    (λ P I L i. machineWith (sym (back .retreated .ensures) i) (now (a .memory)) (sym (stored .write-port .ensures) i) P I L)
+    let a = back .before .before .before .before .args in
+    undo-at _ _ _ _ _ _ _ _ _ 4 (stored .before .before .match .keys4)
+    (λ P L i. machineWith (sym (back .retreated .ensures) i) (now (a .memory)) (now (a .inputs)) (sym (stored .write-port .ensures) i) P L)
 
 returns-5 : tie.Need-returns-5
 returns-5 c =
+    let stored = c .before .before .before in
+    let back = stored .before .before .before in
+    let a = back .before .before .before .before .args in
+    let x = a .entry in
+    let registers = c .with-register2 .ensures ∙ ap (putR (whichIn x % 8) (valueIn x)) (back .retreated .ensures) in
+    undo-at x _ _ _ _ _ _ _ _ 5 (stored .before .before .match .keys5)
+    (λ P L i. machineWith (sym registers i) (now (a .memory)) (sym (stored .write-port2 .ensures) i) (now (a .outputs)) P L)
+
+returns-6 : tie.Need-returns-6
+returns-6 c =
     let back = c .before in
-    let a = back .before .before .before .args in
-    undo-of-none _ _ _ _ _ _ _ (λ n. omega (arith, c .match .rest))
-    (λ P I L. ap (λ t. machineWith t (now (a .memory)) (now (a .outputs)) P I L) (sym (back .retreated .ensures)))
+    let a = back .before .before .before .before .args in
+    undo-of-none _ _ _ _ _ _ _ _ _ (λ n. omega (arith, c .match .rest))
+    (λ P L. ap (λ t. machineWith t (now (a .memory)) (now (a .inputs)) (now (a .outputs)) P L) (sym (back .retreated .ensures)))
 
 pub undo-spec : {M : Type 1} → statement M
 undo-spec =
@@ -65,6 +75,9 @@ undo-spec =
     (λ c κs. search needs)
     (λ c. search needs)
     (λ c κs. search needs)
+    (λ c κs. search needs)
+    (λ c. search needs)
+    (λ c κs. search needs)
     returns
     (λ c. search needs)
     returns-2
@@ -72,4 +85,6 @@ undo-spec =
     returns-3
     (λ c. search needs)
     returns-4
-    returns-5)
+    (λ c. search needs)
+    returns-5
+    returns-6)

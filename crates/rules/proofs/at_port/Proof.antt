@@ -8,11 +8,12 @@ use Rattle.rules.proofs.at_port.Tie as tie
 
 returns : tie.Need-returns
 returns c =
-    let arm = c .before .before in
+    let reading = c .before .before .before in
+    let arm = reading .before .before in
     let start = arm .before .before .before .before in
     let w = start .args .w in
     let word = in-word w (start .fits .w .fits) (start .pre .0 .opcode) (arm .if1 .taken) in
-    λ D. rw (word .0, word .1) (in-done w _ (start .pre .1 .2) (start .pre .0 .advanced) (c .before .input .ensures) (c .done .ensures))
+    λ D. rw (word .0, word .1) (in-done w _ (start .pre .1 .2) (start .pre .0 .advanced) (reading .input .ensures) (c .done .ensures))
 
 returns-2 : tie.Need-returns-2
 returns-2 c =
@@ -28,6 +29,7 @@ at-port-spec =
     (λ c κs. search needs)
     (λ c κs. search needs)
     (λ c κs. search needs)
+    (λ c. search needs)
     returns
     (λ c. search needs)
     (λ c. search needs)

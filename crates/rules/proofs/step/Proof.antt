@@ -14,7 +14,7 @@ returns c =
     by-rule-done (start .args .w) _ (start .pre .filled) (at-no-port (start .args .w) (start .fits .w .fits) (λ e. omega arith)) (c .arithmetic .ensures _)
 
 returns-2 : tie.Need-returns-2
-returns-2 c = c .before .before .before .before .at-port .ensures _
+returns-2 c = c .before .before .before .before .before .before .at-port .ensures _
 
 returns-3 : tie.Need-returns-3
 returns-3 c =

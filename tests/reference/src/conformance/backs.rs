@@ -8,8 +8,22 @@ use crate::journal::Journal;
 use crate::machine::{Lent, State, PORTS};
 use crate::run::{run_by_rules, run_by_table, Returned};
 
+/// Which calls a case makes with a journal.
+pub struct Calls {
+    /// How many.
+    pub count: u64,
+    /// A call is a set where number(c, q) mod 8 is below this.
+    pub sets: u64,
+    /// The port of a set is number(c, q + 1) mod this.
+    pub ports: u64,
+}
+
 /// "Twelve calls follow"
-const CALLS: u64 = 12;
+pub const GOING_BACK: Calls = Calls {
+    count: 12,
+    sets: 1,
+    ports: 256,
+};
 
 /// A run by either engine.
 type RunBy = fn(State, Lent, u32, &mut [u64], Journal) -> Returned;
@@ -26,7 +40,7 @@ fn places_lent(call: Call) -> usize {
 
 impl Host {
     /// The calls of case c with a journal.
-    pub fn with_journal(&mut self, c: u64) -> Vec<String> {
+    pub fn with_journal(&mut self, c: u64, calls: &Calls) -> Vec<String> {
         // "of 256 places, made anew, place i being i"
         let mut journal: Vec<u64> = (0..256).collect();
         let call = |j: u64| Call {
@@ -34,16 +48,16 @@ impl Host {
             i: j,
             q: 7_000 + 16 * j,
         };
-        (0..CALLS)
-            .map(|j| self.call_with_journal(call(j), &mut journal))
+        (0..calls.count)
+            .map(|j| self.call_with_journal(call(j), calls, &mut journal))
             .collect()
     }
 
-    fn call_with_journal(&mut self, call: Call, journal: &mut [u64]) -> String {
+    fn call_with_journal(&mut self, call: Call, calls: &Calls, journal: &mut [u64]) -> String {
         match call.number(0) % 8 {
             // "all inputs lent"
-            0 => self.set(call, PORTS),
-            1..=3 => self.journaled(call, "rules", run_by_rules, journal),
+            sort if sort < calls.sets => self.set(call, calls.ports, PORTS),
+            0..=3 => self.journaled(call, "rules", run_by_rules, journal),
             4 | 5 => self.journaled(call, "table", run_by_table, journal),
             _ => self.back(call, journal),
         }

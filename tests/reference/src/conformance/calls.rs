@@ -1,5 +1,6 @@
 //! "`conformance`: the calls of case c", and the printed runs.
 
+use super::backs::GOING_BACK;
 use super::files::{file, undamaged};
 use super::host::Host;
 use super::runs::{first_sheet, By};
@@ -25,6 +26,7 @@ pub fn lines() -> Vec<String> {
         lines.extend(host.case(c));
     }
     lines.extend(printed());
+    lines.extend(host.keys());
     lines
 }
 
@@ -44,7 +46,7 @@ impl Host {
             let (saves, again) = self.saves(c);
             lines.extend(saves);
             if again == Some(0) {
-                lines.extend(self.with_journal(c));
+                lines.extend(self.with_journal(c, &GOING_BACK));
             }
         }
         lines
@@ -58,7 +60,7 @@ impl Host {
                     0 => 255,
                     _ => PORTS,
                 };
-                vec![self.set(call, length)]
+                vec![self.set(call, 256, length)]
             }
             1 | 2 => self.run_and_feed(By::Rules, call),
             3 | 4 => self.run_and_feed(By::Table, call),
@@ -68,9 +70,9 @@ impl Host {
         }
     }
 
-    /// "set c i REFUSAL DIGEST", so many inputs lent.
-    pub fn set(&mut self, call: Call, length: usize) -> String {
-        let port = (call.number(1) % 256) as u8;
+    /// "set c i REFUSAL DIGEST" of one of the first `ports`, so many inputs lent.
+    pub fn set(&mut self, call: Call, ports: u64, length: usize) -> String {
+        let port = (call.number(1) % ports) as u8;
         let value = call.number(2) as u16;
         let refusal = set(&mut self.inputs[..length], port, value)
             .err()

@@ -4,12 +4,12 @@ use super::number;
 use crate::save::file_of;
 
 /// "W = 1 + number(c, 0) mod 200, C = number(c, 1) mod 300."
-fn sizes(c: u64) -> (u64, u64) {
+pub fn sizes(c: u64) -> (u64, u64) {
     (1 + number(c, 0) % 200, number(c, 1) % 300)
 }
 
 /// Word j of the program of case c.
-fn program_word(c: u64, j: u64) -> u16 {
+pub fn program_word(c: u64, j: u64) -> u16 {
     let x = number(c, 1_000 + j);
     match number(c, 2_000 + j) % 16 {
         0 => x as u16,
@@ -19,10 +19,14 @@ fn program_word(c: u64, j: u64) -> u16 {
 
 /// The file of case c before the damage, without the buffer's rest.
 pub fn undamaged(c: u64) -> Vec<u8> {
-    let (w, data) = sizes(c);
-    let program: Vec<u8> = (0..w)
-        .flat_map(|j| program_word(c, j).to_le_bytes())
-        .collect();
+    let (w, _) = sizes(c);
+    of_words(c, w, |j| program_word(c, j))
+}
+
+/// The same of so many words, word j being `word(j)`.
+pub fn of_words(c: u64, w: u64, word: impl Fn(u64) -> u16) -> Vec<u8> {
+    let (_, data) = sizes(c);
+    let program: Vec<u8> = (0..w).flat_map(|j| word(j).to_le_bytes()).collect();
     let data: Vec<u8> = (0..data)
         .map(|j| (number(c, 3_000 + j) % 256) as u8)
         .collect();

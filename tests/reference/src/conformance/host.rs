@@ -85,7 +85,7 @@ impl Host {
             lent: Lent {
                 p: &self.program,
                 d: &mut self.memory[..memory],
-                i: &self.inputs,
+                i: &mut self.inputs,
                 o: &mut self.outputs[..outputs],
             },
             budget: (call.number(1) % budget) as u32,

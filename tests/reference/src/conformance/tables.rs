@@ -1,6 +1,6 @@
 //! "`conformance_tables`: runs by any table"
 
-use super::files::undamaged;
+use super::files::{of_words, program_word, sizes, undamaged};
 use super::host::Host;
 use super::runs::numbers_of;
 use super::{number, Call};
@@ -8,8 +8,8 @@ use crate::control::{Table, TABLE};
 use crate::machine::{MEMORY, PORTS};
 use crate::run::{run, Engine};
 
-/// "Tables are 0 to 127"
-const TABLES: u64 = 128;
+/// "Tables are 0 to 159"
+const TABLES: u64 = 160;
 
 /// "Four runs by the table follow"
 const RUNS: u64 = 4;
@@ -30,10 +30,24 @@ pub fn table(t: u64) -> Table {
         0 => table[at(40, 32)] = number(c, 41) as u16,
         1 => table.swap(at(40, 24), at(41, 24)),
         // "with bit 14 set"
-        2 => table = numbers(c, 100).map(|word: u16| word | 0x4000),
+        2 if t < 128 => table = numbers(c, 100).map(|word: u16| word | 0x4000),
+        // "and bits 4..2 made 4 (the input)"
+        2 => table = numbers(c, 100).map(|word: u16| (word | 0x4000) & !0x1C | 0x10),
         _ => table = numbers(c, 100),
     }
     table
+}
+
+/// The file that is loaded for table t.
+pub fn file(t: u64) -> Vec<u8> {
+    let c = case_of(t);
+    match t {
+        0..128 => undamaged(c),
+        // "the low byte of word j of the program is number(c, 4,000 + j) mod 4"
+        _ => of_words(c, sizes(c).0, |j| {
+            program_word(c, j) / 256 * 256 + (number(c, 4_000 + j) % 4) as u16
+        }),
+    }
 }
 
 /// The numbers of case c from number k on.
@@ -55,7 +69,7 @@ impl Host {
     /// The load of table t's file, which is not printed, and the runs by t.
     fn runs(&mut self, t: u64) -> Vec<String> {
         let c = case_of(t);
-        self.load(&undamaged(c), MEMORY);
+        self.load(&file(t), MEMORY);
         // "Then input p becomes number(c, 400 + p), for every p"
         self.inputs = numbers::<PORTS>(c, 400).to_vec();
         // "with Rk made number(c, 60 + k)"

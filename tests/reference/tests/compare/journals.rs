@@ -1,9 +1,10 @@
-//! Journals: long ones, there and back and forward again, what a journal holds,
-//! and journals of any numbers.
+//! Journals: every word, long ones, there and back and forward again, past reads of
+//! the key, what a journal holds, and journals of any numbers.
 
 mod again;
 mod any;
 mod held;
+mod keys;
 mod words;
 
 use crate::make::one_of;

@@ -10,11 +10,11 @@ pub fn one_of<T: Copy>(random: &mut Random, choice: &[T]) -> T {
     choice[random.below(choice.len() as u64) as usize]
 }
 
-/// A port; a few often, so that a set port is read.
+/// A port; a few often, so that a set port is read, and the key's most.
 pub fn port(random: &mut Random) -> u8 {
-    match random.below(2) {
-        0 => one_of(random, &[0, 1, 127, 255]),
-        _ => random.word() as u8,
+    match random.below(3) {
+        0 => random.word() as u8,
+        _ => one_of(random, &[0, 0, 1, 1, 2, 255]),
     }
 }
 

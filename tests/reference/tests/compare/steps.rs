@@ -63,10 +63,11 @@ pub fn calls(state: State) -> [Call; 3] {
     ]
 }
 
-/// Puts the word at PC.
+/// Puts the word at PC, and at input 0 what a read of the key clears.
 pub fn put(lent: Lent, pc: u16, w: u16) {
     let at = usize::from(pc);
     lent.program[at..at + 2].copy_from_slice(&w.to_le_bytes());
+    lent.inputs[0] = w | 1;
 }
 
 #[test]

@@ -128,7 +128,7 @@ impl Board {
         Lent {
             p: &self.p,
             d: &mut self.d,
-            i: &self.i,
+            i: &mut self.i,
             o: &mut self.o,
         }
     }

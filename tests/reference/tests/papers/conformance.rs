@@ -2,6 +2,7 @@
 //! lively.
 
 mod backs;
+mod keys;
 mod sheets;
 
 use reference::conformance::{file, lines, number, table, table_lines, Digest};
@@ -177,7 +178,7 @@ const OF_RUNS: [&str; 7] = ["1", "5", "6", "0 0", "0 1", "0 2", "0 3"];
 #[test]
 fn every_refusal_and_stop_reason_occurs() {
     let lines = lines();
-    assert_eq!(count(&lines, "load"), 64);
+    assert_eq!(count(&lines, "load"), 64 + 16);
     occur(&lines, "load *", &["0", "1", "2", "3", "4"]);
     occur(&lines, "set * *", &["0", "1"]);
     occur(&lines, "run rules * *", &OF_RUNS);
@@ -190,7 +191,7 @@ fn every_refusal_and_stop_reason_occurs() {
         occur(&lines, &start, &["0", "7"]);
     }
     // By s, in every case whose load was accepted.
-    let accepted = count(&lines, "load * 0");
+    let accepted = count(&lines, "load * 0") - 16;
     assert_eq!(count(&lines, "save"), 4 * accepted);
     for ending in ["0 0", "1 0", "2 9 0", "3 1 0"] {
         assert_eq!(count(&lines, &format!("save * {ending}")), accepted);
@@ -215,8 +216,8 @@ fn every_refusal_and_stop_reason_occurs() {
 #[test]
 fn every_refusal_and_stop_reason_of_a_run_occurs_by_any_table() {
     let lines = table_lines();
-    assert_eq!(lines.len(), 512);
-    assert_eq!(count(&lines, "run control"), 512);
+    assert_eq!(lines.len(), 640);
+    assert_eq!(count(&lines, "run control"), 640);
     occur(&lines, "run control * *", &OF_RUNS);
     // Table 88 has OUT's word at IN's place. Its program: LD, SHA, STB, SHA, LD,
     // IN, unassigned. The log lent has three places.

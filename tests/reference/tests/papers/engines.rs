@@ -42,6 +42,7 @@ fn one_step_of_every_word() {
         }
         for board in [&mut rules, &mut table] {
             board.s = state;
+            board.i[0] = w | 1;
             board.put(state.pc, w);
         }
         assert_eq!(
@@ -49,6 +50,7 @@ fn one_step_of_every_word() {
             table.step(Engine::PAPER_TABLE),
             "{w:04X} on {state:?}"
         );
+        assert_eq!(rules.i, table.i, "{w:04X}");
     }
     assert!(rules == table);
 }

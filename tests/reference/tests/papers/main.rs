@@ -9,6 +9,7 @@ mod divisors;
 mod engines;
 mod extension;
 mod journals;
+mod keys;
 mod listing;
 mod marked;
 mod masks;

@@ -96,9 +96,10 @@ fn random_state(random: &mut Random) -> State {
     }
 }
 
-/// One step of the word by the plain machine.
+/// One step of the word by the plain machine, a key pressed.
 fn step(board: &mut Board, w: u16, state: State) -> Option<Stepped> {
     board.s = state;
+    board.i[0] = 1;
     board.put(state.pc, w);
     board.step(Engine::Rules)
 }
@@ -120,7 +121,8 @@ impl Twins {
             stepped
         });
         let found = step(&mut self.1, w, State { r, ..state });
-        let places_alike = self.0.d == self.1.d && self.0.o == self.1.o;
+        let (x, y) = (&self.0, &self.1);
+        let places_alike = (&x.d, &x.i, &x.o) == (&y.d, &y.i, &y.o);
         if !places_alike {
             self.1 = self.0.clone();
         }

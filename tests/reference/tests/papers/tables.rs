@@ -217,7 +217,7 @@ fn bit_15_says_nothing() {
             "{c:04X} beside {w:04X}"
         );
     }
-    assert!((clear.d, clear.o) == (set.d, set.o));
+    assert!((clear.d, clear.i, clear.o) == (set.d, set.i, set.o));
 }
 
 /// The word with this place's opcode and, where the table has a word for each,
@@ -244,7 +244,7 @@ fn the_paper_s_words_beside_any_word_do_as_the_rules_on_their_own() {
             assert_eq!(stepped, rules.step(Engine::Rules), "{c:04X}, {w:04X}");
         }
     }
-    assert!((rules.d, rules.o) == (table.d, table.o));
+    assert!((rules.d, rules.i, rules.o) == (table.d, table.i, table.o));
 }
 
 #[test]

@@ -18,6 +18,13 @@ struct Trail {
     boards: Vec<Board>,
     /// The plain machine.
     machine: Board,
+    /// How often going back undid a read of the key.
+    reads_undone: u32,
+}
+
+/// IN from port 1.
+fn reads_key(w: u16) -> bool {
+    w & 0xF1FF == 0xA001
 }
 
 impl Trail {
@@ -30,6 +37,7 @@ impl Trail {
             board,
             journal: vec![UNTOUCHED; PLACES],
             boards: Vec::new(),
+            reads_undone: 0,
         }
     }
 
@@ -64,7 +72,9 @@ impl Trail {
     }
 
     fn set(&mut self) {
-        let (port, value) = (self.random.word() as u8, self.random.value());
+        let any = self.random.word() as u8;
+        let port = [0, 0, 1, any][self.random.below(4) as usize];
+        let value = self.random.value();
         for board in [&mut self.board, &mut self.machine] {
             set(&mut board.i, port, value).unwrap();
         }
@@ -83,9 +93,14 @@ impl Trail {
         let outs = undone.iter().filter(|board| board.word() >> 12 == 10);
         let outs = outs.filter(|board| board.word() >> 8 & 1 == 1).count() as u64;
         assert_eq!((back.refusal(), back.fallen()), (0, outs));
+        // "Inputs set in between stay as set." L8: but for input 0, which has "what
+        // it held before the read", the earliest undone.
+        let mut i = self.machine.i.clone();
+        if let Some(board) = undone.iter().find(|board| reads_key(board.word())) {
+            i[0] = board.i[0];
+            self.reads_undone += 1;
+        }
         if let Some(earlier) = undone.into_iter().next() {
-            // "Inputs set in between stay as set."
-            let i = self.machine.i.clone();
             self.machine = Board { i, ..earlier };
         }
     }
@@ -105,8 +120,11 @@ impl Trail {
 #[test]
 fn lists_in_any_order() {
     let mut random = Random::new(0x7EA1);
+    let mut reads_undone = 0;
     for _ in 0..40 {
         let mut trail = Trail::new(Random::new(random.next()));
         (0..40).for_each(|_| trail.call());
+        reads_undone += trail.reads_undone;
     }
+    assert!(reads_undone > 30, "{reads_undone}");
 }

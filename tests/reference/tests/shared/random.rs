@@ -51,6 +51,8 @@ impl Random {
             1 => w - w % 8 + [0, 1, 3, 4, 5][self.below(5) as usize],
             // Few divisions, or runs soon end before a zero divisor.
             11 => w - w % 8 + [0, 0, 1, 1, 2, 2, 4, 5][self.below(8) as usize],
+            // Often the key's ports.
+            10 if self.below(2) == 0 => w - w % 256 + self.below(3) as u16,
             // Few jumps, or runs soon end in a short loop.
             7 | 8 if self.below(2) == 0 => 0x2000 + w % 4_096,
             _ => w,

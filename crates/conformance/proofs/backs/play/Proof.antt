@@ -9,8 +9,8 @@ pub play-spec : {M : Type 1} → statement M
 play-spec =
     tie.close
     (tie.spec
-    (λ _ _ _ _ _ _ _ _ _ _ _ _ _ _ _ _. Unit {0})
-    (λ _ _ _ _ _ _ _ _ _ _ _ _ _ _ _ j. 12 - j)
+    (λ _ _ _ _ _ _ _ _ _ _ _ _ _ _ _ _ _ _. Unit {0})
+    (λ _ _ _ _ _ _ _ _ _ _ count _ _ _ _ _ _ j. count - j)
     (λ c κs. tt)
     (λ c. tt)
     (λ c κs. tt)

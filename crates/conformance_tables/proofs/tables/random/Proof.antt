@@ -10,8 +10,8 @@ pub random-spec : {M : Type 1} → statement M
 random-spec =
     tie.close
     (tie.spec
-    (λ _ _ _ _ _ _. Unit {0})
-    (λ _ _ _ _ _ j. 32 - j)
+    (λ _ _ _ _ _ _ _. Unit {0})
+    (λ _ _ _ _ _ _ j. 32 - j)
     (λ c. tt)
     (λ c. omega arith)
     (λ c. omega arith)

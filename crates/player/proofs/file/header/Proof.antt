@@ -29,4 +29,4 @@ header-spec =
     (λ c. rw (c .before .match .keys2, c .equal2 .ensures .0))
     (λ c. rw (c .before .match .keys3) (c .bytes .ensures .0))
     (λ c. rw (c .before .before .match .keys4, c .before .words2 .ensures .0, c .equal3 .ensures .0))
-    (λ c. sym (List·getD-eq-default (header (c .before .args .c) (c .before .args .damage)) 0 {n = c .before .args .i} (omega arith))))
+    (λ c. sym (List·getD-eq-default (header (c .before .args .sort) (c .before .args .c) (c .before .args .damage)) 0 {n = c .before .args .i} (omega arith))))

@@ -11,10 +11,10 @@ use Rattle.player.proofs.file.make.Statement.{statement}
 use Rattle.player.proofs.file.make.Tie as tie
 
 abbrev Inv-loop : tie.InvT-loop
-Inv-loop c damage file₀ at₀ file at = Filled (fileOf c damage) file₀ file at
+Inv-loop sort c damage file₀ at₀ file at = Filled (fileOf sort c damage) file₀ file at
 
 abbrev μ-loop : tie.MeasureT-loop
-μ-loop c damage file₀ at₀ file at = 65537 - at
+μ-loop sort c damage file₀ at₀ file at = 65537 - at
 
 pub make-spec : {M : Type 1} → statement M
 make-spec =

@@ -1,7 +1,6 @@
--- By the number that decides it.
+-- By the sort.
 -- Assumes nothing.
 use borrow.Author.Needs.{needs}
-use borrow.Author.Tests.{eq-eqb, ne-eqb}
 use Rattle.player.specs.File.{programWord}
 use Rattle.player.proofs.file.program_word.Statement.{statement}
 use Rattle.player.proofs.file.program_word.Tie as tie
@@ -16,6 +15,7 @@ program-word-spec =
     (λ c. search needs)
     (λ c κs. search needs)
     (λ c. search needs)
-    (λ c. search needs)
-    (λ c. rw (← c .before .number2 .ensures, eq-eqb _ _ (c .if1 .taken)) (c .before .before .number .ensures))
-    (λ c. rw (← c .before .number2 .ensures, ne-eqb _ _ (c .if1 .left), ← c .before .before .number .ensures)))
+    (λ c κs. search needs)
+    (λ c. rw (c .before .enum-told .given .1) (c .any-word .ensures))
+    (λ c. rw (c .before .enum-told2 .given .1) (c .key-word .ensures))
+    (λ c. rw (c .before .enum-told3 .given .1) (c .low-port-word .ensures)))

@@ -108,40 +108,61 @@ fn after_back(kept: Kept, call: &Call, line: &str) -> (Kept, u64) {
     (Kept { n, journaled }, gone)
 }
 
+/// Asserts the counts of so many lines of case c, a call being a set where
+/// number(c, q) mod 8 is below `sets`: goings back by a step or more, and steps
+/// gone back.
+fn follow(lines: &[String], c: u64, sets: u64) -> (u64, u64) {
+    let mut kept = Kept::default();
+    let (mut backs, mut gone) = (0, 0);
+    for (j, line) in (0..).zip(lines) {
+        let call = Call { c, j };
+        let (start, sort) = match call.number(0) % 8 {
+            sort if sort < sets => ("set", 0),
+            0..=3 => ("journal rules", 1),
+            4 | 5 => ("journal table", 1),
+            _ => ("back", 2),
+        };
+        assert!(line.starts_with(&format!("{start} {c} {j} ")), "{line}");
+        if sort == 1 {
+            kept = after_run(kept, &call, line);
+        }
+        if sort == 2 {
+            let (after, k) = after_back(kept, &call, line);
+            kept = after;
+            gone += k;
+            backs += u64::from(k > 0);
+        }
+    }
+    (backs, gone)
+}
+
+/// The case of a line, its second word.
+fn case_of(line: &str) -> u64 {
+    numbers(line, 1)[0]
+}
+
 #[test]
 fn twelve_calls_after_each_second_load() {
     let lines = lines();
-    let (mut gone, mut backs, mut calls) = (0, 0, 0);
-    let starts = (0..lines.len()).filter(|&at| lines[at].starts_with("again "));
-    for start in starts {
-        let mut kept = Kept::default();
-        let c = numbers(&lines[start], 1)[0];
+    let (mut backs, mut gone, mut cases) = (0, 0, 0);
+    for at in (0..lines.len()).filter(|&at| lines[at].starts_with("again ")) {
         // Two more saves come first.
-        for (j, line) in (0..12).zip(&lines[start + 3..]) {
-            let call = Call { c, j };
-            let at = format!(" {c} {j} ");
-            assert!(line.contains(&at), "{line}");
-            match call.number(0) % 8 {
-                0 => assert!(line.starts_with("set "), "{line}"),
-                1..=3 => {
-                    assert!(line.starts_with("journal rules "), "{line}");
-                    kept = after_run(kept, &call, line);
-                }
-                4 | 5 => {
-                    assert!(line.starts_with("journal table "), "{line}");
-                    kept = after_run(kept, &call, line);
-                }
-                _ => {
-                    assert!(line.starts_with("back "), "{line}");
-                    let (after, k) = after_back(kept, &call, line);
-                    kept = after;
-                    gone += k;
-                    backs += u64::from(k > 0);
-                }
-            }
-            calls += 1;
-        }
+        let (more, steps) = follow(&lines[at + 3..at + 15], case_of(&lines[at]), 1);
+        (backs, gone, cases) = (backs + more, gone + steps, cases + 1);
     }
-    assert_eq!(calls, 12 * count(&lines, "again"));
+    assert_eq!(cases, count(&lines, "again"));
     assert!(backs > 20 && gone > 500, "{backs}, {gone}");
+}
+
+#[test]
+fn twenty_four_calls_with_keys() {
+    let lines = lines();
+    let first = lines.len() - 16 * 25;
+    let (mut backs, mut gone) = (0, 0);
+    for (c, case) in (64..).zip(lines[first..].chunks(25)) {
+        assert!(case[0].starts_with(&format!("load {c} 0 ")), "{}", case[0]);
+        let (more, steps) = follow(&case[1..], c, 2);
+        (backs, gone) = (backs + more, gone + steps);
+    }
+    assert!(backs > 20 && gone > 200, "{backs}, {gone}");
 }
