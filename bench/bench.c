@@ -197,6 +197,8 @@ static void check_run(int engine)
         what = "reply";
     else if (engine != UNCOUNTED && memcmp(&lent.reply.usage, &expected.reply.usage, sizeof lent.reply.usage) != 0)
         what = "usage";
+    else if (engine != UNCOUNTED && lent.reply.ticks != expected.reply.ticks)
+        what = "ticks";
     else if (memcmp(lent.memory, expected.memory, sizeof lent.memory) != 0)
         what = "memory";
     else if (memcmp(lent.inputs, expected.inputs, sizeof lent.inputs) != 0)
@@ -302,7 +304,7 @@ static double timed_host_steps(void)
                                            lent.outputs, PORTS, lent.log, lent.places);
         entries += answer.entries;
         if (i == repeat.calls - 1)
-            lent.reply = (SisaRun){ held, answer.refusal, answer.stop, answer.steps, 0, answer.usage };
+            lent.reply = (SisaRun){ held, answer.refusal, answer.stop, answer.steps, 0, answer.ticks, answer.usage };
     }
     double end = now();
     lent.reply.entries = entries;

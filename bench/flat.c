@@ -79,7 +79,9 @@ stopped:
     state.pc = pc;
     state.n += steps;
     state.journaled = JOURNALING ? state.journaled + steps : 0;
-    return (SisaRun){ .state = state, .stop = stop, .steps = steps, .entries = entries, .usage = usage };
+    return (SisaRun){
+        .state = state, .stop = stop, .steps = steps, .entries = entries, .ticks = ticks_of(steps, &usage), .usage = usage,
+    };
 }
 
 SisaRun flat_run(SisaState state,

@@ -72,6 +72,13 @@ static inline void count(SisaUsage *usage, unsigned kind, unsigned a, unsigned b
         usage->writes[d]++;
 }
 
+/* The ticks on the multicycle board: 3 an instruction, and 4 for LD, ST, LDB and STB. */
+static inline uint64_t ticks_of(uint32_t steps, const SisaUsage *usage)
+{
+    const uint64_t *kinds = usage->kinds;
+    return COUNTING ? 3 * (uint64_t)steps + kinds[LD] + kinds[ST] + kinds[LDB] + kinds[STB] : 0;
+}
+
 /* What a step overwrites. KEY is a register and input 0, the register's number 8 bits above it. */
 enum { NOTHING, REGISTER, WORD, BYTE, OUTPUT, KEY };
 

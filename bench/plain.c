@@ -98,7 +98,9 @@ stopped:
     state.pc = pc;
     state.n += steps;
     state.journaled = JOURNALING ? state.journaled + steps : 0;
-    return (SisaRun){ .state = state, .stop = stop, .steps = steps, .entries = entries, .usage = usage };
+    return (SisaRun){
+        .state = state, .stop = stop, .steps = steps, .entries = entries, .ticks = ticks_of(steps, &usage), .usage = usage,
+    };
 }
 
 SisaRun plain_run(SisaState state,

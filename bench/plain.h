@@ -5,7 +5,7 @@
 
 enum { MEMORY_BYTES = 65536, PORTS = 256 };
 
-/* The run of sisa_run_by_rules (sisa.h), by C interpreters. The usage of uncounted_run is all 0. */
+/* The run of sisa_run_by_rules (sisa.h), by C interpreters. The usage and the ticks of uncounted_run are all 0. */
 typedef SisaRun Run(SisaState state,
                     const uint8_t *program, size_t program_len,
                     uint8_t *memory, size_t memory_len,

@@ -101,7 +101,8 @@ static int show_run(const char *title, const SisaRun *run)
     feed(run->refusal, run->usage);
     if (refused(run->refusal))
         return 0;
-    printf("%s: stop %u, steps %u, entries %u\n", title, run->stop, run->steps, (unsigned)run->entries);
+    printf("%s: stop %u, steps %u, entries %u, ticks %llu\n", title, run->stop, run->steps, (unsigned)run->entries,
+           (unsigned long long)run->ticks);
     print_corrections(run->entries);
     print_state("state", &run->state);
     return 1;

@@ -61,6 +61,7 @@ mod ffi {
         pub stop: u8,
         pub steps: u32,
         pub entries: u64,
+        pub ticks: u64,
         pub usage: Usage,
     }
 
@@ -70,6 +71,7 @@ mod ffi {
         pub stop: u8,
         pub steps: u32,
         pub entries: u64,
+        pub ticks: u64,
         pub usage: Usage,
     }
 
@@ -129,11 +131,12 @@ const FILE_BYTES: usize = 16 + 2 * MEMORY_BYTES;
 #[derive(Debug)]
 struct Refusal(u8);
 
-/// Why a run stopped, its steps, the entries it wrote and its counts.
+/// Why a run stopped, its steps, the entries it wrote, its ticks and its counts.
 struct Report {
     stop: u8,
     steps: u32,
     entries: usize,
+    ticks: u64,
     usage: Usage,
 }
 
@@ -293,6 +296,7 @@ impl Machine {
                 stop: reply.stop,
                 steps: reply.steps,
                 entries: reply.entries as usize,
+                ticks: reply.ticks,
                 usage: reply.usage,
             },
         )
@@ -345,6 +349,7 @@ impl Machine {
                 stop: reply.stop,
                 steps: reply.steps,
                 entries: reply.entries as usize,
+                ticks: reply.ticks,
                 usage: reply.usage,
             },
         )
@@ -394,8 +399,8 @@ impl Host {
     fn show_run(&mut self, title: &str, run: &Report) -> Result<(), Refusal> {
         feed(&mut self.sheet, run)?;
         println!(
-            "{title}: stop {}, steps {}, entries {}",
-            run.stop, run.steps, run.entries
+            "{title}: stop {}, steps {}, entries {}, ticks {}",
+            run.stop, run.steps, run.entries, run.ticks
         );
         self.machine.print_corrections(&self.log[..run.entries]);
         self.machine.print("state");

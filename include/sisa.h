@@ -70,13 +70,14 @@ typedef struct {
 
 /* What a run replies: the state (as handed, where the run is refused), the refusal, the stop reason (0 budget used or journal
    full, 1 unassigned word, 2 OUT with the log full, 3 DIV or DIVU by zero), the steps taken, the entries written to the log,
-   and the counts. */
+   the ticks that these steps take on the multicycle board (3 an instruction, and 4 for LD, ST, LDB and STB), and the counts. */
 typedef struct {
     SisaState state;
     uint8_t refusal;
     uint8_t stop;
     uint32_t steps;
     uint64_t entries;
+    uint64_t ticks;
     SisaUsage usage;
 } SisaRun;
 
@@ -86,6 +87,7 @@ typedef struct {
     uint8_t stop;
     uint32_t steps;
     uint64_t entries;
+    uint64_t ticks;
     SisaUsage usage;
 } SisaAnswer;
 

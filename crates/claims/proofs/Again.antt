@@ -64,9 +64,9 @@ lends-on n e (with x) = with e
 
 -- what a run wrote
 wrote-is : (l : CountedLeft) {q s : ℕ} (es tail : List ℕ) → l .left .reply ≡ stopped q s (length es) → l .left .log ≡ es ++ tail
-    → wrote (of-run (l .left .reply) (l .usage) (l .left .log) (l .left .journal)) ≡ es
+    → wrote (of-run (l .left .reply) (l .usage) (l .ticks) (l .left .log) (l .left .journal)) ≡ es
 wrote-is l es tail r e =
-    ap (λ x. wrote (of-run x (l .usage) (l .left .log) (l .left .journal))) r ∙ ap (take (length es)) e ∙ take-at es tail (length es) refl
+    ap (λ x. wrote (of-run x (l .usage) (l .ticks) (l .left .log) (l .left .journal))) r ∙ ap (take (length es)) e ∙ take-at es tail (length es) refl
 
 -- ---- All of them
 

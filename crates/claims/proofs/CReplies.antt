@@ -118,7 +118,7 @@ module _ (v : Stepper) (g : Given) where
       × ((runInNumbers (countedBy v x g) .reply .refusal ≡ 0) ↔ ((q : ℕ) × (s : ℕ) × (k : ℕ) × (runLeftBy v x g .reply ≡ stopped q s k)))
       × ((runInNumbers (countedBy v x g) .reply .refusal ≡ 0 → ⊥)
       → runInNumbers (countedBy v x g) .reply
-      ≡ record { state = g .state; refusal = runInNumbers (countedBy v x g) .reply .refusal; stop = 0; steps = 0; entries = 0; usage = unused })
+      ≡ record { state = g .state; refusal = runInNumbers (countedBy v x g) .reply .refusal; stop = 0; steps = 0; entries = 0; ticks = 0; usage = unused })
   run-back accepted h = (refl, (λ e. (_, _, _, refl), λ e. refl), λ n. absurd (n refl))
   run-back (refused k) h = (rw (ne-eqb k 0 (h k refl)), (λ e. absurd (h k refl e), λ e. let z = e .3 in clash (cc)), λ n. refl)
 

@@ -18,7 +18,7 @@ use Rattle.claims.proofs.Decided.{does-exists, replyTo, callOn, same}
 
 -- a run's reply in numbers, as the host is told of it
 abbrev toldBy : SisaRun → List ℕ → Journal → Reply
-toldBy r log journal = of-run (replyOf (answerOf r)) (r .usage) log journal
+toldBy r log journal = of-run (replyOf (answerOf r)) (r .usage) (r .ticks) log journal
 
 abbrev hostBy : SisaRunLeft → Host
 hostBy x = record { state = x .reply .state; P = x .P; D = x .D; I = x .I; O = x .O }

@@ -51,6 +51,7 @@ pub mod StepBack
 pub mod Steps
 pub mod Stretches
 pub mod Texts
+pub mod Ticks
 pub mod Together
 pub mod Touched
 pub mod Unassigned

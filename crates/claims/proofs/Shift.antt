@@ -14,7 +14,7 @@ use Rattle.machine.specs.Step.{fetched, Next, cannot, to}
 use Rattle.machine.specs.Run.{byRules, Outcome, noPlace, runFrom, traceFrom}
 use Rattle.machine.proofs.Runs.{run-none, run-cannot, run-full, run-on, trace-none, trace-cannot, trace-full, trace-on}
 use Rattle.journal.specs.Journal.{overwritten, entryOf}
-use Rattle.usage.specs.Usage.{doesKind, masksAt, counted, usageOf}
+use Rattle.usage.specs.Usage.{doesKind, masksAt, counted, usageOf, ticksAt, ticksOf}
 use Rattle.control.proofs.Laws.{shift, shiftNext, local-rules}
 use Rattle.run.specs.Runs.{Journal, no-journal, lent-journal, placed, keptIn}
 
@@ -74,13 +74,18 @@ goes-alike (suc k) full l m = by-next (byRules .steps m) refl (noPlace byRules f
               (ap (λ ms. shift l m ∷ ms) (ih next .traces));
         }
 
--- ---- So its counts and its journal are the same
+-- ---- So its counts, its ticks and its journal are the same
 
 module _ (l : List ℕ) where
   pub usage-shift : (ms : List Machine) → usageOf (map (shift l) ms) ≡ usageOf ms
   unfolding usageOf fetched
   usage-shift [] = refl
   usage-shift (m ∷ ms) = ap (counted (doesKind m) (masksAt m)) (usage-shift ms)
+
+  pub ticks-shift : (ms : List Machine) → ticksOf (map (shift l) ms) ≡ ticksOf ms
+  unfolding ticksOf fetched
+  ticks-shift [] = refl
+  ticks-shift (m ∷ ms) = ap (λ k. ticksAt m + k) (ticks-shift ms)
 
   entries-shift : (ms : List Machine) → map entryOf (map (shift l) ms) ≡ map entryOf ms
   unfolding entryOf overwritten fetched

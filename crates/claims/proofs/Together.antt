@@ -13,13 +13,13 @@ use Rattle.refusal.specs.Refusals.{Verdict, accepted, refused}
 use Rattle.word.specs.Word.{pick}
 use Rattle.machine.specs.Machine.{Machine, putI, onState}
 use Rattle.machine.specs.Run.{byRules, Outcome, runFrom, traceFrom}
-use Rattle.usage.specs.Usage.{usageOf}
+use Rattle.usage.specs.Usage.{usageOf, ticksOf}
 use Rattle.panel.specs.Calls.{SetLeft, setLeft}
 use Rattle.control.proofs.Laws.{shift}
 use Rattle.run.specs.Runs.{Given, Left, stopped, verdictOn, countedIn, keptIn, leftOf, CountedLeft, countedBy, countedLeft, CountedMeets}
 use Rattle.claims.specs.Session.{Engine, by-rules, by-table, stepperOf, Lent, Call, runs, sets, Reply, of-run, of-set, Host, givenTo, afterRun, afterSet, CallMeets, a-run, a-setting, Calls, none, more, wrote, joined, allowedTo, started, outcome, taken, runBy, machineCall, machineCalls, saidBy, machineSays, machineReplies, machineOn}
 use Rattle.claims.proofs.Agreement.{same-run}
-use Rattle.claims.proofs.Shift.{shiftOutcome, goes-alike, usage-shift, kept-shift}
+use Rattle.claims.proofs.Shift.{shiftOutcome, goes-alike, usage-shift, ticks-shift, kept-shift}
 
 -- both engines promise the same
 pub both : (e : Engine) (g : Given) (x : CountedLeft) → CountedMeets (stepperOf e) g x → x ≡ countedLeft byRules g
@@ -28,7 +28,7 @@ both by-table g x p = p ∙ same-run g
 
 -- what is told of a run
 abbrev pub told : CountedLeft → Reply
-told x = of-run (x .left .reply) (x .usage) (x .left .log) (x .left .journal)
+told x = of-run (x .left .reply) (x .usage) (x .ticks) (x .left .log) (x .left .journal)
 
 -- one call
 record Together (h : Host) (l : List ℕ) (c : Call) (r : Reply) (h′ : Host) : Type 0 where
@@ -60,7 +60,7 @@ module _ (h : Host) (l : List ℕ) (lent : Lent) where
 abbrev saying : Host → List ℕ → Lent → List Machine → Outcome → Reply
 saying h l lent ms y =
     let new = drop (length l) (y .after .L) in
-    of-run (stopped (y .reason) (y .after .state .n - h .state .n) (length (y .after .L) - length l)) (usageOf ms)
+    of-run (stopped (y .reason) (y .after .state .n - h .state .n) (length (y .after .L) - length l)) (usageOf ms) (ticksOf ms)
     (new ++ drop (length new) (lent .log)) (keptIn (lent .journal) (h .state .journaled) ms)
 
 module _ (h : Host) (l : List ℕ) (lent : Lent) (ms : List Machine) (z : Outcome) where
@@ -73,7 +73,7 @@ module _ (h : Host) (l : List ℕ) (lent : Lent) (ms : List Machine) (z : Outcom
   left-held : machineOn (afterRun left) (l ++ take (length (z .after .L)) (left .log)) ≡ counted (length ms) (shift l (z .after))
   left-held = rw (take-append-seam (z .after .L) (drop (length (z .after .L)) (lent .log)))
 
-  left-says : of-run (left .reply) (usageOf ms) (left .log) (left .journal) ≡ saying h l lent ms (shiftOutcome l z)
+  left-says : of-run (left .reply) (usageOf ms) (ticksOf ms) (left .log) (left .journal) ≡ saying h l lent ms (shiftOutcome l z)
   left-says =
       let k : length (l ++ z .after .L) - length l ≡ length (z .after .L) = rw (length-append l (z .after .L)) (omega arith) in
       rw (drop-append-seam l (z .after .L), k)
@@ -84,7 +84,7 @@ module _ (h : Host) (l : List ℕ) (lent : Lent) (ms : List Machine) (z : Outcom
     held-alike = rw (e, t, length-map ms (shift l))
 
     says-alike : saying h l lent ms (shiftOutcome l z) ≡ saying h l lent ns y
-    says-alike = rw (e, t, usage-shift l ms, kept-shift l (lent .journal) (h .state .journaled) ms)
+    says-alike = rw (e, t, usage-shift l ms, ticks-shift l ms, kept-shift l (lent .journal) (h .state .journaled) ms)
 
 run-together :
     (h : Host) (l : List ℕ) (lent : Lent) (v : Verdict)

@@ -93,13 +93,14 @@ pub record SetReplies (g : SetGiven) : Type 0 where
 
 -- a run's reply without its state is a host step's
 abbrev pub answerOf : SisaRun → SisaAnswer
-answerOf r = record { refusal = r .refusal; stop = r .stop; steps = r .steps; entries = r .entries; usage = r .usage }
+answerOf r = record { refusal = r .refusal; stop = r .stop; steps = r .steps; entries = r .entries; ticks = r .ticks; usage = r .usage }
 
 abbrev pub runOf : SisaRunLeft → CountedLeft
 runOf l =
     record {
       left = left (replyOf (answerOf (l .reply))) (l .reply .state) (l .P) (l .D) (l .I) (l .O) (l .log) (l .journal);
       usage = l .reply .usage;
+      ticks = l .reply .ticks;
     }
 
 -- what a run of g that goes by v replied and left
@@ -108,7 +109,7 @@ pub record RunReplies (v : Stepper) (g : Given) (l : SisaRunLeft) : Type 0 where
   pub refusal-0 : (l .reply .refusal ≡ 0) ↔ Accepts v g
   pub others-0 :
       (l .reply .refusal ≡ 0 → ⊥)
-      → l .reply ≡ record { state = g .state; refusal = l .reply .refusal; stop = 0; steps = 0; entries = 0; usage = unused }
+      → l .reply ≡ record { state = g .state; refusal = l .reply .refusal; stop = 0; steps = 0; entries = 0; ticks = 0; usage = unused }
 
 -- a host step's answer, and what it left in the host's registers and in what was lent
 abbrev pub stepLeft : SisaAnswer → HostLent → SisaRunLeft

@@ -78,10 +78,10 @@ leftAfter journal r state s =
     left (shownAnswer r) state (now (s .1 .0)) (now (s .1 .1 .0)) (now (s .1 .1 .1 .0)) (now (s .1 .1 .1 .1 .0))
     (now (s .1 .1 .1 .1 .1 .1 .0)) (journal (s .1 .1 .1 .1 .1 .1 .1))
 
--- what a run that goes by v says, with its counts
+-- what a run that goes by v says, with its counts and ticks
 abbrev pub RunSays : {X : Type 0} → (X → Journal) → Stepper → RunArguments X → Counted → RunArguments X → Type 0
 RunSays journal v a r s =
-    CountedMeets v (givenBy journal a) (record { left = leftAfter journal (r .answer) (r .state) s; usage = r .usage })
+    CountedMeets v (givenBy journal a) (record { left = leftAfter journal (r .answer) (r .state) s; usage = r .usage; ticks = r .ticks })
 
 -- the arguments of going back: state, program, memory, inputs, outputs, journal, k
 abbrev pub BackArguments : Type 0

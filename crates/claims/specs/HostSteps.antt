@@ -39,7 +39,7 @@ pub data HostCallMeets : Host → HostCall → Reply → Host → Type 0 where
   a-step :
       (h : Host) (log : List ℕ) (answer : SisaAnswer) (state : State) (P D I O returned : List ℕ)
       → HostStepMeets (hostLent (h .state) (h .P) (h .D) (h .I) (h .O) log) answer (hostLent state P D I O returned)
-      → HostCallMeets h (host-step log) (of-run (replyOf answer) (answer .usage) returned no-journal)
+      → HostCallMeets h (host-step log) (of-run (replyOf answer) (answer .usage) (answer .ticks) returned no-journal)
       (record { state = state; P = P; D = D; I = I; O = O })
 
 -- a list of calls, one after the other

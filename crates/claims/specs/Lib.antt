@@ -20,4 +20,5 @@ pub mod Session
 pub mod StepBack
 pub mod Steps
 pub mod Texts
+pub mod Ticks
 pub mod Usage

@@ -95,7 +95,7 @@ pub record RunRefusals (v : Stepper) (g : Given) : Type 0 where
   pub nothing-changes :
       (k : ℕ) → runLeft v g .reply ≡ run-refused k
       → runLeft v g ≡ left (run-refused k) (g .state) (g .P) (g .D) (g .I) (g .O) (g .log) (g .journal)
-  -- A run that counts leaves the same besides its counts, which are zero where it is refused.
+  -- A run that counts leaves the same besides its counts and its ticks (specs/Ticks.antt); the counts are zero where it is refused.
   pub without-counts : countedLeft v g .left ≡ runLeft v g
   pub no-counts : (k : ℕ) → runLeft v g .reply ≡ run-refused k → countedLeft v g .usage ≡ unused
 

@@ -11,7 +11,7 @@ use Rattle.machine.specs.declared.State.{State}
 use Rattle.machine.specs.Machine.{Machine, putI, onState}
 use Rattle.machine.specs.Run.{Stepper, byRules, Outcome, run, trace}
 use Rattle.usage.specs.declared.Usage.{Usage}
-use Rattle.usage.specs.Usage.{unused, usageOf}
+use Rattle.usage.specs.Usage.{unused, usageOf, ticksOf}
 use Rattle.panel.specs.Calls.{SetGiven, SetLeft, setLeft}
 use Rattle.image.specs.Image.{LoadGiven, LoadLeft, loaded, loadLeft}
 use Rattle.report.specs.Example.{exampleFile}
@@ -38,9 +38,9 @@ pub data Call : Type 0 where
   runs : Engine → Lent → Call
   sets : ℕ → ℕ → Call
 
--- what comes back: a run's reply, its counts, the log and the journal as they were returned; a setting's reply
+-- what comes back: a run's reply, its counts, its ticks, the log and the journal as they were returned; a setting's reply
 pub data Reply : Type 0 where
-  of-run : RunReply → Usage → List ℕ → Journal → Reply
+  of-run : RunReply → Usage → ℕ → List ℕ → Journal → Reply
   of-set : Verdict → Reply
 
 -- Lists that are alike have the same settings, budgets, lent logs and lent journals: the engines are forgotten.
@@ -79,7 +79,7 @@ afterSet h l = record { state = h .state; P = h .P; D = h .D; I = l .I; O = h .O
 pub data CallMeets : Host → Call → Reply → Host → Type 0 where
   a-run :
       (h : Host) (e : Engine) (lent : Lent) (l : CountedLeft) → CountedMeets (stepperOf e) (givenTo h lent) l
-      → CallMeets h (runs e lent) (of-run (l .left .reply) (l .usage) (l .left .log) (l .left .journal)) (afterRun (l .left))
+      → CallMeets h (runs e lent) (of-run (l .left .reply) (l .usage) (l .ticks) (l .left .log) (l .left .journal)) (afterRun (l .left))
   a-setting :
       (h : Host) (port value : ℕ) (l : SetLeft) → l ≡ setLeft (record { I = h .I; port = port; value = value })
       → CallMeets h (sets port value) (of-set (l .reply)) (afterSet h l)
@@ -93,8 +93,8 @@ pub data Calls : Host → List Call → List Reply → Host → Type 0 where
 
 -- the joining, in the order of the calls, of what the accepted runs wrote, each taken as its run returned
 abbrev pub wrote : Reply → List ℕ
-wrote (of-run (stopped q steps entries) u log journal) = take entries log
-wrote (of-run (run-refused k) u log journal) = []
+wrote (of-run (stopped q steps entries) u t log journal) = take entries log
+wrote (of-run (run-refused k) u t log journal) = []
 wrote (of-set r) = []
 
 unfoldable pub joined : List Reply → List ℕ
@@ -137,15 +137,15 @@ machineCalls m [] = m
 machineCalls m (c ∷ cs) = machineCalls (machineCall m c) cs
 
 -- What it says of a run: the first test that held is the stop reason, the steps and entries are by how much n and L grew, and the
--- counts are over the steps that it took; the log as returned has the new entries, then the lent places as they were; the journal has
+-- counts and ticks are over the steps that it took; the log as returned has the new entries, then the lent places as they were; the journal has
 -- the steps' entries from the place of the count on.
 abbrev pub saidBy : Verdict → Machine → Lent → Reply
 saidBy accepted m lent =
     let z = outcome m lent in
     let new = drop (length (m .L)) (z .after .L) in
     of-run (stopped (z .reason) (z .after .state .n - m .state .n) (length (z .after .L) - length (m .L)))
-    (usageOf (taken m lent)) (new ++ drop (length new) (lent .log)) (keptIn (lent .journal) (m .state .journaled) (taken m lent))
-saidBy (refused k) m lent = of-run (run-refused k) unused (lent .log) (lent .journal)
+    (usageOf (taken m lent)) (ticksOf (taken m lent)) (new ++ drop (length new) (lent .log)) (keptIn (lent .journal) (m .state .journaled) (taken m lent))
+saidBy (refused k) m lent = of-run (run-refused k) unused 0 (lent .log) (lent .journal)
 
 unfoldable pub machineSays : Machine → Call → Reply
 machineSays m (runs e lent) = saidBy (verdictOn (givenOf m lent)) m lent
@@ -172,8 +172,8 @@ pub record Mirrors (file : List ℕ) (cs : List Call) (rs₁ rs₂ : List Reply)
 
 -- a refused run in a list is refused with 6, and no setting is refused
 abbrev pub Only6 : Reply → Type 0
-Only6 (of-run (stopped q s k) u log journal) = Unit {0}
-Only6 (of-run (run-refused k) u log journal) = k ≡ 6
+Only6 (of-run (stopped q s k) u t log journal) = Unit {0}
+Only6 (of-run (run-refused k) u t log journal) = k ≡ 6
 Only6 (of-set r) = r ≡ accepted
 
 pub data All (Q : Reply → Type 0) : List Reply → Type 0 where

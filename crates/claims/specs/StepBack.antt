@@ -83,7 +83,7 @@ pub data Again : Journal → Host → List Machine → List ℕ → Journal → 
   runs :
       {j j′ : Journal} {b last : Host} {m : Machine} {ms rest : List Machine} {es : List ℕ} (e : Engine) (log : List ℕ) (l : CountedLeft)
       → b .I ≡ m .I → RunsAgain j b (m ∷ ms) e log l → Again (l .left .journal) (afterRun (l .left)) rest es j′ last
-      → Again j b ((m ∷ ms) ++ rest) (wrote (of-run (l .left .reply) (l .usage) (l .left .log) (l .left .journal)) ++ es) j′ last
+      → Again j b ((m ∷ ms) ++ rest) (wrote (of-run (l .left .reply) (l .usage) (l .ticks) (l .left .log) (l .left .journal)) ++ es) j′ last
 
 -- without a journal, or with the one that was kept
 abbrev pub Keeps : Journal → List ℕ → Type 0

@@ -19,6 +19,7 @@ pub fn host_step(
         stop: answer.stop,
         steps: answer.steps,
         entries: answer.entries,
+        ticks: answer.ticks,
         usage: answer.usage,
     }
 }

@@ -135,6 +135,7 @@ pub fn print_run(what: &[u8], engine: Engine, c: u16, i: u16, ran: SisaRun) {
     print::text(what);
     print_engine(engine);
     print_reply(c, i, reply_of(ran));
+    print::field(ran.ticks);
     print::field(sheets::usage_digest(ran.usage) as u64);
 }
 

@@ -14,7 +14,7 @@ use Rattle.machine.specs.Machine.{Machine, wordAt}
 use Rattle.machine.specs.Step.{Next, cannot, to, fetched}
 use Rattle.machine.specs.Run.{Stepper, Outcome, noPlace, unless, runFrom, traceFrom}
 use Rattle.machine.specs.Held.{Held, machineOf, isFull, Ready, outcomeOf, StepMeets}
-use Rattle.machine.proofs.Runs.{run-none, trace-none, run-stops, trace-stops, run-goes}
+use Rattle.machine.proofs.Runs.{Lawful, run-none, trace-none, run-stops, trace-stops, run-goes}
 use Rattle.isa.specs.Masks.{masksOf}
 use Rattle.usage.specs.declared.Usage.{Usage}
 use Rattle.usage.specs.Usage.{wordIs, counted, unused, usageOf, plusUsage}
@@ -24,9 +24,10 @@ use Rattle.places.proofs.Tallied.{tallied-sized, tallied-none}
 use Rattle.usage.proofs.Sums.{counted-plus, Sized, trace-sized, plus-unused, unused-plus, countable}
 use Rattle.run.specs.Runs.{Journal, Given, Left, left, stopped, journalIf, allowed, countedIn, keptIn, machineAt, outcomeOn, traceOn, acceptedLeft, CountedLeft, acceptedCounted}
 use Rattle.run.specs.Parts.{EndsWith}
+use Rattle.run.proofs.Ticks.{accepted-ticks}
 use Rattle.journal.specs.Parts.{IsEntry}
 use Rattle.journal.proofs.Undone.{is-entry}
-use Rattle.cycle.specs.Loops.{CanRun, chosen, stepOf, writesOf}
+use Rattle.cycle.specs.Loops.{CanRun, chosen, stepOf, writesOf, leftTimed}
 use Rattle.cycle.proofs.Chosen.{lawful, tests}
 use Rattle.cycle.proofs.Counts.{Counting, counting-starts, Counts}
 use Rattle.cycle.proofs.Kept.{Keeping, keeping-starts, keeping-turns, keeping-ends, Written}
@@ -41,7 +42,7 @@ replied g q steps h s j = left (stopped q steps (h .entries)) s (g .P) (h .D) (h
 
 -- and with the counts u
 abbrev pub reported : Given → ℕ → ℕ → Held → State → Journal → Usage → CountedLeft
-reported g q steps h s j u = record { left = replied g q steps h s j; usage = u }
+reported g q steps h s j u = leftTimed (replied g q steps h s j) u
 
 -- the machine here
 abbrev hereOf : Given → Held → Machine
@@ -145,8 +146,9 @@ turned m w u {rest = rest} f e c =
     ∙ sym (ap (λ (ms : List Machine). plusUsage u (usageOf ms)) e)
     ∙ c
 
-both-parts : (v : Stepper) (g : Given) {l : Left} {u : Usage} → l ≡ acceptedLeft v g → u ≡ usageOf (traceOn v g) → record { left = l; usage = u } ≡ acceptedCounted v g
-both-parts v g p q = λ i. record { left = p i; usage = q i }
+both-parts : (v : Stepper) → Lawful v → (g : Given) {l : Left} {u : Usage} → l ≡ acceptedLeft v g → u ≡ usageOf (traceOn v g) → leftTimed l u ≡ acceptedCounted v g
+both-parts v law g p q =
+    (λ i. leftTimed (p i) (q i)) ∙ ap (λ k. record { left = acceptedLeft v g; usage = usageOf (traceOn v g); ticks = k }) (accepted-ticks v law g)
 
 module _ (t : Bool) (words : List ℕ) {g : Given} {keeps : Bool} {journal₀ places₀ : List ℕ} {h : Held} {steps : ℕ} {journal places : List ℕ} {u : Usage}
     (v : Going (chosen t words) g keeps journal₀ places₀ h steps journal places u) where
@@ -155,7 +157,7 @@ module _ (t : Bool) (words : List ℕ) {g : Given} {keeps : Bool} {journal₀ pl
   ends-budget b e =
       let z : g .budget - steps ≡ 0 = omega arith in
       let none : restOf (chosen t words) g h (g .budget - steps) ≡ [] = rw z (trace-none (chosen t words) _ (hereOf g h)) in
-      both-parts (chosen t words) g
+      both-parts (chosen t words) (lawful t words) g
       (ends (chosen t words) g h 0 steps (v .filled) (v .rest) (v .counted) (sym (v .same) ∙ rw z (run-none (chosen t words) _ (hereOf g h)))
       (keeping-ends (chosen t words) g keeps journal₀ (subst (Keeping (chosen t words) g keeps journal₀ journal steps) none (v .keeping)) (h .state) e))
       (counted-out (tallied places u) (tallied-sized places u (v .counting .sized)) none (v .summed))
@@ -215,7 +217,7 @@ module _ (t : Bool) (words : List ℕ) {g : Given} {keeps : Bool} {journal₀ pl
           let entries : h .entries ≡ after .entries = sym (entries-are (g .P) h (v .filled)) ∙ ap (λ (m : Machine). length (m .L)) unmoved ∙ filled-after in
           let count : h .state .n ≡ after .state .n = ap (λ (m : Machine). m .state .n) unmoved in
           let none = trace-stops (chosen t words) _ _ (hereOf g h) stop outcome n in
-          both-parts (chosen t words) g
+          both-parts (chosen t words) (lawful t words) g
           (ends (chosen t words) g after stop steps (met .filled)
           (met .rest ∙ further (h .entries) (after .entries) (h .log) (g .log) (omega arith) (v .rest)) (omega arith)
           (sym from-here ∙ run-stops (chosen t words) _ _ (hereOf g h) stop outcome n)

@@ -11,8 +11,10 @@ use Rattle.control.specs.Control.{controlIn, controlStep, writesPort, byControl
 use Rattle.machine.specs.declared.State.{State}
 use Rattle.machine.specs.Slices.{Slice, before, after}
 use Rattle.places.specs.Places.{tallied}
-use Rattle.run.specs.declared.Counted.{Counted}
-use Rattle.run.specs.Runs.{Journal, Given, startIn, allowed, CountedLeft, CountedMeets, journalIf, lentTo, leftWith, RunsWith, acceptedCounted}
+use Rattle.usage.specs.declared.Usage.{Usage}
+use Rattle.run.specs.declared.Tallied.{Tallied}
+use Rattle.run.specs.Runs.{Journal, Given, startIn, allowed, Left, CountedLeft, CountedMeets, journalIf, lentTo, leftWith, acceptedCounted}
+use Rattle.run.specs.Parts.{ticksBy}
 
 -- what the loop of an accepted run needs, which the refusals leave
 pub record CanRun (g : Given) : Type 0 where
@@ -42,24 +44,29 @@ abbrev pub writesOf : Bool → List ℕ → ℕ → Bool
 writesOf true words w = writesPort (controlIn words w)
 writesOf false words w = isOut w
 
+-- what a run with the counts u leaves, its ticks worked out
+abbrev pub leftTimed : Left → Usage → CountedLeft
+leftTimed l u = record { left = l; usage = u; ticks = ticksBy (l .reply) u }
+
 -- what a run leaves with its reply, where its counts are those replied or, where places are lent, what is counted there
-abbrev pub leftTallied : Slice → Slice → Slice → Slice → Slice → Journal → Slice → Counted → CountedLeft
+abbrev pub leftTallied : Slice → Slice → Slice → Slice → Slice → Journal → Slice → Tallied → CountedLeft
 leftTallied program memory inputs outputs log journal counts r =
-    record { left = leftWith program memory inputs outputs log journal (r .answer) (r .state); usage = tallied (after counts) (r .usage) }
+    leftTimed (leftWith program memory inputs outputs log journal (r .answer) (r .state)) (tallied (after counts) (r .usage))
 
 -- the contract of the loop of an accepted run, with a journal where it keeps one
-abbrev pub RunsAccepted : Stepper → State → Slice → Slice → Slice → Slice → ℕ → Slice → Bool → Slice → Slice → Counted → Type 0
+abbrev pub RunsAccepted : Stepper → State → Slice → Slice → Slice → Slice → ℕ → Slice → Bool → Slice → Slice → Tallied → Type 0
 RunsAccepted v start program memory inputs outputs budget log keeps journal counts r =
     leftTallied program memory inputs outputs log (journalIf keeps (after journal)) counts r
     ≡ acceptedCounted v (lentTo start program memory inputs outputs budget log (journalIf keeps (before journal)))
 
 -- that of a run with its refusals
-abbrev pub RunsTallied : Stepper → State → Slice → Slice → Slice → Slice → ℕ → Slice → Bool → Slice → Slice → Counted → Type 0
+abbrev pub RunsTallied : Stepper → State → Slice → Slice → Slice → Slice → ℕ → Slice → Bool → Slice → Slice → Tallied → Type 0
 RunsTallied v state program memory inputs outputs budget log keeps journal counts r =
     CountedMeets v (lentTo state program memory inputs outputs budget log (journalIf keeps (before journal)))
     (leftTallied program memory inputs outputs log (journalIf keeps (after journal)) counts r)
 
 -- that of a run that lends no places
-abbrev pub RunsIf : Stepper → State → Slice → Slice → Slice → Slice → ℕ → Slice → Bool → Slice → Counted → Type 0
+abbrev pub RunsIf : Stepper → State → Slice → Slice → Slice → Slice → ℕ → Slice → Bool → Slice → Tallied → Type 0
 RunsIf v state program memory inputs outputs budget log keeps journal r =
-    RunsWith v state program memory inputs outputs budget log (journalIf keeps (before journal)) (journalIf keeps (after journal)) r
+    CountedMeets v (lentTo state program memory inputs outputs budget log (journalIf keeps (before journal)))
+    (leftTimed (leftWith program memory inputs outputs log (journalIf keeps (after journal)) (r .answer) (r .state)) (r .usage))

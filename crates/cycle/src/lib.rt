@@ -6,8 +6,8 @@ ghost use Rattle.cycle.specs.Loops.{CanRun, RunsAccepted, chosen, stepOf
 use machine::State;
 use machine::Stepped;
 use run::Answer;
-use run::Counted;
 use run::Report;
+use run::Tallied;
 use usage::Usage;
 
 // The step of w by a table's word for it, or by the rules.
@@ -48,7 +48,7 @@ pub fn run_accepted(
     keeps: bool,
     journal: &mut [u64],
     counts: &mut [u32],
-) -> Counted
+) -> Tallied
     requires { ⌜ Cleared (now counts) ⌝ }
     requires { ⌜ CanRun (given start (now program) (now memory) (now inputs) (now outputs) budget (now log) (journalIf «keeps» (now journal))) ⌝ }
     ensures { λ r. ⌜ RunsAccepted (chosen «by_table» (now (table .entry))) start program memory inputs outputs budget log «keeps» journal counts r ⌝ }
@@ -80,7 +80,7 @@ pub fn run_accepted(
         state = done.state;
         entries = done.entries;
         if done.stop != 0 {
-            return Counted {
+            return Tallied {
                 state: run::ending(state, steps, keeps),
                 answer: Answer::Stopped(Report {
                     stop: done.stop,
@@ -106,7 +106,7 @@ pub fn run_accepted(
         }
         steps = steps + 1;
     }
-    Counted {
+    Tallied {
         state: run::ending(state, steps, keeps),
         answer: Answer::Stopped(Report {
             stop: 0,

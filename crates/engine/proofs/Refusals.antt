@@ -15,12 +15,15 @@ use Rattle.machine.specs.Lengths.{lengthsFit}
 use Rattle.machine.specs.Run.{Stepper}
 use Rattle.usage.specs.declared.Usage.{Usage}
 use Rattle.usage.specs.Usage.{unused}
-use Rattle.run.specs.Runs.{Given, given, Left, left, run-refused, startIn, allowed, verdict, verdictOn, CountedLeft, acceptedCounted, countedLeft, CountedMeets}
+use Rattle.run.specs.declared.Tallied.{Tallied}
+use Rattle.run.specs.declared.Counted.{Counted}
+use Rattle.run.specs.Runs.{Journal, Given, given, Left, left, run-refused, shownAnswer, startIn, allowed, verdict, verdictOn, CountedLeft, acceptedCounted, countedLeft, CountedMeets}
+use Rattle.run.specs.Parts.{timed}
 use Rattle.run.proofs.Journals.{started, is-started}
 use Rattle.places.specs.Places.{folded, tallied}
 use Rattle.places.proofs.Tallied.{at-once, by-place}
 use Rattle.control.specs.Control.{table}
-use Rattle.cycle.specs.Loops.{CanRun, chosen}
+use Rattle.cycle.specs.Loops.{CanRun, chosen, leftTimed}
 
 -- ---- The run, by its verdict
 
@@ -61,18 +64,18 @@ module _ (g : Given) (e : accepted ≡ verdictOn g) where
     run-accepted v h = rw (← e) (h ∙ ap (acceptedCounted v) (sym begun) ∙ is-started g .same v)
 
 pub refused-run : (v : Stepper) (g : Given) {k : ℕ} {u : Usage} → refused k ≡ verdictOn g → u ≡ unused
-    → CountedMeets v g (record { left = left (run-refused k) (g .state) (g .P) (g .D) (g .I) (g .O) (g .log) (g .journal); usage = u })
+    → CountedMeets v g (leftTimed (left (run-refused k) (g .state) (g .P) (g .D) (g .I) (g .O) (g .log) (g .journal)) u)
 unfolding countedLeft
 refused-run v g e c = rw (← e, c)
 
 -- ---- Its counts, where no places are lent and where all are
 
-module _ (v : Stepper) (g : Given) {l : Left} (counts : List ℕ) (u : Usage) (met : CountedMeets v g (record { left = l; usage = tallied counts u })) where
-  pub counts-short : length counts ≡ 0 → CountedMeets v g (record { left = l; usage = u })
-  counts-short e = ap (λ (x : Usage). record { left = l; usage = x }) (sym (at-once counts u (omega arith))) ∙ met
+module _ (v : Stepper) (g : Given) {l : Left} (counts : List ℕ) (u : Usage) (met : CountedMeets v g (leftTimed l (tallied counts u))) where
+  pub counts-short : length counts ≡ 0 → CountedMeets v g (leftTimed l u)
+  counts-short e = ap (leftTimed l) (sym (at-once counts u (omega arith))) ∙ met
 
-  pub counts-long : {x : Usage} → length counts ≡ 17408 → x ≡ folded counts → CountedMeets v g (record { left = l; usage = x })
-  counts-long e f = ap (λ (x : Usage). record { left = l; usage = x }) (f ∙ sym (by-place counts u (omega arith))) ∙ met
+  pub counts-long : {x : Usage} → length counts ≡ 17408 → x ≡ folded counts → CountedMeets v g (leftTimed l x)
+  counts-long e f = ap (leftTimed l) (f ∙ sym (by-place counts u (omega arith))) ∙ met
 
 pub zeros : (n k : ℕ) → getD {A = ℕ} (replicate n 0) k 0 ≡ 0
 zeros zero k = refl
@@ -82,3 +85,18 @@ zeros (suc n) (suc k) = zeros n k
 -- a run where the table that is lent is the paper's
 pub by-paper : (t : Bool) (g : Given) {words : List ℕ} {l : CountedLeft} → words ≡ table → CountedMeets (chosen t words) g l → CountedMeets (chosen t table) g l
 by-paper t g e h = h ∙ ap (λ ws. countedLeft (chosen t ws) g) e
+
+-- ---- What the short and the long run hand on
+
+-- what a run leaves with its reply r, its ticks worked out
+abbrev handed : List ℕ → List ℕ → List ℕ → List ℕ → List ℕ → Journal → Tallied → CountedLeft
+handed P D I O log journal r = leftTimed (left (shownAnswer (r .answer)) (r .state) P D I O log journal) (r .usage)
+
+module _ (v : Stepper) (g : Given) {P D I O log : List ℕ} {journal : Journal} {r : Tallied} where
+  pub same-handed : {D' I' O' log' : List ℕ} {journal' : Journal} {r' : Tallied} → D' ≡ D → I' ≡ I → O' ≡ O → log' ≡ log → journal' ≡ journal → r' ≡ r
+      → CountedMeets v g (handed P D I O log journal r) → CountedMeets v g (handed P D' I' O' log' journal' r')
+  same-handed d i o l k e met = (λ j. handed P (d j) (i j) (o j) (l j) (k j) (e j)) ∙ met
+
+  pub ticks-handed : {c : Counted} → c ≡ timed r → CountedMeets v g (handed P D I O log journal r)
+      → CountedMeets v g (record { left = left (shownAnswer (c .answer)) (c .state) P D I O log journal; usage = c .usage; ticks = c .ticks })
+  ticks-handed e met = ap (λ (c : Counted). record { left = left (shownAnswer (c .answer)) (c .state) P D I O log journal; usage = c .usage; ticks = c .ticks }) e ∙ met

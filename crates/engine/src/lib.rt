@@ -10,6 +10,7 @@ use run::Answer;
 use run::Check;
 use run::Counted;
 use run::Ran;
+use run::Tallied;
 use usage::Usage;
 
 // From this budget on a run counts by place, with 68 KiB of stack, cleared and folded in some 2 microseconds; below it each step at once.
@@ -29,7 +30,7 @@ fn run(
     keeps: bool,
     journal: &mut [u64],
     counts: &mut [u32],
-) -> Counted
+) -> Tallied
     requires { ⌜ Cleared (now counts) ⌝ }
     ensures { λ r. ⌜ RunsTallied (chosen «by_table» (now (table .entry))) state program memory inputs outputs budget log «keeps» journal counts r ⌝ }
 {
@@ -48,7 +49,7 @@ fn run(
             journal,
             counts,
         ),
-        Check::Refused(refusal) => Counted {
+        Check::Refused(refusal) => Tallied {
             state,
             answer: Answer::Refused(refusal),
             usage: Usage::none(),
@@ -56,7 +57,7 @@ fn run(
     }
 }
 
-// A long run: its steps are counted by place and folded after the loop. (Called at two places, so that its frame is not part of a short
+// A long run: its steps are counted by place and folded after the loop. (Called at three places, so that its frame is not part of a short
 // run's.)
 fn long(
     by_table: bool,
@@ -70,7 +71,7 @@ fn long(
     log: &mut [u64],
     keeps: bool,
     journal: &mut [u64],
-) -> Counted
+) -> Tallied
     ensures { λ r. ⌜ RunsIf (chosen «by_table» (now (table .entry))) state program memory inputs outputs budget log «keeps» journal r ⌝ }
 {
     let mut counts = [0u32; places::PLACES];
@@ -90,7 +91,7 @@ fn long(
     );
     let state = ran.state;
     let answer = ran.answer;
-    Counted {
+    Tallied {
         state,
         answer,
         usage: places::fold(&counts),
@@ -112,7 +113,7 @@ fn journaled(
     ensures { λ r. ⌜ RunsJournaled (chosen «by_table» table) state program memory inputs outputs budget log journal r ⌝ }
 {
     let words = control_table();
-    if budget < LONG {
+    let ran = if budget < LONG {
         let mut counts = [0u32; 0];
         run(
             by_table,
@@ -142,7 +143,8 @@ fn journaled(
             true,
             journal,
         )
-    }
+    };
+    run::with_ticks(ran)
 }
 
 // A run by the rules.
@@ -159,7 +161,7 @@ pub fn run_by_rules(
 {
     let words = control_table();
     let mut journal = [0u64; 0];
-    if budget < LONG {
+    let ran = if budget < LONG {
         let mut counts = [0u32; 0];
         run(
             false,
@@ -189,7 +191,8 @@ pub fn run_by_rules(
             false,
             &mut journal,
         )
-    }
+    };
+    run::with_ticks(ran)
 }
 
 // A run by the control table.
@@ -206,7 +209,7 @@ pub fn run_by_table(
 {
     let words = control_table();
     let mut journal = [0u64; 0];
-    if budget < LONG {
+    let ran = if budget < LONG {
         let mut counts = [0u32; 0];
         run(
             true,
@@ -236,7 +239,8 @@ pub fn run_by_table(
             false,
             &mut journal,
         )
-    }
+    };
+    run::with_ticks(ran)
 }
 
 // A run by the rules with a journal.
@@ -291,7 +295,7 @@ pub fn run_by_table_with_journal(
     )
 }
 
-// A run by any table of 32 control words. It keeps no journal, and its counts are not reported.
+// A run by any table of 32 control words. It keeps no journal, and its counts and ticks are not reported.
 pub fn run_by_control(
     words: &[u16; 32],
     state: State,

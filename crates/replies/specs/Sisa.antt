@@ -129,10 +129,10 @@ SisaSets inputs port value r =
 
 -- ---- sisa_run_by_rules, sisa_run_by_table, both with a journal, and sisa_host_step
 
--- q is the stop reason, s the steps, e the entries, u the counts
-abbrev pub sisaRun : RunReply → State → Usage → SisaRun
-sisaRun (stopped q s e) state u = record { state = state; refusal = 0; stop = q; steps = s; entries = e; usage = u }
-sisaRun (run-refused k) state u = record { state = state; refusal = k; stop = 0; steps = 0; entries = 0; usage = u }
+-- q is the stop reason, s the steps, e the entries, u the counts, t the ticks
+abbrev pub sisaRun : RunReply → State → Usage → ℕ → SisaRun
+sisaRun (stopped q s e) state u t = record { state = state; refusal = 0; stop = q; steps = s; entries = e; ticks = t; usage = u }
+sisaRun (run-refused k) state u t = record { state = state; refusal = k; stop = 0; steps = 0; entries = 0; ticks = t; usage = u }
 
 pub record SisaRunLeft : Type 0 where
   pub reply : SisaRun
@@ -149,7 +149,7 @@ sisaLeft reply P D I O log journal = record { reply = reply; P = P; D = D; I = I
 abbrev pub runInNumbers : CountedLeft → SisaRunLeft
 runInNumbers c =
     let l = c .left in
-    sisaLeft (sisaRun (l .reply) (l .state) (c .usage)) (l .P) (l .D) (l .I) (l .O) (l .log) (l .journal)
+    sisaLeft (sisaRun (l .reply) (l .state) (c .usage) (c .ticks)) (l .P) (l .D) (l .I) (l .O) (l .log) (l .journal)
 
 unfoldable pub sisaRunLeft : Stepper → Given → SisaRunLeft
 sisaRunLeft v g = runInNumbers (countedLeft v g)
@@ -182,7 +182,8 @@ hostLent state P D I O log = record { state = state; P = P; D = D; I = I; O = O;
 
 -- the state that the host holds afterwards and the answer make up a run's reply
 abbrev pub withState : State → SisaAnswer → SisaRun
-withState s a = record { state = s; refusal = a .refusal; stop = a .stop; steps = a .steps; entries = a .entries; usage = a .usage }
+withState s a =
+    record { state = s; refusal = a .refusal; stop = a .stop; steps = a .steps; entries = a .entries; ticks = a .ticks; usage = a .usage }
 
 -- A host step is a run by the table with budget 1 and no journal over registers that the host holds: its contract.
 abbrev pub HostStepMeets : HostLent → SisaAnswer → HostLent → Type 0

@@ -45,6 +45,7 @@ pub struct SisaRun {
     pub stop: u8,
     pub steps: u32,
     pub entries: u64,
+    pub ticks: u64,
     pub usage: Usage,
 }
 
@@ -54,6 +55,7 @@ pub struct SisaAnswer {
     pub stop: u8,
     pub steps: u32,
     pub entries: u64,
+    pub ticks: u64,
     pub usage: Usage,
 }
 
@@ -160,7 +162,7 @@ pub fn set(setting: Setting) -> u8
 }
 
 pub fn run(ran: Counted) -> SisaRun
-    ensures { λ r. ⌜ r ≡ sisaRun (shownAnswer (ran .answer)) (ran .state) (ran .usage) ⌝ }
+    ensures { λ r. ⌜ r ≡ sisaRun (shownAnswer (ran .answer)) (ran .state) (ran .usage) (ran .ticks) ⌝ }
 {
     let state = ran.state;
     let answer = ran.answer;
@@ -172,6 +174,7 @@ pub fn run(ran: Counted) -> SisaRun
             stop: report.stop,
             steps: report.steps,
             entries: report.entries as u64,
+            ticks: ran.ticks,
             usage,
         },
         Answer::Refused(refusal) => SisaRun {
@@ -180,6 +183,7 @@ pub fn run(ran: Counted) -> SisaRun
             stop: 0,
             steps: 0,
             entries: 0,
+            ticks: ran.ticks,
             usage,
         },
     }

@@ -1,3 +1,4 @@
 pub mod Uncounted
 mod Refusals
 pub mod Journals
+pub mod Ticks

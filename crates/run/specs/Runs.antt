@@ -14,7 +14,7 @@ use Rattle.machine.specs.Slices.{Slice, before, after}
 use Rattle.machine.specs.Run.{Stepper, Outcome, run, trace}
 use Rattle.journal.specs.Journal.{entryOf}
 use Rattle.usage.specs.declared.Usage.{Usage}
-use Rattle.usage.specs.Usage.{unused, usageOf}
+use Rattle.usage.specs.Usage.{unused, usageOf, ticksOf}
 use Rattle.run.specs.declared.Report.{Report}
 use Rattle.run.specs.declared.Answer.{Answer}
 use Rattle.run.specs.declared.Answer.the-variants.{Stopped, Refused}
@@ -157,18 +157,19 @@ RunMeets v g l = l ≡ runLeft v g
 
 -- ---- Counts (02, L5)
 
--- what an accepted run leaves and its counts, over its trace
+-- what an accepted run leaves, its counts and its ticks (02, L9), over its trace
 pub record CountedLeft : Type 0 where
   pub left : Left
   pub usage : Usage
+  pub ticks : ℕ
 
 abbrev pub acceptedCounted : Stepper → Given → CountedLeft
-acceptedCounted v g = record { left = acceptedLeft v g; usage = usageOf (traceOn v g) }
+acceptedCounted v g = record { left = acceptedLeft v g; usage = usageOf (traceOn v g); ticks = ticksOf (traceOn v g) }
 
--- A refused run's counts are zero.
+-- A refused run's counts and ticks are zero.
 abbrev pub countedBy : Stepper → Verdict → Given → CountedLeft
 countedBy v accepted g = acceptedCounted v g
-countedBy v (refused k) g = record { left = runLeftBy v (refused k) g; usage = unused }
+countedBy v (refused k) g = record { left = runLeftBy v (refused k) g; usage = unused; ticks = 0 }
 
 unfoldable pub countedLeft : Stepper → Given → CountedLeft
 countedLeft v g = countedBy v (verdictOn g) g
@@ -196,7 +197,7 @@ leftWith program memory inputs outputs log journal answer state =
 abbrev pub RunsWith : Stepper → State → Slice → Slice → Slice → Slice → ℕ → Slice → Journal → Journal → Counted → Type 0
 RunsWith v state program memory inputs outputs budget log lent returned r =
     CountedMeets v (lentTo state program memory inputs outputs budget log lent)
-    (record { left = leftWith program memory inputs outputs log returned (r .answer) (r .state); usage = r .usage })
+    (record { left = leftWith program memory inputs outputs log returned (r .answer) (r .state); usage = r .usage; ticks = r .ticks })
 
 -- without one
 abbrev pub RunsCounted : Stepper → State → Slice → Slice → Slice → Slice → ℕ → Slice → Counted → Type 0

@@ -1,8 +1,9 @@
 // What a run replies, and the tests that refuse it.
 ghost use mathlib.Core.Path.{_≡_};
 ghost use Prim.Native.Nat.{_+_, _≤_};
+ghost use Rattle.usage.specs.Counting.{Few};
 ghost use Rattle.run.specs.Runs.{shownVerdict, verdict, journalIf, allowedIn};
-ghost use Rattle.run.specs.Parts.{StartsFrom, EndsWith};
+ghost use Rattle.run.specs.Parts.{StartsFrom, EndsWith, timed};
 use machine::State;
 use refusal::Refusal;
 use usage::Usage;
@@ -26,8 +27,16 @@ pub struct Ran {
     pub answer: Answer,
 }
 
-// What a run that counts replies: also its counts, which are zero where it is refused.
+// What a run that counts replies: also its counts and its ticks, which are zero where it is refused.
 pub struct Counted {
+    pub state: State,
+    pub answer: Answer,
+    pub usage: Usage,
+    pub ticks: u64,
+}
+
+// The same before its ticks are worked out.
+pub struct Tallied {
     pub state: State,
     pub answer: Answer,
     pub usage: Usage,
@@ -99,5 +108,25 @@ pub fn ending(state: State, steps: u32, keeps: bool) -> State
         state.with_journaled(state.journaled + steps as u64)
     } else {
         state
+    }
+}
+
+// What a run replies, with its ticks, worked out from its steps and its counts by kind.
+pub fn with_ticks(ran: Tallied) -> Counted
+    requires { ⌜ Few (ran .usage .kinds) ⌝ }
+    ensures { λ r. ⌜ r ≡ timed ran ⌝ }
+{
+    let state = ran.state;
+    let answer = ran.answer;
+    let usage = ran.usage;
+    let ticks = match answer {
+        Answer::Stopped(report) => usage::ticks(report.steps, &usage.kinds),
+        Answer::Refused(refusal) => 0,
+    };
+    Counted {
+        state,
+        answer,
+        usage,
+        ticks,
     }
 }

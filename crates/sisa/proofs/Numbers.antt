@@ -48,9 +48,9 @@ pub set-meets : (g : SetGiven) {reply : Verdict} {I : List ℕ} {r : ℕ}
 unfolding sisaSetLeft
 set-meets g e h = rw h (ap setInNumbers e)
 
-pub run-meets : (v : Stepper) (g : Given) {reply : RunReply} {state : State} {P D I O log : List ℕ} {journal : Journal} {u : Usage} {r : SisaRun}
-    → CountedMeets v g (record { left = left reply state P D I O log journal; usage = u })
-    → r ≡ sisaRun reply state u
+pub run-meets : (v : Stepper) (g : Given) {reply : RunReply} {state : State} {P D I O log : List ℕ} {journal : Journal} {u : Usage} {t : ℕ} {r : SisaRun}
+    → CountedMeets v g (record { left = left reply state P D I O log journal; usage = u; ticks = t })
+    → r ≡ sisaRun reply state u t
     → SisaRunMeets v g (sisaLeft r P D I O log journal)
 unfolding sisaRunLeft
 run-meets v g e h = rw h (ap runInNumbers e)

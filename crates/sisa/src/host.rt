@@ -24,6 +24,7 @@ pub extern "C" fn sisa_host_step(
         stop: ran.stop,
         steps: ran.steps,
         entries: ran.entries,
+        ticks: ran.ticks,
         usage: ran.usage,
     }
 }

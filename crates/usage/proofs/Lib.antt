@@ -3,4 +3,5 @@ pub mod Functions
 pub mod InMasks
 pub mod Raised
 pub mod Sums
+pub mod Timed
 pub mod Words

@@ -1,7 +1,7 @@
 -- What the contracts of counting in place cite. Nothing here is promised to a caller.
 use mathlib.Core.Bool.{Bool, true}
 use mathlib.Core.List.{List, [], _∷_}
-use Prim.Native.Nat.{ℕ, suc, _+_, _<_}
+use Prim.Native.Nat.{ℕ, suc, _+_, _*_, _<_, _≤_}
 use lib.Dec.{eqb}
 use lib.ListN.{length, getD}
 use Rattle.word.specs.Word.{pick}
@@ -21,6 +21,14 @@ pub record Countable (u : Usage) : Type 0 where
   pub kinds : Below (u .kinds)
   pub reads : Below (u .reads)
   pub writes : Below (u .writes)
+
+-- each count has 32 bits
+abbrev pub Few : List ℕ → Type 0
+Few xs = (k : ℕ) → getD xs k 0 ≤ 4294967295
+
+-- the ticks of so many steps, of which `kinds` counts the kinds
+abbrev pub ticksCounted : ℕ → List ℕ → ℕ
+ticksCounted steps kinds = 3 * steps + getD kinds 14 0 + getD kinds 15 0 + getD kinds 16 0 + getD kinds 17 0
 
 -- j is a or b
 abbrev pub eitherOf : ℕ → ℕ → ℕ → Bool

@@ -1,12 +1,14 @@
 -- The counts of a run (02, L5): over its trace, the machines before each step that it took, steps by kind, and reads and writes by
--- register.
+-- register; and its ticks (L9).
 use Prim.Native.Nat.{ℕ, suc, _+_}
-use mathlib.Core.Bool.{Bool, false}
+use mathlib.Core.Bool.{Bool, false, _||_}
 use mathlib.Core.List.{List, [], _∷_}
 use lib.Dec.{eqb}
 use lib.ListN.{replicate}
 use Rattle.word.specs.Fields.{opcode, e-of, f-of}
-use Rattle.word.specs.Word.{flag}
+use Rattle.word.specs.Word.{pick, flag}
+use Rattle.kinds.specs.declared.Kind.{Kind}
+use Rattle.kinds.specs.declared.Kind.the-variants.{Ld, St, Ldb, Stb}
 use Rattle.kinds.specs.Kinds.{kindCount, kindNumber}
 use Rattle.isa.specs.declared.rows.Entry.{Entry}
 use Rattle.isa.specs.declared.rows.Entry.the-variants.{Unassigned, Assigned}
@@ -59,6 +61,20 @@ unused = record { kinds = replicate kindCount 0; reads = replicate 8 0; writes =
 unfoldable pub usageOf : List Machine → Usage
 usageOf [] = unused
 usageOf (m ∷ ms) = counted (doesKind m) (masksAt m) (usageOf ms)
+
+-- ---- Ticks (02, L9): the multicycle board takes 3 an instruction, and 4 for LD, ST, LDB and STB
+
+-- m does an instruction of the kind k next
+abbrev pub does : Kind → Machine → Bool
+does k m = doesKind m (kindNumber k)
+
+abbrev pub ticksAt : Machine → ℕ
+ticksAt m = pick (does Ld m || does St m || does Ldb m || does Stb m) 4 3
+
+-- the ticks of a trace
+unfoldable pub ticksOf : List Machine → ℕ
+ticksOf [] = 0
+ticksOf (m ∷ ms) = ticksAt m + ticksOf ms
 
 -- ---- Sums of counts
 

@@ -6,7 +6,7 @@ ghost use lib.ListN.{length, getD};
 ghost use Rattle.kinds.specs.Kinds.{kindCount};
 ghost use Rattle.isa.specs.Masks.{masksOf};
 ghost use Rattle.usage.specs.Usage.{wordIs, added, countedBy, counted, unused};
-ghost use Rattle.usage.specs.Counting.{counters, Below, Countable, eitherOf, countedThree};
+ghost use Rattle.usage.specs.Counting.{counters, Below, Countable, eitherOf, countedThree, Few, ticksCounted};
 
 #[repr(C)]
 pub struct Usage {
@@ -143,4 +143,12 @@ pub fn tally(w: u16, kinds: &mut [u64; kinds::COUNT], reads: &mut [u64; 8], writ
         11 => abd(MULDIVS[f] as usize, a, b, d, kinds, reads, writes),
         _ => {}
     }
+}
+
+// The ticks of so many steps: one more for each LD, ST, LDB and STB.
+pub fn ticks(steps: u32, kinds: &[u64; kinds::COUNT]) -> u64
+    requires { ⌜ Few (now kinds) ⌝ }
+    ensures { λ r. ⌜ r ≡ ticksCounted steps (now (kinds .entry)) ⌝ }
+{
+    3 * (steps as u64) + kinds[14] + kinds[15] + kinds[16] + kinds[17]
 }

@@ -1,5 +1,5 @@
 //! The SISA trim processor of paper 01, the SISA reference sheet (004) and
-//! requests L1, L2 and L4 to L8 of paper 02, written from those papers alone, to
+//! requests L1, L2 and L4 to L9 of paper 02, written from those papers alone, to
 //! be compared with another build.
 //!
 //! Sentences in quotation marks are paper 01's unless "Sheet" or a request is
@@ -23,5 +23,6 @@ pub mod run;
 pub mod save;
 pub mod set;
 pub mod sheet;
+pub mod ticks;
 pub mod usage;
 pub mod window;

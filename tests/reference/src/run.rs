@@ -3,6 +3,7 @@
 use crate::control::{self, control_word, Table};
 use crate::journal::{self, Journal};
 use crate::machine::{self, word, Lent, Places, State, Stepped};
+use crate::ticks::ticks;
 use crate::usage::Usage;
 
 /// What decides a step: "one engine from the rules, one from the control
@@ -114,6 +115,35 @@ pub struct Returned {
     /// Document 02, L5: "A run reports its counts". They are 0 where it is
     /// refused.
     pub usage: Usage,
+    /// L9: "Each run also reports its ticks as a 64-bit number." They are 0 where
+    /// it is refused.
+    pub ticks: u64,
+}
+
+impl Returned {
+    /// A reply after which nothing is counted yet.
+    fn uncounted(reply: Reply) -> Returned {
+        Returned {
+            reply,
+            usage: Usage::default(),
+            ticks: 0,
+        }
+    }
+
+    /// Counts a step on this word.
+    fn count(&mut self, w: u16) {
+        self.usage.count(w);
+        self.ticks += ticks(w);
+    }
+
+    /// Counts the run's steps, as the plain machine takes them from here. L9: "the
+    /// sum of these over the steps the plain machine took".
+    fn count_steps(&mut self, mut state: State, places: &mut Places) {
+        for _ in 0..self.reply.steps() {
+            self.count(word(places.p, state.pc));
+            state = machine::step(state, places).map_or(state, |stepped| stepped.state);
+        }
+    }
 }
 
 /// The tests that a run and going back share: the places, or the number.
@@ -202,8 +232,8 @@ fn admitted(
     }
 }
 
-/// The run, and the counts of the plain machine's steps from the same start, as
-/// many as the run took.
+/// The run, and the counts and ticks of the plain machine's steps from the same
+/// start, as many as the run took.
 fn counted(
     engine: Engine,
     state: State,
@@ -216,13 +246,14 @@ fn counted(
     let (mut d, mut i, mut o) = (lent.d.to_vec(), lent.i.to_vec(), lent.o.to_vec());
     let reply = run_keeping(engine, state, lent, budget, log, journal);
     let (d, i, o) = (&mut d[..], &mut i[..], &mut o[..]);
-    let usage = Places::of(Lent { p, d, i, o })
-        .map(|mut places| Usage::of_steps(state, &mut places, reply.steps()))
-        .unwrap_or_default();
-    Returned { reply, usage }
+    let mut returned = Returned::uncounted(reply);
+    if let Some(mut places) = Places::of(Lent { p, d, i, o }) {
+        returned.count_steps(state, &mut places);
+    }
+    returned
 }
 
-/// A run by the rules, with a journal or none, and its counts.
+/// A run by the rules, with a journal or none, its counts and ticks.
 pub fn run_by_rules(
     state: State,
     lent: Lent,
@@ -233,7 +264,7 @@ pub fn run_by_rules(
     counted(Engine::Rules, state, lent, budget, log, journal)
 }
 
-/// A run by the paper's table, with a journal or none, and its counts.
+/// A run by the paper's table, with a journal or none, its counts and ticks.
 pub fn run_by_table(
     state: State,
     lent: Lent,

@@ -3,7 +3,6 @@
 //! Sentences in quotation marks are that request's.
 
 use crate::instruction::{read, KINDS};
-use crate::machine::{step, word, Places, State};
 use crate::masks::{masks, registers};
 
 /// "count steps by kind and reads and writes by register in 64-bit numbers";
@@ -16,16 +15,6 @@ pub struct Usage {
 }
 
 impl Usage {
-    /// The counts of so many steps of the plain machine from here.
-    pub fn of_steps(mut state: State, places: &mut Places, steps: u32) -> Usage {
-        let mut usage = Usage::default();
-        for _ in 0..steps {
-            usage.count(word(places.p, state.pc));
-            state = step(state, places).map_or(state, |stepped| stepped.state);
-        }
-        usage
-    }
-
     /// Counts a step on this word, "a register once a step by its masks". An
     /// unassigned word, on which there is no step, adds nothing.
     pub fn count(&mut self, w: u16) {

@@ -1,7 +1,7 @@
 //! "Going back"
 
 use super::host::Host;
-use super::runs::{numbers_of, usage_digest};
+use super::runs::numbers_of_returned;
 use super::{number, Call};
 use crate::back::{step_back, Back};
 use crate::journal::Journal;
@@ -63,7 +63,7 @@ impl Host {
         }
     }
 
-    /// "journal ENGINE c j REFUSAL STOP STEPS ENTRIES USAGE JOURNALED DIGEST"
+    /// "journal ENGINE c j REFUSAL STOP STEPS ENTRIES TICKS USAGE JOURNALED DIGEST"
     fn journaled(&mut self, call: Call, engine: &str, run: RunBy, journal: &mut [u64]) -> String {
         let journal = match call.number(3) % 16 {
             // "the run is one without a journal"
@@ -71,16 +71,12 @@ impl Host {
             _ => Some(&mut journal[..places_lent(call)]),
         };
         let x = self.hand(call, 4_294_967_000, 60, 40);
-        let Returned { reply, usage } = run(x.state, x.lent, x.budget, x.log, journal);
-        self.keep(reply);
-        let counts = usage_digest(usage);
-        let state = reply.state();
-        format!(
-            "journal {engine} {call} {} {counts} {} {}",
-            numbers_of(reply),
-            state.journaled,
-            self.digest(state)
-        )
+        let returned = run(x.state, x.lent, x.budget, x.log, journal);
+        self.keep(returned.reply);
+        let numbers = numbers_of_returned(&returned);
+        let state = returned.reply.state();
+        let (journaled, digest) = (state.journaled, self.digest(state));
+        format!("journal {engine} {call} {numbers} {journaled} {digest}")
     }
 
     /// "back c j REFUSAL FALLEN JOURNALED DIGEST"

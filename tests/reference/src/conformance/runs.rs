@@ -35,9 +35,16 @@ pub fn first_sheet(c: u64) -> Sheet {
     sheet
 }
 
-/// The digest of the counts that a run reported.
-pub fn usage_digest(usage: Usage) -> u64 {
-    digest(usage.kinds, usage.reads, usage.writes)
+/// "REFUSAL STOP STEPS ENTRIES TICKS USAGE", the last "the digest of the counts
+/// that the call reported"
+pub fn numbers_of_returned(returned: &Returned) -> String {
+    let Usage {
+        kinds,
+        reads,
+        writes,
+    } = returned.usage;
+    let (ticks, counts) = (returned.ticks, digest(kinds, reads, writes));
+    format!("{} {ticks} {counts}", numbers_of(returned.reply))
 }
 
 /// "The digest of counts"
@@ -71,13 +78,14 @@ impl Host {
             By::Table => "table",
             By::HostStep => "host",
         };
-        let Returned { reply, usage } = self.run_by(by, call);
+        let returned = self.run_by(by, call);
+        let reply = returned.reply;
         self.keep(reply);
-        let counts = usage_digest(usage);
+        let numbers = numbers_of_returned(&returned);
         let left = self.digest(reply.state());
-        let run = format!("run {engine} {call} {} {counts} {left}", numbers_of(reply));
+        let run = format!("run {engine} {call} {numbers} {left}");
         // "whether it was accepted or refused, what the call returned is fed"
-        let fed = self.sheet.feed(reply.refusal(), usage);
+        let fed = self.sheet.feed(reply.refusal(), returned.usage);
         self.sheet = fed.sheet;
         let Sheet {
             kinds,

@@ -163,6 +163,7 @@ fn header_run(returned: Returned) -> ffi::Run {
         stop: 0,
         steps: 0,
         entries: 0,
+        ticks: returned.ticks,
         usage: header_usage(returned.usage),
     };
     match returned.reply {

@@ -61,6 +61,7 @@ pub struct Run {
     pub stop: u8,
     pub steps: u32,
     pub entries: u64,
+    pub ticks: u64,
     pub usage: Usage,
 }
 
@@ -72,6 +73,7 @@ pub struct Answer {
     pub stop: u8,
     pub steps: u32,
     pub entries: u64,
+    pub ticks: u64,
     pub usage: Usage,
 }
 
@@ -92,6 +94,7 @@ impl Run {
             stop: self.stop,
             steps: self.steps,
             entries: self.entries,
+            ticks: self.ticks,
             usage: self.usage,
         }
     }

@@ -10,6 +10,7 @@ use std::fmt;
 pub struct Tally {
     calls: u64,
     steps: u64,
+    ticks: u64,
     entries: u64,
     /// Runs that a full journal ended, steps gone back and entries fallen away.
     full: u64,
@@ -48,6 +49,7 @@ impl Tally {
         if let Some(run) = answer.of_run().filter(|run| run.refusal == 0) {
             outcome = format!("stop {}", run.stop);
             self.steps += u64::from(run.steps);
+            self.ticks += run.ticks;
             self.entries += run.entries;
             let counts = self.counts.entry(export).or_insert([0; 46]);
             for (sum, count) in counts.iter_mut().zip(all(&run.usage)) {
@@ -80,6 +82,8 @@ impl Tally {
     pub fn check(&self) {
         assert!(self.calls >= 100_000, "{} calls", self.calls);
         assert!(self.steps >= 10_000_000, "{} steps", self.steps);
+        let times = 3 * self.steps..4 * self.steps;
+        assert!(times.contains(&self.ticks), "{} ticks", self.ticks);
         assert!(self.full >= 1_000, "{} full journals", self.full);
         assert!(self.gone_back >= 100_000, "{} back", self.gone_back);
         assert!(self.fallen >= 1_000, "{} fallen", self.fallen);
@@ -145,8 +149,9 @@ impl Tally {
 
 impl fmt::Display for Tally {
     fn fmt(&self, f: &mut fmt::Formatter) -> fmt::Result {
-        let (calls, steps, entries) = (self.calls, self.steps, self.entries);
-        write!(f, "{calls} calls, {steps} steps, {entries} log entries")?;
+        let (calls, steps, ticks) = (self.calls, self.steps, self.ticks);
+        write!(f, "{calls} calls, {steps} steps of {ticks} ticks")?;
+        write!(f, ", {} log entries", self.entries)?;
         let (full, gone_back, fallen) = (self.full, self.gone_back, self.fallen);
         write!(f, ", {full} full journals")?;
         write!(f, ", {gone_back} steps back, {fallen} entries fallen away")?;

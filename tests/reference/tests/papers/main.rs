@@ -26,6 +26,7 @@ mod sheets;
 mod slips;
 mod tables;
 mod texts;
+mod ticks;
 mod trails;
 mod usage;
 mod words;

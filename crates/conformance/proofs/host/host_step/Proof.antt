@@ -101,7 +101,7 @@ mach-answer a = LL.val E.the-type E′.the-laws a
 
 -- what is handed back, made of the state and the answer
 abbrev both : State → SisaAnswer → SisaRun
-both s a = record { state = s; refusal = a .refusal; stop = a .stop; steps = a .steps; entries = a .entries; usage = a .usage }
+both s a = record { state = s; refusal = a .refusal; stop = a .stop; steps = a .steps; entries = a .entries; ticks = a .ticks; usage = a .usage }
 
 is-both : (s : State) (a : SisaAnswer) {vs : List Val} → Is T.the-row s (mach s ∷ []) → Is E.the-row a vs → Is R.the-row (both s a) (LL.vals R.the-type R′.the-laws (both s a))
 is-both s a is ia = LL.owes R.the-type R′.the-laws (both s a) (is, LL.owed E.the-type E′.the-laws a _ ia)
@@ -216,7 +216,7 @@ module _ {M : Type 1} (𝓤 : URA M) (H : Heap 𝓤) (A : Atoms 𝓤) (W : Given
         move ! (1 ∷ []) $ peeks ! T.the-row (Is T.the-row) (shows 𝓤 H A T.the-row) (zs .0) (mach (zs .0) ∷ []) (λ isz. drop ! $
         -- [_7; the tokens; the last list of log; true; of outputs; of inputs; of memory; _18; …]: local k stands at 7 + 2 (18 - k), and below _7 at one less
         assigns ! (of-opd ! (load ! (from ! (stop !)) (look ! 0 refl))) (from ! (stop !)) (init ! 7 refl (LL.lawful T.the-type T′.the-laws 𝓤 H A W .typed (zs .0) _ isz .0)) $
-        assigns ! (agg ! (and-then ! (load ! (from ! (stop !)) (look ! 7 refl)) (and-then ! (load ! (from ! (fld ! refl (stop !))) (look-in ! 27 (sub ! 0 refl (whole !)))) (and-then ! (load ! (from ! (fld ! refl (stop !))) (look-in ! 27 (sub ! 1 refl (whole !)))) (and-then ! (load ! (from ! (fld ! refl (stop !))) (look-in ! 27 (sub ! 2 refl (whole !)))) (and-then ! (load ! (from ! (fld ! refl (stop !))) (look-in ! 27 (sub ! 3 refl (whole !)))) (and-then ! (load ! (from ! (fld ! refl (stop !))) (look-in ! 27 (sub ! 4 refl (whole !)))) (no-more !)))))))) (from ! (stop !)) (init ! 42 refl (LL.lawful R.the-type R′.the-laws 𝓤 H A W .typed (both (zs .0) r) _ (is-both (zs .0) r isz is) .0)) $
+        assigns ! (agg ! (and-then ! (load ! (from ! (stop !)) (look ! 7 refl)) (and-then ! (load ! (from ! (fld ! refl (stop !))) (look-in ! 27 (sub ! 0 refl (whole !)))) (and-then ! (load ! (from ! (fld ! refl (stop !))) (look-in ! 27 (sub ! 1 refl (whole !)))) (and-then ! (load ! (from ! (fld ! refl (stop !))) (look-in ! 27 (sub ! 2 refl (whole !)))) (and-then ! (load ! (from ! (fld ! refl (stop !))) (look-in ! 27 (sub ! 3 refl (whole !)))) (and-then ! (load ! (from ! (fld ! refl (stop !))) (look-in ! 27 (sub ! 4 refl (whole !)))) (and-then ! (load ! (from ! (fld ! refl (stop !))) (look-in ! 27 (sub ! 5 refl (whole !)))) (no-more !))))))))) (from ! (stop !)) (init ! 42 refl (LL.lawful R.the-type R′.the-laws 𝓤 H A W .typed (both (zs .0) r) _ (is-both (zs .0) r isz is) .0)) $
         returns ! (look ! 42 refl) $ forget ! 0 refl $ forget ! 7 refl $ forget ! 9 refl $ forget ! 11 refl $ forget ! 13 refl $ forget ! 15 refl $ forget ! 17 refl $ forget ! 19 refl $ forget ! 21 refl $ forget ! 23 refl $ forget ! 25 refl $ forget ! 27 refl $ forget ! 30 refl $ forget ! 32 refl $ forget ! 34 refl $ forget ! 36 refl $ forget ! 38 refl $ forget ! 40 refl $ forget ! 42 refl $
         move ! (42 ∷ 43 ∷ []) $ free1 ! $ move ! (40 ∷ 41 ∷ []) $ free1 ! $ move ! (38 ∷ 39 ∷ []) $ free1 ! $ move ! (36 ∷ 37 ∷ []) $ free1 ! $ move ! (34 ∷ 35 ∷ []) $ free1 ! $ move ! (32 ∷ 33 ∷ []) $ free1 ! $ move ! (30 ∷ 31 ∷ []) $ free1 ! $ move ! (0 ∷ 29 ∷ []) $ free1 ! $ move ! (26 ∷ 27 ∷ []) $ free1 ! $ move ! (24 ∷ 25 ∷ []) $ free1 ! $ move ! (22 ∷ 23 ∷ []) $ free1 ! $ move ! (20 ∷ 21 ∷ []) $ free1 ! $ move ! (18 ∷ 19 ∷ []) $ free1 ! $ move ! (16 ∷ 17 ∷ []) $ free1 ! $ move ! (14 ∷ 15 ∷ []) $ free1 ! $ move ! (12 ∷ 13 ∷ []) $ free1 ! $ move ! (10 ∷ 11 ∷ []) $ free1 ! $ move ! (8 ∷ 9 ∷ []) $ free1 ! $ move ! (6 ∷ 7 ∷ []) $ free1 ! $ free0 ! $
         keep ! (0 ∷ 5 ∷ 4 ∷ 3 ∷ 1 ∷ []) $ by ! (exits (zs .0) r (zs .1 .1 .0) (zs .1 .1 .1 .0) (zs .1 .1 .1 .1 .0) (zs .1 .1 .1 .1 .1 .0) (is-both (zs .0) r isz is) ed ei eu el)))))))))))))))))))))))))))))))

@@ -110,7 +110,7 @@ InNumbers 𝓤 H A at-mem go = tripleOf 𝓤 H A numbers.signature (numbers.spec
 
 -- what the second says: r is the run's reply c in numbers
 abbrev Shows : Counted → SisaRun → Type 0
-Shows c r = r ≡ sisaRun (shownAnswer (c .answer)) (c .state) (c .usage)
+Shows c r = r ≡ sisaRun (shownAnswer (c .answer)) (c .state) (c .usage) (c .ticks)
 
 -- of what it ensures, the clause alone: it has no `&mut`, so what is said of last values is dropped
 shown : {M : Type 1} (𝓤 : URA M) (H : Heap 𝓤) (A : Atoms 𝓤) (at-mem : Memory → SProp 𝓤) (go : Routine → Fun 𝓤) (c : Counted) (r : SisaRun)
@@ -123,7 +123,7 @@ sv x = sliceVal (x .ptr) (length (x .now))
 
 -- the answer that is made of a run's reply
 abbrev answer : SisaRun → SisaAnswer
-answer r = record { refusal = r .refusal; stop = r .stop; steps = r .steps; entries = r .entries; usage = r .usage }
+answer r = record { refusal = r .refusal; stop = r .stop; steps = r .steps; entries = r .entries; ticks = r .ticks; usage = r .usage }
 
 module _ {M : Type 1} (𝓤 : URA M) (H : Heap 𝓤) (A : Atoms 𝓤) (W : Given 𝓤 H A) (at-mem : Memory → SProp 𝓤) (go : Routine → Fun 𝓤)
     (κ κp κd κi κu κl : Lft) (q qp qd qi qu ql : Share) (b o : ℕ) (γ : GName) (h : State) (p d i u l : Ref) where
@@ -153,7 +153,7 @@ module _ {M : Type 1} (𝓤 : URA M) (H : Heap 𝓤) (A : Atoms 𝓤) (W : Given
   abbrev Ran : Counted → List ℕ → List ℕ → List ℕ → List ℕ → Type 0
   Ran c ds is us ls =
       CountedMeets byTable (run-given h (p .now) (d .now) (i .now) (u .now) 1 (l .now) no-journal)
-      (record { left = left (shownAnswer (c .answer)) (c .state) (p .now) ds is us ls no-journal; usage = c .usage })
+      (record { left = left (shownAnswer (c .answer)) (c .state) (p .now) ds is us ls no-journal; usage = c .usage; ticks = c .ticks })
 
   abbrev Said : SisaRun → List ℕ → List ℕ → List ℕ → List ℕ → Type 0
   Said r ds is us ls =
@@ -252,11 +252,11 @@ module _ {M : Type 1} (𝓤 : URA M) (H : Heap 𝓤) (A : Atoms 𝓤) (W : Given
         split ! $ move ! (1 ∷ []) $ use1 W (raw (fact 𝓤 (Shows c r))) (shown 𝓤 H A at-mem go c r) $ heard ! (Shows c r) (λ e′. split ! $ drop ! $
         peeks ! R.the-row (Is R.the-row) (shows 𝓤 H A R.the-row) r (v′ ∷ []) (λ is.
         land ! (from ! (stop !)) (init ! 29 refl (LL.lawful R.the-type R′.the-laws 𝓤 H A W .typed r _ is .0)) $
-        use1 W (given (v′ ∷ [] ≡ LL.vals R.the-type R′.the-laws r) (‵ (all-own (R.the-type .parts) R′.the-laws (r .state, (r .refusal, (r .stop, (r .steps, (r .entries, (r .usage, tt))))))))) (own-open 𝓤 H A W R.the-type R′.the-laws (r .state, (r .refusal, (r .stop, (r .steps, (r .entries, (r .usage, tt)))))) v′) $ learn ! (λ ev.
+        use1 W (given (v′ ∷ [] ≡ LL.vals R.the-type R′.the-laws r) (‵ (all-own (R.the-type .parts) R′.the-laws (r .state, (r .refusal, (r .stop, (r .steps, (r .entries, (r .ticks, (r .usage, tt)))))))))) (own-open 𝓤 H A W R.the-type R′.the-laws (r .state, (r .refusal, (r .stop, (r .steps, (r .entries, (r .ticks, (r .usage, tt))))))) v′) $ learn ! (λ ev.
         rewrite ! 29 (λ (z : Val). ‵ (fat fullShare R′.mir l₈ 0 z)) (ap only ev) refl $ fsplit ! $ move ! (1 ∷ []) $ drop ! $
         -- [the reply's state; the tokens; …; _17; …]: local k stands at 11 + 2 (17 - k)
         assigns ! (of-opd ! (load ! (from ! (fld ! refl (stop !))) (look-in ! 29 (sub ! 0 refl (whole !))))) (from ! (hop ! (look ! 43 refl) (stop !))) (store-raw ! 7 refl (LL.lawful T.the-type T′.the-laws 𝓤 H A W .typed (r .state) _ (LL.owed R.the-type R′.the-laws r _ is .0) .0)) $
-        assigns ! (agg ! (and-then ! (load ! (from ! (fld ! refl (stop !))) (look-in ! 29 (sub ! 1 refl (whole !)))) (and-then ! (load ! (from ! (fld ! refl (stop !))) (look-in ! 29 (sub ! 2 refl (whole !)))) (and-then ! (load ! (from ! (fld ! refl (stop !))) (look-in ! 29 (sub ! 3 refl (whole !)))) (and-then ! (load ! (from ! (fld ! refl (stop !))) (look-in ! 29 (sub ! 4 refl (whole !)))) (and-then ! (load ! (from ! (fld ! refl (stop !))) (look-in ! 29 (sub ! 5 refl (whole !)))) (no-more !))))))) (from ! (stop !)) (init ! 45 refl (LL.lawful E.the-type E′.the-laws 𝓤 H A W .typed (answer r) _ (made r is) .0)) $
+        assigns ! (agg ! (and-then ! (load ! (from ! (fld ! refl (stop !))) (look-in ! 29 (sub ! 1 refl (whole !)))) (and-then ! (load ! (from ! (fld ! refl (stop !))) (look-in ! 29 (sub ! 2 refl (whole !)))) (and-then ! (load ! (from ! (fld ! refl (stop !))) (look-in ! 29 (sub ! 3 refl (whole !)))) (and-then ! (load ! (from ! (fld ! refl (stop !))) (look-in ! 29 (sub ! 4 refl (whole !)))) (and-then ! (load ! (from ! (fld ! refl (stop !))) (look-in ! 29 (sub ! 5 refl (whole !)))) (and-then ! (load ! (from ! (fld ! refl (stop !))) (look-in ! 29 (sub ! 6 refl (whole !)))) (no-more !)))))))) (from ! (stop !)) (init ! 45 refl (LL.lawful E.the-type E′.the-laws 𝓤 H A W .typed (answer r) _ (made r is) .0)) $
         -- the borrow is closed at the new state
         move ! (7 ∷ 0 ∷ 8 ∷ 9 ∷ 10 ∷ []) $ closes ! tt T.the-row (r .state) (mach (r .state) ∷ []) b o $
         -- [obs; the borrow; its token; the slices' tokens; the last list of log; true; of outputs; of inputs; of memory; _17; …]: local k stands at 9 + 2 (17 - k)

@@ -53,7 +53,8 @@ fn numbers(line: &str, from: usize) -> Vec<u64> {
 /// Asserts the counts of a run's line; what the host keeps after it.
 fn after_run(kept: Kept, call: &Call, line: &str) -> Kept {
     let x = numbers(line, 4);
-    let (refusal, stop, steps, journaled) = (x[0], x[1], x[2], x[5]);
+    let (refusal, stop, steps, ticks, journaled) = (x[0], x[1], x[2], x[4], x[6]);
+    assert!((3 * steps..=4 * steps).contains(&ticks), "{line}");
     assert_eq!(refusal, call.refusal(), "{line}");
     if refusal != 0 {
         assert_eq!((steps, journaled), (0, kept.journaled), "{line}");
