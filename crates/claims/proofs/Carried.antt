@@ -47,7 +47,7 @@ module _ (h : Host) (budget : ℕ) (log : List ℕ) where
 
     run-without : verdictOn without ≡ accepted → (xs : List ℕ) → Past (afterRun (acceptedLeft byRules without)) xs []
     run-without e xs =
-        let (few, walk) = run-walks budget (length (machineAt without .L) + length log) (machineAt without) in
+        let (few, walk, room) = run-walks budget (length (machineAt without .L) + length log) (machineAt without) in
         let after = outcomeOn byRules without .after in
         let w = walked walk in
         let found = passes without e in
@@ -80,7 +80,7 @@ module _ (h : Host) (budget : ℕ) (log : List ℕ) where
     run-with : verdictOn with ≡ accepted → Past (afterRun (acceptedLeft byRules with)) kept (reverse (traceOn byRules with) ++ ms)
     run-with e =
         let k = known (p .history) in
-        let (few, walk) = run-walks (allowed with) (length (machineAt with .L) + length log) (machineAt with) in
+        let (few, walk, room) = run-walks (allowed with) (length (machineAt with .L) + length log) (machineAt with) in
         let t = traceOn byRules with in
         let after = outcomeOn byRules with .after in
         let w = walked walk in

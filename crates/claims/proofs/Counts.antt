@@ -47,7 +47,7 @@ plus-long [] ys e = e
 plus-long (x ∷ xs) [] e = refl
 plus-long (x ∷ xs) (y ∷ ys) e = ap suc (plus-long xs ys (omega arith))
 
-plus-at : (xs ys : List ℕ) → length xs ≡ length ys → (j : ℕ) → getD (plusCounts xs ys) j 0 ≡ getD xs j 0 + getD ys j 0
+pub plus-at : (xs ys : List ℕ) → length xs ≡ length ys → (j : ℕ) → getD (plusCounts xs ys) j 0 ≡ getD xs j 0 + getD ys j 0
 unfolding plusCounts
 plus-at [] [] e j = refl
 plus-at [] (y ∷ ys) e j = absurd (omega arith)

@@ -39,7 +39,7 @@ module _ (h : Host) (f : Fit (machineOn h [])) where
       (z .0, ap (λ s. s .pc % 2) (counted-is (lent .journal) _ _) ∙ z .1)
   run-fits lent (refused k) = f
 
-  only : (lent : Lent) → verdictOn (givenTo h lent) ≡ pick (leb (h .state .n + lent .budget) 4294967295) accepted (refused 6)
+  pub only : (lent : Lent) → verdictOn (givenTo h lent) ≡ pick (leb (h .state .n + lent .budget) 4294967295) accepted (refused 6)
   unfolding verdict
   only lent =
       let p : length (h .P) ≡ 65536 = ap (λ x. x .0) (f .0) in

@@ -27,9 +27,11 @@ pub mod Lengths
 pub mod Listed
 pub mod Listings
 pub mod Loads
+pub mod Longer
 pub mod Marked
 pub mod Masks
 pub mod Names
+pub mod Onward
 pub mod Operands
 pub mod Pasts
 pub mod Placed
@@ -43,6 +45,7 @@ pub mod Returned
 pub mod Rows
 pub mod Rules
 pub mod Runs
+pub mod RunsOn
 pub mod Saved
 pub mod Session
 pub mod Shift

@@ -20,7 +20,7 @@ use Rattle.claims.proofs.Lengths.{Fit, calls-fit}
 pub memory-length : (file : List ℕ) (offset count : ℕ) → count ≤ 65536 → offset + count ≤ length file → length (memoryOf file offset count) ≡ 65536
 memory-length file offset count small inside = simp (length-append, length-take, length-drop, length-replicate) (omega arith)
 
-loaded-fits : (g : LoadGiven) → loadReply g ≡ accepted → Fit (loaded (g .file))
+pub loaded-fits : (g : LoadGiven) → loadReply g ≡ accepted → Fit (loaded (g .file))
 unfolding loaded
 loaded-fits g e =
     let f = g .file in

@@ -39,11 +39,11 @@ record Together (h : Host) (l : List ℕ) (c : Call) (r : Reply) (h′ : Host) :
 
 -- the run on the machine whose L is empty, with l in front
 module _ (h : Host) (l : List ℕ) (lent : Lent) where
-  record Shifted : Type 0 where
-    outcomes : outcome (machineOn h l) lent ≡ shiftOutcome l (outcome (machineOn h []) lent)
-    traces : taken (machineOn h l) lent ≡ map (shift l) (taken (machineOn h []) lent)
+  pub record Shifted : Type 0 where
+    pub outcomes : outcome (machineOn h l) lent ≡ shiftOutcome l (outcome (machineOn h []) lent)
+    pub traces : taken (machineOn h l) lent ≡ map (shift l) (taken (machineOn h []) lent)
 
-  shifted : Shifted
+  pub shifted : Shifted
   shifted =
       let k = allowedTo (machineOn h []) lent in
       let n = length (lent .log) in

@@ -9,6 +9,7 @@ pub mod History
 pub mod HostSteps
 pub mod Instructions
 pub mod Listings
+pub mod Longer
 pub mod Marked
 pub mod Masks
 pub mod Quotients

@@ -4,4 +4,5 @@ pub mod InMasks
 pub mod Raised
 pub mod Sums
 pub mod Timed
+pub mod Traces
 pub mod Words
