@@ -35,12 +35,12 @@ use Rattle.replies.specs.declared.SisaAnswer.{SisaAnswer}
 use Rattle.replies.specs.declared.SisaWord.{SisaWord}
 use Rattle.replies.specs.Sisa.{verdictNumber, sisaLoadLeft, sisaSaved, sisaSaveLeft, sisaAssembly, sisaAssembleLeft, sisaSetLeft, SisaRunLeft, runInNumbers, sisaRunLeft, HostLent, HostStepMeets, backInNumbers, sisaBackLeft, instructionInNumbers, sisaWord, sisaWrite, sisaFeed}
 use Rattle.claims.specs.HostSteps.{stepGiven, replyOf}
-use Rattle.claims.specs.Instructions.{cleared}
+use Rattle.claims_words.specs.Instructions.{cleared}
 use Rattle.claims.specs.CReplies.{verdictOf, LoadReplies, savedOf, SaveReplies, assemblyOf, AssembleReplies, SetReplies, answerOf, runOf, RunReplies, stepLeft, backOf, BackReplies, FeedReplies, sisaRead, instructionOf, readingOf, ReadReplies, sisaWriteOf, writtenOf, WriteReplies, CReplies}
-use Rattle.claims.proofs.Assembly.{refused-not-0}
+use Rattle.claims_texts.proofs.Assembly.{refused-not-0}
 use Rattle.claims.proofs.Feeding.{turned}
-use Rattle.claims.proofs.Instructions.{instructions}
-use Rattle.claims.proofs.Masks.{mask-laws}
+use Rattle.claims_words.proofs.Instructions.{instructions}
+use Rattle.claims_sheet.proofs.Masks.{mask-laws}
 use Rattle.claims.proofs.Refusals.{refusals}
 use Rattle.claims.proofs.Saved.{saving}
 

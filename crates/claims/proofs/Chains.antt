@@ -9,7 +9,7 @@ use borrow.Author.Tests.{eqb-true, eqb-false}
 use lib.Dec.{eqb, ltb}
 use Rattle.word.specs.Word.{pick}
 use Rattle.word.proofs.Tests.{never}
-use Rattle.claims.proofs.Decides.{Fails, decides-and, decides-lt}
+use Rattle.claims_words.proofs.Decides.{Fails, decides-and, decides-lt}
 
 -- ---- The replies of a call, and what they say
 

@@ -26,7 +26,7 @@ use Rattle.control.proofs.Laws.{lawful-rules}
 use Rattle.usage.specs.declared.Usage.{Usage}
 use Rattle.usage.specs.Usage.{isKind, doesKind, masksAt, addedFrom, counted, unused, usageOf, plusCounts, plusUsage}
 use Rattle.claims.specs.Usage.{total}
-use Rattle.claims.proofs.Rules.{rules}
+use Rattle.claims_sheet.proofs.Rules.{rules}
 
 -- ---- Lists of counts
 

@@ -7,7 +7,7 @@ use Rattle.machine.specs.Run.{byRules}
 use Rattle.panel.specs.Calls.{SetLeft, setLeft}
 use Rattle.run.specs.Runs.{CountedLeft, countedLeft}
 use Rattle.claims.specs.Session.{by-rules, by-table, Lent, Call, runs, sets, Reply, of-set, plain, Alike, Host, givenTo, afterRun, afterSet, CallMeets, a-run, a-setting, Calls, none, more}
-use Rattle.claims.proofs.Agreement.{same-run}
+use Rattle.claims_sheet.proofs.Agreement.{same-run}
 use Rattle.claims.proofs.Together.{both, told}
 
 abbrev pub ranOn : Host → Lent → CountedLeft

@@ -21,7 +21,7 @@ use Rattle.run.specs.Runs.{Given, stopped, run-refused, verdict, verdictOn, run
 use Rattle.run.proofs.Uncounted.{uncounted}
 use Rattle.back.specs.Backs.{BackGiven, gone-back, back-refused, stepsHeld, backVerdict, backLeftBy, backLeft}
 use Rattle.claims.specs.Refusals.{Lengths, ShortJournal, LoadRefusals, SetRefusals, RunRefusals, BackRefusals, Refusals}
-use Rattle.claims.proofs.Decides.{Fails, fails-eq, fails-le, fails-and, decides-eq, decides-stable}
+use Rattle.claims_words.proofs.Decides.{Fails, fails-eq, fails-le, fails-and, decides-eq, decides-stable}
 use Rattle.claims.proofs.Chains.{Reply, Tests, last, _then_, at, number, none, one-of}
 
 -- ---- The products as 01's table has them

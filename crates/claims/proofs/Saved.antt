@@ -11,7 +11,7 @@ use Rattle.word.proofs.Tests.{clash}
 use Rattle.save.specs.Saved.{savedFile, SaveReply, saved, save-refused, SaveGiven, SaveLeft, saveReply, saveLeftBy, saveLeft}
 use Rattle.save.proofs.Saved.{RightLengths, file-length, file-at-most, loads-back, last-word, least-words, last-byte, least-bytes, number-1, number-9, saves, no-other, nothing-changes}
 use Rattle.claims.specs.Saved.{LoadsAs, MemoryLengths, ShortDestination, SaveRefusals, Saved}
-use Rattle.claims.proofs.Decides.{decides-eq, decides-le, decides-stable}
+use Rattle.claims_words.proofs.Decides.{decides-eq, decides-le, decides-stable}
 
 -- ---- The refusals
 

@@ -18,7 +18,7 @@ use Rattle.panel.specs.Calls.{SetLeft, setLeft}
 use Rattle.control.proofs.Laws.{shift}
 use Rattle.run.specs.Runs.{Given, Left, stopped, verdictOn, countedIn, keptIn, leftOf, CountedLeft, countedBy, countedLeft, CountedMeets}
 use Rattle.claims.specs.Session.{Engine, by-rules, by-table, stepperOf, Lent, Call, runs, sets, Reply, of-run, of-set, Host, givenTo, afterRun, afterSet, CallMeets, a-run, a-setting, Calls, none, more, wrote, joined, allowedTo, started, outcome, taken, runBy, machineCall, machineCalls, saidBy, machineSays, machineReplies, machineOn}
-use Rattle.claims.proofs.Agreement.{same-run}
+use Rattle.claims_sheet.proofs.Agreement.{same-run}
 use Rattle.claims.proofs.Shift.{shiftOutcome, goes-alike, usage-shift, ticks-shift, kept-shift}
 
 -- both engines promise the same

@@ -37,7 +37,7 @@ use Rattle.replies.specs.declared.SisaWord.{SisaWord}
 use Rattle.replies.specs.declared.SisaFed.{SisaFed}
 use Rattle.replies.specs.Sisa.{SisaLoadLeft, sisaLoadLeft, SisaSaveLeft, sisaSaveLeft, SisaAssembleLeft, sisaAssembleLeft, SisaSetLeft, sisaSetLeft, SisaRunLeft, sisaLeft, sisaRunLeft, HostLent, withState, HostStepMeets, SisaBackLeft, sisaBackLeft, sisaInstruction, sisaWrite, sisaFeed}
 use Rattle.claims.specs.HostSteps.{stepGiven, replyOf}
-use Rattle.claims.specs.Instructions.{cleared}
+use Rattle.claims_words.specs.Instructions.{cleared}
 use Rattle.claims.specs.Refusals.{Accepts, AcceptsBack}
 
 -- refusal 0 is an accepted call

@@ -1,1 +1,1 @@
-// No code: the theorems about the other crates. specs/ has each statement, proofs/ its proof.
+// No code: the theorems on calls and lists of them. specs/ has each statement, proofs/ its proof.

@@ -1,0 +1,15 @@
+pub mod Again
+pub mod Carried
+pub mod History
+pub mod Kept
+pub mod Loads
+pub mod Longer
+pub mod Onward
+pub mod Pasts
+pub mod Rerun
+pub mod Returned
+pub mod RunsOn
+pub mod StepBack
+pub mod Stretches
+pub mod Unlooked
+pub mod Walks

@@ -1,0 +1,98 @@
+-- What a step, its entry and a step taken back do not look at: the count of journal entries and the log.
+-- Assumes nothing.
+use mathlib.Core.Path.{_≡_, refl, sym, ap, subst, _∙_}
+use mathlib.Core.Bool.{Bool, true, false}
+use mathlib.Core.List.{List, [], _∷_, _++_, append-nil}
+use Prim.Native.Nat.{ℕ, _-_}
+use lib.ListN.{length, drop, List·getD-map}
+use lib.Seq.{drop-append-seam, drop-length}
+use Rattle.word.specs.Fields.{bits, field, N8}
+use Rattle.word.specs.Word.{pick}
+use Rattle.machine.specs.declared.State.{State}
+use Rattle.machine.specs.Machine.{Machine, putR, putPC, putN, putJournaled, onState, putD, onInputs, putO, count}
+use Rattle.machine.specs.Step.{PC, Ra, Rb, d5-3, d8-6, d11-9, fetched, Next, cannot, to, step}
+use Rattle.machine.specs.Run.{Stepper}
+use Rattle.journal.specs.Journal.{Overwritten, nothing, register, data-word, data-byte, output-word, key-read, pcIn, overwritten, entryOf, overwrittenIn, putBack, undo}
+use Rattle.control.specs.Control.{unit, result, inputsAfter, next, writesPort, storedData, stored, written, performed, assigned, zeroDivisor, controlStep, controlIn, byControl, table}
+use Rattle.control.proofs.Agreement.{same-stepper}
+use Rattle.claims_back.specs.History.{heldAs}
+
+-- ---- A step
+
+-- x with the count and after the log l, where m is the machine before the step
+abbrev onward : ℕ → List ℕ → Machine → Machine → Machine
+onward c l m x = heldAs c (x .I) (l ++ drop (length (m .L)) (x .L)) x
+
+abbrev onwardNext : ℕ → List ℕ → Machine → Next → Next
+onwardNext c l m (cannot q) = cannot q
+onwardNext c l m (to x) = to (onward c l m x)
+
+module _ (c : ℕ) (l : List ℕ) (m : Machine) where
+  abbrev before : Machine
+  before = heldAs c (m .I) l m
+
+  written-held : (k w v : ℕ) (s : State) → written k w v (putJournaled c s) ≡ putJournaled c (written k w v s)
+  unfolding written
+  written-held k w v s =
+      List·getD-map (putJournaled c) (s ∷ putR (d5-3 w) v s ∷ putR (d8-6 w) v s ∷ putR (d11-9 w) v s ∷ []) (field (bits 1 0) k) s
+
+  -- the register state and the log that a step leaves
+  with-both : (x : Machine) {s : State} {L : List ℕ} → s ≡ putJournaled c (x .state) → L ≡ l ++ drop (length (m .L)) (x .L)
+      → _≡_ {A = Machine} (record { state = s; P = x .P; D = x .D; I = x .I; O = x .O; L = L }) (onward c l m x)
+  with-both x e h = λ i. record { state = e i; P = x .P; D = x .D; I = x .I; O = x .O; L = h i }
+
+  performed-held : (k w : ℕ) → performed k w before ≡ onward c l m (performed k w m)
+  unfolding performed stored
+  performed-held k w =
+      let u = unit k w (Ra w m) (Rb w m) in
+      by-port (writesPort k) (result k w u (PC m) (m .D) (m .I)) (storedData k (Rb w m) u (m .D))
+    where
+      after : ℕ → State → State
+      after v s = written k w v (putPC (next k w (Ra w m) (PC m)) (count s))
+
+      reads : Machine → Machine
+      reads x = onInputs (inputsAfter k w) x
+
+      by-port : (t : Bool) (v : ℕ) (D : List ℕ)
+          → onState (after v) (reads (pick t (putO (N8 w) (Ra w m) before) (putD D before)))
+          ≡ onward c l m (onState (after v) (reads (pick t (putO (N8 w) (Ra w m) m) (putD D m))))
+      by-port true v D = with-both (onState (after v) (reads (putO (N8 w) (Ra w m) m))) (written-held k w v _) (ap (λ (es : List ℕ). l ++ es) (sym (drop-append-seam (m .L) _)))
+      by-port false v D = with-both (onState (after v) (reads (putD D m))) (written-held k w v _) (sym (ap (λ (es : List ℕ). l ++ es) (drop-length (m .L)) ∙ append-nil l))
+
+  control-held : (words : List ℕ) → byControl words .steps before ≡ onwardNext c l m (byControl words .steps m)
+  unfolding controlStep fetched
+  control-held words =
+      let w = fetched m in
+      let k = controlIn words w in
+      by-tests k w (assigned k w) (zeroDivisor k w (Rb w m))
+    where
+      by-tests : (k w : ℕ) (t z : Bool)
+          → pick t (pick z (cannot 3) (to (performed k w before))) (cannot 1)
+          ≡ onwardNext c l m (pick t (pick z (cannot 3) (to (performed k w m))) (cannot 1))
+      by-tests k w true true = refl
+      by-tests k w true false = ap to (performed-held k w)
+      by-tests k w false z = refl
+
+  pub step-held : {x : Machine} → step m ≡ to x → step before ≡ to (onward c l m x)
+  step-held e =
+      subst (λ (v : Stepper). v .steps before ≡ onwardNext c l m (v .steps m)) same-stepper (control-held table) ∙ ap (onwardNext c l m) e
+
+-- ---- An entry: of the inputs it holds what a read of the key takes
+
+pub entry-held : (c : ℕ) (L : List ℕ) (m : Machine) → entryOf (heldAs c (m .I) L m) ≡ entryOf m
+unfolding entryOf overwritten fetched
+entry-held c L m = refl
+
+-- ---- A step taken back
+
+pub undo-counted : (x c : ℕ) (m : Machine) → undo x (onState (putJournaled c) m) ≡ onState (putJournaled c) (undo x m)
+unfolding undo
+undo-counted x c m = ap (onState (λ s. putPC (pcIn x) (putN (s .n - 1) s))) (go (overwrittenIn x))
+  where
+    go : (o : Overwritten) → putBack o (onState (putJournaled c) m) ≡ onState (putJournaled c) (putBack o m)
+    go nothing = refl
+    go (register k v) = refl
+    go (data-word k v) = refl
+    go (data-byte k v) = refl
+    go (output-word k v) = refl
+    go (key-read k v s) = refl

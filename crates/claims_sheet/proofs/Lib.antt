@@ -1,0 +1,10 @@
+pub mod Agreement
+pub mod Apart
+pub mod Exact
+pub mod Marked
+pub mod Masks
+pub mod Quotients
+pub mod Rules
+pub mod Steps
+pub mod Touched
+pub mod Witnesses

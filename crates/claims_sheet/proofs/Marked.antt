@@ -1,0 +1,84 @@
+-- The marked cases: the words of a to g and of the key by computing them, the instructions of h to l through the sheet's rules.
+-- Assumes nothing.
+use mathlib.Core.Path.{_≡_, refl, _∙_, ap, ap₂}
+use mathlib.Core.Bool.{Bool, true, false}
+use mathlib.Core.List.{List}
+use Prim.Native.Nat.{ℕ, _+_, _%_, _<_}
+use native.Mathlib.Omega.{arith}
+use borrow.Author.Tests.{ne-eqb}
+use lib.Dec.{eqb, ltb}
+use lib.IntN.{pos}
+use lib.ListN.{length, getD, set}
+use lib.Seq.{getD-set-same}
+use lib.Signed.{ltZ}
+use Rattle.word.specs.Fields.{Bits}
+use Rattle.word.specs.Word.{pick, add, clear0, signed, lowBits, SE, shifted, sha, shl, flag}
+use Rattle.muldiv.specs.Muldiv.{div}
+use Rattle.kinds.specs.declared.Kind.{Kind}
+use Rattle.kinds.specs.declared.Kind.the-variants.{Sha, Shl, Cmplt, Cmpltu, Ldb, Bz, Div}
+use Rattle.isa.specs.declared.Instruction.{Instruction}
+use Rattle.isa.specs.Sheet.{kindAt, sheetLine}
+use Rattle.isa.specs.Instructions.{readOf, writeOf}
+use Rattle.machine.specs.Machine.{Machine, count, onState, readFrom, wordAt}
+use Rattle.machine.specs.Step.{PC, write, jump, Rule, addi, ld, jalr, bnz, movi, movhi, input, rule, choice, cannot, to, stepBy, step}
+use Rattle.claims_words.specs.Instructions.{RegisterRange, InRange}
+use Rattle.claims_sheet.specs.Rules.{r, SE-n, done, effect, stepAs}
+use Rattle.claims_sheet.specs.Marked.{registers, Steps, Does, Gives, Marked}
+use Rattle.claims_words.proofs.Instructions.{instructions}
+use Rattle.claims_sheet.proofs.Rules.{rules}
+
+-- a step by the rule of a known word
+by-word : (w : ℕ) (s : Rule) (m : Machine) {Q : Machine → Type 0} → choice w ≡ rule s
+    → (length (m .state .r) ≡ 8 → Q (onState count (s w (jump (add (PC m) 2) m)))) → Steps w m Q
+unfolding step
+by-word w s m e q l h = (_, ap (λ w. stepBy (choice w) w m) h ∙ ap (λ x. stepBy x w m) e, q l)
+
+-- a step by an instruction
+by-sheet : (i : Instruction) (m : Machine) {next : Machine} {Q : Machine → Type 0} → stepAs i m ≡ to next → (InRange i → length (m .state .r) ≡ 8 → Q next) → Does i m Q
+by-sheet i m {next} s q w e l h = (next, rules .written i w e m h ∙ s, q (instructions .written i .1 (w, e)) l)
+
+-- what was written in a register stands there
+there : (rs : List ℕ) (k : ℕ) {v u : ℕ} → length rs ≡ 8 → k < 8 → v ≡ u → getD (set rs k v) k 0 ≡ u
+there rs k {v} l h e = getD-set-same rs k v 0 (omega arith) ∙ e
+
+-- a register, used or not, is one of the eight
+few : (p : Bits) (x : ℕ) → RegisterRange p x → x < 8
+few p x = go (eqb (p .count) 0)
+  where
+    go : (t : Bool) → pick t (x ≡ 0) (x < 8) → x < 8
+    go true h = omega arith
+    go false h = h
+
+-- an instruction that writes g (Ra, Rb) in Rd
+gives : (k : Kind) (g : ℕ → ℕ → ℕ) {x y v : ℕ} → ((m : Machine) (d a b : ℕ) → r m b ≡ y → effect k a b d (pos 0) m ≡ done (write d (g (r m a) (r m b)) m)) → g x y ≡ v → Gives k x y v
+gives k g s e m d a b p q =
+    by-sheet (registers k d a b) m (s (jump (add (PC m) 2) m) d a b q)
+    (λ i l. there (m .state .r) d l (few (sheetLine k .format .d) d (i .d)) (ap₂ g p q ∙ e))
+
+pub marked : Marked
+unfolding readOf writeOf kindAt signed lowBits SE shifted choice addi ld jalr bnz movi movhi input
+marked =
+    record {
+      a = (refl, refl);
+      b = (refl, refl);
+      c =
+          λ m. by-word 0x9AF6 movi m refl
+          (λ l. let rs = set (m .state .r) 5 0xFFF6 in
+          let x : getD rs 5 0 ≡ 0xFFF6 = there (m .state .r) 5 l (omega arith) refl in
+          by-word 0x9B3A movhi _ refl (λ l. there rs 5 l (omega arith) (ap (λ x. x % 256 + 0x3A00) x)));
+      d = λ m p. by-word 0x24BF addi m refl (λ l. there (m .state .r) 2 l (omega arith) (ap (λ x. add x 0xFFFF) p));
+      e = λ m p q. by-word 0x85FD bnz m refl (λ l. rw (q, p));
+      f = λ m p q. by-word 0x7240 jalr m refl (λ l. (ap clear0 q, there (m .state .r) 1 l (omega arith) (ap (λ x. add x 2) p)));
+      g = λ m p. by-word 0x3043 ld m refl (λ l. there (m .state .r) 1 l (omega arith) (ap (λ x. wordAt (m .D) (clear0 (add x 3))) p));
+      h = (gives Sha sha (λ m d a b q. refl) refl, gives Shl shl (λ m d a b q. refl) refl);
+      i = (gives Sha sha (λ m d a b q. refl) refl, gives Shl shl (λ m d a b q. refl) refl);
+      j = (gives Cmplt (λ x y. flag (ltZ (signed 16 x) (signed 16 y))) (λ m d a b q. refl) refl, gives Cmpltu (λ x y. flag (ltb x y)) (λ m d a b q. refl) refl);
+      k = λ m d a n p. by-sheet (record { kind = Ldb; a = a; b = 0; d = d; n = n }) m refl (λ i l. there (m .state .r) d l (i .d) (ap (λ x. SE-n (signed 8 x)) p));
+      l = λ m a n p q. by-sheet (record { kind = Bz; a = a; b = 0; d = 0; n = n }) m refl (λ i l. rw (ne-eqb _ 0 q, p));
+      division = gives Div div (λ m d a b q. ap (λ x. pick (eqb x 0) (cannot 3) (done (write d (div (r m a) (r m b)) m))) q) refl;
+      key =
+          λ m others p. (
+            by-word 0xA601 input m refl (λ l. (there (m .state .r) 3 l (omega arith) (ap (λ I. getD I 1 0) p), ap (readFrom 1) p)),
+            by-word 0xA600 input m refl (λ l. (there (m .state .r) 3 l (omega arith) (ap (λ I. getD I 0 0) p), p)),
+          );
+    }

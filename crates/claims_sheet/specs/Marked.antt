@@ -1,0 +1,71 @@
+-- The marked cases of 01, the one that 02 (L6) marks, and a read of the key (02, L8). What a row does not mention, other registers, memory, ports, is any.
+use mathlib.Core.Path.{_≡_}
+use mathlib.Core.List.{List, _∷_}
+use Prim.Native.Nat.{ℕ}
+use lib.IntN.{ℤ, pos}
+use lib.ListN.{length, getD}
+use Rattle.kinds.specs.declared.Kind.{Kind}
+use Rattle.kinds.specs.declared.Kind.the-variants.{Sha, Shl, Cmplt, Cmpltu, Cmpleu, Ldb, Bz, Div}
+use Rattle.isa.specs.declared.Instruction.{Instruction}
+use Rattle.isa.specs.Instructions.{instruction, readOf, word, writeOf}
+use Rattle.machine.specs.Machine.{Machine, wordAt}
+use Rattle.machine.specs.Step.{PC, to, fetched, step}
+use Rattle.claims_sheet.specs.Rules.{r, address}
+
+-- an instruction with registers alone, in the order of the sheet's assembler: OP Rd, Ra, Rb
+abbrev pub registers : Kind → ℕ → ℕ → ℕ → Instruction
+registers k d a b = record { kind = k; a = a; b = b; d = d; n = pos 0 }
+
+-- the instruction i is the word w: written and read
+abbrev pub Is : Instruction → ℕ → Type 0
+Is i w = (writeOf i ≡ word w) × (readOf w ≡ instruction i)
+
+-- m, which has eight registers and the word w at PC, steps to a machine of which Q holds
+abbrev pub Steps : ℕ → Machine → (Machine → Type 0) → Type 0
+Steps w m Q = length (m .state .r) ≡ 8 → fetched m ≡ w → (next : Machine) × (step m ≡ to next) × Q next
+
+-- the same where w is the word written for i
+abbrev pub Does : Instruction → Machine → (Machine → Type 0) → Type 0
+Does i m Q = (w : ℕ) → writeOf i ≡ word w → Steps w m Q
+
+-- an operation on Ra = x and Rb = y gives Rd = v
+abbrev pub Gives : Kind → ℕ → ℕ → ℕ → Type 0
+Gives k x y v = (m : Machine) (d a b : ℕ) → r m a ≡ x → r m b ≡ y → Does (registers k d a b) m (λ next. r next d ≡ v)
+
+pub record Marked : Type 0 where
+  -- (a) SHA R7,R4,R1 is 0x087E.
+  pub a : Is (registers Sha 7 4 1) 0x087E
+  -- (b) CMPLEU R3,R1,R2 is 0x129D.
+  pub b : Is (registers Cmpleu 3 1 2) 0x129D
+  -- (c) 0x9AF6 then 0x9B3A leave R5 = 0x3AF6.
+  pub c : (m : Machine) → Steps 0x9AF6 m (λ next. Steps 0x9B3A next (λ last. r last 5 ≡ 0x3AF6))
+  -- (d) 0x24BF with R2 = 0 gives 0xFFFF.
+  pub d : (m : Machine) → r m 2 ≡ 0 → Steps 0x24BF m (λ next. r next 2 ≡ 0xFFFF)
+  -- (e) 0x85FD at PC 4, R2 = 1: PC 0.
+  pub e : (m : Machine) → PC m ≡ 4 → r m 2 ≡ 1 → Steps 0x85FD m (λ next. PC next ≡ 0)
+  -- (f) 0x7240 at PC 0x0010, R1 = 0x0101: PC 0x0100, R1 0x0012.
+  pub f : (m : Machine) → PC m ≡ 0x0010 → r m 1 ≡ 0x0101 → Steps 0x7240 m (λ next. (PC next ≡ 0x0100) × (r next 1 ≡ 0x0012))
+  -- (g) 0x3043 with R0 = 0 reads the word at 2.
+  pub g : (m : Machine) → r m 0 ≡ 0 → Steps 0x3043 m (λ next. r next 1 ≡ wordAt (m .D) 2)
+  -- (h) SHA of 0x8000 by 0x0010: 0xFFFF; SHL: 0.
+  pub h : Gives Sha 0x8000 0x0010 0xFFFF × Gives Shl 0x8000 0x0010 0
+  -- (i) shift of 1 by 0x002F: 0x8000.
+  pub i : Gives Sha 1 0x002F 0x8000 × Gives Shl 1 0x002F 0x8000
+  -- (j) 0x8000 against 0x7FFF: CMPLT 1, CMPLTU 0.
+  pub j : Gives Cmplt 0x8000 0x7FFF 1 × Gives Cmpltu 0x8000 0x7FFF 0
+  -- (k) LDB of 0x80: 0xFF80.
+  pub k :
+      (m : Machine) (d a : ℕ) (n : ℤ) → getD (m .D) (address m a n) 0 ≡ 0x80
+      → Does (record { kind = Ldb; a = a; b = 0; d = d; n = n }) m (λ next. r next d ≡ 0xFF80)
+  -- (l) BZ not taken at 0xFFFE: PC 0.
+  pub l :
+      (m : Machine) (a : ℕ) (n : ℤ) → PC m ≡ 0xFFFE → (r m a ≡ 0 → ⊥)
+      → Does (record { kind = Bz; a = a; b = 0; d = 0; n = n }) m (λ next. PC next ≡ 0)
+  -- 02, L6: 0x8000 by 0xFFFF is 0x8000.
+  pub division : Gives Div 0x8000 0xFFFF 0x8000
+  -- 02, L8, with input 0 = 5 and input 1 = 7: 0xA601 (IN R3,1) gives R3 = 7, and then input 0 is 0 and no other input changed; 0xA600
+  -- (IN R3,0) gives R3 = 5, and no input changes.
+  pub key :
+      (m : Machine) (others : List ℕ) → m .I ≡ 5 ∷ 7 ∷ others
+      → Steps 0xA601 m (λ next. (r next 3 ≡ 7) × (next .I ≡ 0 ∷ 7 ∷ others))
+      × Steps 0xA600 m (λ next. (r next 3 ≡ 5) × (next .I ≡ 5 ∷ 7 ∷ others))

@@ -1,0 +1,16 @@
+pub mod Assembly
+pub mod Examples
+pub mod Fitting
+pub mod Joined
+pub mod Judging
+pub mod Listed
+pub mod Listings
+pub mod Names
+pub mod Operands
+pub mod Placed
+pub mod Readings
+pub mod Replies
+pub mod Rows
+pub mod Statements
+pub mod Texts
+pub mod Widths

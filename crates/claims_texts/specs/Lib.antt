@@ -1,0 +1,4 @@
+pub mod Assembly
+pub mod Examples
+pub mod Listings
+pub mod Texts
