@@ -180,7 +180,8 @@ static void keep_as_expected(void)
 
 static int same_state(const SisaState *x, const SisaState *y)
 {
-    return memcmp(x->r, y->r, sizeof x->r) == 0 && x->pc == y->pc && x->n == y->n && x->journaled == y->journaled;
+    return memcmp(x->r, y->r, sizeof x->r) == 0 && x->pc == y->pc && x->n == y->n && x->journaled == y->journaled
+        && x->board == y->board;
 }
 
 static int same_reply(const SisaRun *x, const SisaRun *y)
@@ -416,7 +417,7 @@ static double timed_saves(int saver)
     memset(saved.destination, 0xFF, FILE_BYTES);
     double start = now();
     for (int i = 0; i < SAVES; i++)
-        saved.reply = savers[saver].save(load.program, MEMORY_BYTES, load.memory, MEMORY_BYTES, saved.destination,
+        saved.reply = savers[saver].save(reset, load.program, MEMORY_BYTES, load.memory, MEMORY_BYTES, saved.destination,
                                          FILE_BYTES);
     double end = now();
     return (end - start) / SAVES;
@@ -425,7 +426,8 @@ static double timed_saves(int saver)
 /* Ends the program where what the save left and replied differs from what is expected. */
 static void check_save(int saver)
 {
-    if (saved.reply.refusal == expected_save.reply.refusal && saved.reply.length == expected_save.reply.length
+    if (same_state(&saved.reply.state, &expected_save.reply.state) && saved.reply.refusal == expected_save.reply.refusal
+        && saved.reply.length == expected_save.reply.length
         && memcmp(saved.destination, expected_save.destination, FILE_BYTES) == 0)
         return;
     fprintf(stderr, "save: %s and C differ\n", savers[saver].name);

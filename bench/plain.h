@@ -5,7 +5,8 @@
 
 enum { MEMORY_BYTES = 65536, PORTS = 256 };
 
-/* The run of sisa_run_by_rules (sisa.h), by C interpreters. The usage and the ticks of uncounted_run are all 0. */
+/* The run of sisa_run_by_rules (sisa.h) on the board with two memories, by C interpreters. The usage and the ticks of uncounted_run
+   are all 0. */
 typedef SisaRun Run(SisaState state,
                     const uint8_t *program, size_t program_len,
                     uint8_t *memory, size_t memory_len,
@@ -39,9 +40,10 @@ typedef SisaBack StepBack(SisaState state,
 
 StepBack plain_step_back;
 
-/* The save of sisa_save, by plain C: one scans both memories from the end byte by byte; the other, for memories without
-   trailing zeros, copies both whole. */
-typedef SisaSaved Save(const uint8_t *program, size_t program_len,
+/* The save of sisa_save on the board with two memories, by plain C: one scans both memories from the end byte by byte; the other,
+   for memories without trailing zeros, copies both whole. */
+typedef SisaSaved Save(SisaState state,
+                       const uint8_t *program, size_t program_len,
                        const uint8_t *memory, size_t memory_len,
                        uint8_t *destination, size_t destination_len);
 

@@ -20,34 +20,36 @@ static void put_number(uint8_t *at, size_t x)
 }
 
 /* The file of the first bytes of both memories. */
-static SisaSaved write_file(const uint8_t *program, size_t program_bytes, const uint8_t *memory, size_t memory_bytes,
-                            uint8_t *destination, size_t destination_len)
+static SisaSaved write_file(SisaState state, const uint8_t *program, size_t program_bytes, const uint8_t *memory,
+                            size_t memory_bytes, uint8_t *destination, size_t destination_len)
 {
     size_t data_offset = HEADER_BYTES + program_bytes, length = data_offset + memory_bytes;
     if (destination_len < length)
-        return (SisaSaved){ .refusal = 9 };
+        return (SisaSaved){ .state = state, .refusal = 9 };
     put_number(destination, program_bytes / 2);
     put_number(destination + 4, HEADER_BYTES);
     put_number(destination + 8, memory_bytes);
     put_number(destination + 12, data_offset);
     memcpy(destination + HEADER_BYTES, program, program_bytes);
     memcpy(destination + data_offset, memory, memory_bytes);
-    return (SisaSaved){ .length = length };
+    return (SisaSaved){ .state = state, .length = length };
 }
 
-SisaSaved plain_save(const uint8_t *program, size_t program_len,
+SisaSaved plain_save(SisaState state,
+                     const uint8_t *program, size_t program_len,
                      const uint8_t *memory, size_t memory_len,
                      uint8_t *destination, size_t destination_len)
 {
     if (program_len != MEMORY_BYTES || memory_len != MEMORY_BYTES)
-        return (SisaSaved){ .refusal = 1 };
+        return (SisaSaved){ .state = state, .refusal = 1 };
     size_t words = (kept(program, program_len) + 1) / 2;
-    return write_file(program, 2 * words, memory, kept(memory, memory_len), destination, destination_len);
+    return write_file(state, program, 2 * words, memory, kept(memory, memory_len), destination, destination_len);
 }
 
-SisaSaved copied_save(const uint8_t *program, size_t program_len,
+SisaSaved copied_save(SisaState state,
+                      const uint8_t *program, size_t program_len,
                       const uint8_t *memory, size_t memory_len,
                       uint8_t *destination, size_t destination_len)
 {
-    return write_file(program, program_len, memory, memory_len, destination, destination_len);
+    return write_file(state, program, program_len, memory, memory_len, destination, destination_len);
 }

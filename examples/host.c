@@ -1,15 +1,17 @@
 /* A host in C: loads a trim, sets three inputs, runs it, shows the corrections, saves both memories and loads them again;
    then takes the first steps one by one, steps back from the end of a run and goes forward again; presses the key for a second
-   trim, if one is named; and shows the usage sheet of it all.
+   trim, if one is named; runs a third, which changes its own code, on the single-memory board, if one is named; and shows the
+   usage sheet of it all.
 
        gcc -O2 -Iinclude examples/host.c target/staticlib/libsisa.a -o target/host_c
-       target/host_c examples/gain.trim examples/key.trim */
+       target/host_c examples/gain.trim examples/key.trim examples/fanout.trim */
 #include "sisa.h"
 
 #include <stdio.h>
 #include <string.h>
 
 enum { MEMORY_BYTES = 65536, PORTS = 256, LOG_PLACES = 64, BUDGET = 1000, HOST_STEPS = 5, BACK_STEPS = 5, KINDS = 30 };
+enum { TWO_MEMORIES = 0, SINGLE_MEMORY = 1 };
 
 static uint8_t file[16 + 2 * MEMORY_BYTES], program[MEMORY_BYTES], memory[MEMORY_BYTES];
 static uint16_t inputs[PORTS], outputs[PORTS];
@@ -49,15 +51,15 @@ static int refused(uint8_t refusal)
     return refusal != 0;
 }
 
-/* Reads a trim file and loads it. Returns 0 where it can't be read or is refused. */
-static int load(const char *path, SisaState *state)
+/* Reads a trim file and loads it for a board. Returns 0 where it can't be read or is refused. */
+static int load(const char *path, uint8_t board, SisaState *state)
 {
     long length = read_file(path);
     if (length < 0) {
         fprintf(stderr, "%s: no file of at most %zu bytes\n", path, sizeof file);
         return 0;
     }
-    SisaLoad loaded = sisa_load(file, (size_t)length, program, sizeof program, memory, sizeof memory, inputs, PORTS,
+    SisaLoad loaded = sisa_load(file, (size_t)length, board, program, sizeof program, memory, sizeof memory, inputs, PORTS,
                                 outputs, PORTS);
     *state = loaded.state;
     return !refused(loaded.refusal);
@@ -108,15 +110,16 @@ static int show_run(const char *title, const SisaRun *run)
     return 1;
 }
 
-/* Saves what the trim left and loads it into memories of its own. Returns 0 where one of the two is refused. */
-static int save_and_load(void)
+/* Saves what the trim left and loads it, for the same board, into memories of its own. Returns 0 where one of the two is
+   refused. */
+static int save_and_load(SisaState state)
 {
     static uint8_t saved_file[sizeof file], program_again[MEMORY_BYTES], memory_again[MEMORY_BYTES];
     static uint16_t inputs_again[PORTS], outputs_again[PORTS];
-    SisaSaved saved = sisa_save(program, sizeof program, memory, sizeof memory, saved_file, sizeof saved_file);
+    SisaSaved saved = sisa_save(state, program, sizeof program, memory, sizeof memory, saved_file, sizeof saved_file);
     if (refused(saved.refusal))
         return 0;
-    SisaLoad loaded = sisa_load(saved_file, saved.length, program_again, sizeof program_again, memory_again,
+    SisaLoad loaded = sisa_load(saved_file, saved.length, state.board, program_again, sizeof program_again, memory_again,
                                 sizeof memory_again, inputs_again, PORTS, outputs_again, PORTS);
     if (refused(loaded.refusal))
         return 0;
@@ -183,7 +186,7 @@ static void print_key(const char *title)
 static int press_key(const char *path)
 {
     SisaState state;
-    if (!load(path, &state))
+    if (!load(path, TWO_MEMORIES, &state))
         return 0;
     sisa_set_input(inputs, PORTS, 0, 1);
     sisa_set_input(inputs, PORTS, 1, 65);
@@ -195,6 +198,31 @@ static int press_key(const char *path)
     if (!step_back(&run.state, run.steps))
         return 0;
     print_key("key given back");
+    return 1;
+}
+
+/* The word at address 8, in data memory, where the single-memory board fetches its instructions. */
+static void print_code(const char *title)
+{
+    printf("%s: the word at 0008 is %04X\n", title, memory[8] | memory[9] << 8);
+}
+
+/* Runs a trim that changes its own code, on the single-memory board. A save has the code as it is then, and taking the steps back
+   gives the code back too. Returns 0 where a call is refused. */
+static int change_code(const char *path)
+{
+    SisaState state;
+    if (!load(path, SINGLE_MEMORY, &state))
+        return 0;
+    set_level();
+    print_code("single-memory board");
+    SisaRun run = run_with_journal(state, BUDGET);
+    if (!show_run("run by the table, with a journal", &run))
+        return 0;
+    print_code("code changed");
+    if (!save_and_load(run.state) || !step_back(&run.state, run.steps))
+        return 0;
+    print_code("code given back");
     return 1;
 }
 
@@ -211,22 +239,22 @@ static void print_sheet(void)
 
 int main(int argc, char **argv)
 {
-    if (argc != 2 && argc != 3) {
-        fprintf(stderr, "usage: %s FILE.trim [KEY.trim]\n", argv[0]);
+    if (argc < 2 || argc > 4) {
+        fprintf(stderr, "usage: %s FILE.trim [KEY.trim [FANOUT.trim]]\n", argv[0]);
         return 2;
     }
     SisaState reset;
-    if (!load(argv[1], &reset))
+    if (!load(argv[1], TWO_MEMORIES, &reset))
         return 1;
     set_knobs();
     SisaRun run = sisa_run_by_rules(reset, program, sizeof program, memory, sizeof memory, inputs, PORTS, outputs, PORTS, BUDGET,
                                     port_log, LOG_PLACES);
-    if (!show_run("run by the rules", &run) || !save_and_load())
+    if (!show_run("run by the rules", &run) || !save_and_load(run.state))
         return 1;
     set_level();
     step_by_step(reset);
     set_level();
-    if (!back_and_forward(reset) || (argc == 3 && !press_key(argv[2])))
+    if (!back_and_forward(reset) || (argc > 2 && !press_key(argv[2])) || (argc > 3 && !change_code(argv[3])))
         return 1;
     print_sheet();
     return 0;

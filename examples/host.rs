@@ -1,9 +1,10 @@
 //! A host in Rust: loads a trim, sets three inputs, runs it, shows the corrections, saves both memories and loads them
 //! again; then takes the first steps one by one, steps back from the end of a run and goes forward again; presses the
-//! key for a second trim, if one is named; and shows the usage sheet of it all. It prints what host.c prints.
+//! key for a second trim, if one is named; runs a third, which changes its own code, on the single-memory board, if one
+//! is named; and shows the usage sheet of it all. It prints what host.c prints.
 //!
 //!     rustc --edition 2021 -O examples/host.rs -L target/staticlib -l static=sisa -o target/host_rs
-//!     target/host_rs examples/gain.trim examples/key.trim
+//!     target/host_rs examples/gain.trim examples/key.trim examples/fanout.trim
 
 use std::process::ExitCode;
 
@@ -16,6 +17,7 @@ mod ffi {
         pub pc: u16,
         pub n: u32,
         pub journaled: u64,
+        pub board: u8,
     }
 
     #[repr(C)]
@@ -26,6 +28,7 @@ mod ffi {
 
     #[repr(C)]
     pub struct Saved {
+        pub state: State,
         pub refusal: u8,
         pub length: usize,
     }
@@ -85,11 +88,12 @@ mod ffi {
     #[rustfmt::skip]
     unsafe extern "C" {
         pub fn sisa_load(
-            file: *const u8, file_len: usize, program: *mut u8, program_len: usize, memory: *mut u8, memory_len: usize,
+            file: *const u8, file_len: usize, board: u8,
+            program: *mut u8, program_len: usize, memory: *mut u8, memory_len: usize,
             inputs: *mut u16, inputs_len: usize, outputs: *mut u16, outputs_len: usize,
         ) -> Load;
         pub fn sisa_save(
-            program: *const u8, program_len: usize, memory: *const u8, memory_len: usize,
+            state: State, program: *const u8, program_len: usize, memory: *const u8, memory_len: usize,
             destination: *mut u8, destination_len: usize,
         ) -> Saved;
         pub fn sisa_set_input(inputs: *mut u16, inputs_len: usize, port: u8, value: u16) -> u8;
@@ -124,6 +128,9 @@ const PORTS: usize = 256;
 const BUDGET: u32 = 1_000;
 const HOST_STEPS: u32 = 5;
 const BACK_STEPS: u32 = 5;
+/// The boards, by their numbers.
+const TWO_MEMORIES: u8 = 0;
+const SINGLE_MEMORY: u8 = 1;
 /// No file that a save writes is longer.
 const FILE_BYTES: usize = 16 + 2 * MEMORY_BYTES;
 
@@ -183,7 +190,7 @@ struct Machine {
 }
 
 impl Machine {
-    fn load(file: &[u8]) -> Result<Machine, Refusal> {
+    fn load(file: &[u8], board: u8) -> Result<Machine, Refusal> {
         let (mut program, mut memory) = (vec![0; MEMORY_BYTES], vec![0; MEMORY_BYTES]);
         let (mut inputs, mut outputs) = (vec![0; PORTS], vec![0; PORTS]);
         // SAFETY: each pointer and length is of one slice, and no two slices overlap.
@@ -191,6 +198,7 @@ impl Machine {
             ffi::sisa_load(
                 file.as_ptr(),
                 file.len(),
+                board,
                 program.as_mut_ptr(),
                 program.len(),
                 memory.as_mut_ptr(),
@@ -213,12 +221,13 @@ impl Machine {
         )
     }
 
-    /// The trim file of both memories.
-    fn save(&self) -> Result<Vec<u8>, Refusal> {
+    /// The trim file of both memories, on the single-memory board of data memory.
+    fn save(&mut self) -> Result<Vec<u8>, Refusal> {
         let mut file = vec![0; FILE_BYTES];
         // SAFETY: each pointer and length is of one slice, and no two slices overlap.
         let reply = unsafe {
             ffi::sisa_save(
+                self.state,
                 self.program.as_ptr(),
                 self.program.len(),
                 self.memory.as_ptr(),
@@ -227,6 +236,7 @@ impl Machine {
                 file.len(),
             )
         };
+        self.state = reply.state;
         file.truncate(reply.length);
         accepted(reply.refusal, file)
     }
@@ -407,10 +417,10 @@ impl Host {
         Ok(())
     }
 
-    /// Saves what the trim left and loads it into memories of its own.
-    fn save_and_load(&self) -> Result<(), Refusal> {
+    /// Saves what the trim left and loads it, for the same board, into memories of its own.
+    fn save_and_load(&mut self) -> Result<(), Refusal> {
         let saved = self.machine.save()?;
-        let again = Machine::load(&saved)?;
+        let again = Machine::load(&saved, self.machine.state.board)?;
         let same = again.program == self.machine.program && again.memory == self.machine.memory;
         println!(
             "saved {} bytes, loaded again: {} memories",
@@ -456,7 +466,7 @@ impl Host {
     /// Presses the key for a trim that waits for it. Reading the data takes the key: the status is 0 after that. Taking
     /// the steps back gives the status what it was before the read.
     fn press_key(&mut self, file: &[u8]) -> Result<(), Refusal> {
-        self.machine = Machine::load(file)?;
+        self.machine = Machine::load(file, TWO_MEMORIES)?;
         self.machine.set_input(0, 1)?;
         self.machine.set_input(1, 65)?;
         self.print_key("key pressed");
@@ -477,15 +487,38 @@ impl Host {
         );
     }
 
+    /// Runs a trim that changes its own code, on the single-memory board. A save has the code as it is then, and taking
+    /// the steps back gives the code back too.
+    fn change_code(&mut self, file: &[u8]) -> Result<(), Refusal> {
+        self.machine = Machine::load(file, SINGLE_MEMORY)?;
+        self.set_level()?;
+        self.print_code("single-memory board");
+        let mut journal = [0; BUDGET as usize];
+        let run = self.run_with_journal(BUDGET, &mut journal)?;
+        self.show_run("run by the table, with a journal", &run)?;
+        self.print_code("code changed");
+        self.save_and_load()?;
+        self.step_back(&journal, run.steps)?;
+        self.print_code("code given back");
+        Ok(())
+    }
+
+    /// The word at address 8, in data memory, where the single-memory board fetches its instructions.
+    fn print_code(&self, title: &str) {
+        let memory = &self.machine.memory;
+        let word = u16::from_le_bytes([memory[8], memory[9]]);
+        println!("{title}: the word at 0008 is {word:04X}");
+    }
+
     fn run_with_journal(&mut self, budget: u32, journal: &mut [u64]) -> Result<Report, Refusal> {
         self.machine
             .run_by_table_with_journal(budget, &mut self.log, journal)
     }
 }
 
-fn host(file: &[u8], key: Option<&[u8]>) -> Result<(), Refusal> {
+fn host(file: &[u8], key: Option<&[u8]>, fanout: Option<&[u8]>) -> Result<(), Refusal> {
     let mut host = Host {
-        machine: Machine::load(file)?,
+        machine: Machine::load(file, TWO_MEMORIES)?,
         log: [0; 64],
         sheet: Sheet::default(),
     };
@@ -504,21 +537,25 @@ fn host(file: &[u8], key: Option<&[u8]>) -> Result<(), Refusal> {
     if let Some(key) = key {
         host.press_key(key)?;
     }
+    if let Some(fanout) = fanout {
+        host.change_code(fanout)?;
+    }
     print_sheet(&host.sheet);
     Ok(())
 }
 
 fn main() -> ExitCode {
     let files: Result<Vec<_>, _> = std::env::args().skip(1).map(std::fs::read).collect();
-    let (file, key) = match files.as_deref() {
-        Ok([file]) => (file, None),
-        Ok([file, key]) => (file, Some(key.as_slice())),
+    let (file, key, fanout) = match files.as_deref() {
+        Ok([file]) => (file, None, None),
+        Ok([file, key]) => (file, Some(key.as_slice()), None),
+        Ok([file, key, fanout]) => (file, Some(key.as_slice()), Some(fanout.as_slice())),
         _ => {
-            eprintln!("usage: host_rs FILE.trim [KEY.trim]");
+            eprintln!("usage: host_rs FILE.trim [KEY.trim [FANOUT.trim]]");
             return ExitCode::from(2);
         }
     };
-    match host(file, key) {
+    match host(file, key, fanout) {
         Ok(()) => ExitCode::SUCCESS,
         Err(Refusal(number)) => {
             println!("refused: {number}");

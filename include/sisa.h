@@ -1,6 +1,10 @@
 /* The SISA trim processor: loading a trim, running it by the rules or by the control table, stepping back, saving it, writing
    it as text, and reading and writing one instruction. Link libsisa.a (rt staticlib sisa).
 
+   There are two boards, and a load names one of them. The board with two memories fetches instructions from the program. The
+   single-memory board fetches them from data memory, each just before its step: a store may change the instruction that
+   follows. The program is lent there too; the load zeroes it, and it is never read.
+
    A slice is passed as a pointer and the number of its elements. A pointer is never null, also where the number is 0, and
    no two slices of a call overlap. Beyond that every value of every argument is allowed. A memory is 65,536 bytes, an array
    of ports 256 words; any other length is refused with 1. A refusal is its number in the refusal table of documents 01 and 02, 0
@@ -17,22 +21,25 @@ extern "C" {
 #endif
 
 /* R0 to R7, PC, n, the count of steps done, and `journaled`, the count of journal entries: how many of the last steps runs
-   kept a journal of. It is 0 from a load, and from an accepted run without a journal. */
+   kept a journal of. It is 0 from a load, and from an accepted run without a journal. Then `board`: 0 the one with two
+   memories, any other number the single-memory one. It is 0 or 1 from a load, and all other calls leave it as it is. */
 typedef struct {
     uint16_t r[8];
     uint16_t pc;
     uint32_t n;
     uint64_t journaled;
+    uint8_t board;
 } SisaState;
 
-/* What a load replies. The state is the reset one. */
+/* What a load replies. The state is the reset one of the board loaded for, and all 0 where the load is refused. */
 typedef struct {
     SisaState state;
     uint8_t refusal;
 } SisaLoad;
 
-/* What a save replies. The length is the file's. */
+/* What a save replies: the state as handed, also where the save is refused, the refusal, and the file's length. */
 typedef struct {
+    SisaState state;
     uint8_t refusal;
     size_t length;
 } SisaSaved;
@@ -125,18 +132,25 @@ typedef struct {
     size_t count;
 } SisaWindow;
 
-/* Copies the file's parts to the program and the data memory, and zeroes all other memory and both arrays of ports. */
+/* Copies the file's parts to the program and the data memory, and zeroes all other memory and both arrays of ports. The board is
+   0 for two memories, any other number for the single memory. For that one both parts go to data memory, the program part from
+   address 0 on and straight after it the data part, and all of the program is zeroed; parts that are more than 65,536 bytes
+   together are refused with 15. */
 SisaLoad sisa_load(const uint8_t *file, size_t file_len,
+                   uint8_t board,
                    uint8_t *program, size_t program_len,
                    uint8_t *memory, size_t memory_len,
                    uint16_t *inputs, size_t inputs_len,
                    uint16_t *outputs, size_t outputs_len);
 
 /* Writes the trim file of both memories to the front of the destination, whose unused end keeps its bytes: the program
-   from offset 16 on, without its trailing zero words, and straight after it the data, without its trailing zero bytes.
-   Loading the file gives back both memories. A destination shorter than the file is refused with 9. A file can have
-   131,088 bytes; panelrun takes files of at most 65,536. */
-SisaSaved sisa_save(const uint8_t *program, size_t program_len,
+   from offset 16 on, without its trailing zero words, and straight after it the data, without its trailing zero bytes. Where
+   the state is one of the single-memory board the file has no program words (W is 0), whatever the program holds, and data
+   memory as its data. Loading the file for the state's board gives back both memories, on the single-memory board data memory,
+   with the program zero. A destination shorter than the file is refused with 9. A file can have 131,088 bytes, 65,552 on the
+   single-memory board; panelrun takes files of at most 65,536, and loads them for two memories. */
+SisaSaved sisa_save(SisaState state,
+                    const uint8_t *program, size_t program_len,
                     const uint8_t *memory, size_t memory_len,
                     uint8_t *destination, size_t destination_len);
 
@@ -148,9 +162,10 @@ SisaAssembly sisa_assemble(const uint8_t *text, size_t text_len, uint8_t *progra
 /* The input at a port becomes the value. Replies 0 or the refusal. */
 uint8_t sisa_set_input(uint16_t *inputs, size_t inputs_len, uint8_t port, uint16_t value);
 
-/* A run of at most `budget` steps by the rules. An entry of the log is n before the step times 16,777,216, plus the port
-   times 65,536, plus the value. Places of the log after the entries written keep their content. Input 0 is a key's status and
-   input 1 its data: IN from port 1 also sets input 0 to 0, so that a press is read only one time. A run changes no other input. */
+/* A run of at most `budget` steps by the rules, on the board that the state names. An entry of the log is n before the step
+   times 16,777,216, plus the port times 65,536, plus the value. Places of the log after the entries written keep their content.
+   Input 0 is a key's status and input 1 its data: IN from port 1 also sets input 0 to 0, so that a press is read only one time.
+   A run changes no other input. */
 SisaRun sisa_run_by_rules(SisaState state,
                           const uint8_t *program, size_t program_len,
                           uint8_t *memory, size_t memory_len,
@@ -224,7 +239,8 @@ SisaInstruction sisa_read(uint16_t word);
 SisaWord sisa_write(uint8_t kind, uint8_t a, uint8_t b, uint8_t d, int16_t n);
 
 /* The bytes start .. start + count of the data memory (of_data not 0) or of the program (of_data 0); the empty part
-   where they end beyond the memory lent, whatever its length. */
+   where they end beyond the memory lent, whatever its length. On the single-memory board the instructions are in data memory,
+   and a window on the program shows the zeros that the load left there. */
 SisaWindow sisa_window(const uint8_t *program, size_t program_len,
                        const uint8_t *memory, size_t memory_len,
                        uint8_t of_data, size_t start, size_t count);

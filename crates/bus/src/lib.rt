@@ -3,6 +3,7 @@ ghost use mathlib.Core.Path.{_≡_};
 ghost use Prim.Native.Nat.{_+_, _*_, _%_, _<_};
 ghost use lib.ListN.{length, getD, set};
 ghost use Rattle.word.specs.Word.{clear0};
+ghost use Rattle.machine.specs.Held.{Fetches};
 ghost use Rattle.machine.specs.Lengths.{lengthsFit};
 ghost use Rattle.machine.specs.Machine.{readFrom, wordAt, putWord, putByte};
 use machine::Address;
@@ -56,12 +57,24 @@ pub fn word_from(bytes: &[u8], at: usize) -> u16
     low + 256 * high
 }
 
-// The instruction word at an even PC, of the memory that instructions are fetched from.
-pub fn fetch(memory: &[u8], pc: u16) -> u16
-    requires { ⌜ (length (now memory) ≡ 65536) × (pc % 2 ≡ 0) ⌝ }
-    ensures { λ w. ⌜ w ≡ wordAt (now (memory .entry)) pc ⌝ }
+// The word at an even PC.
+fn word_at(bytes: &[u8], pc: u16) -> u16
+    requires { ⌜ (length (now bytes) ≡ 65536) × (pc % 2 ≡ 0) ⌝ }
+    ensures { λ w. ⌜ w ≡ wordAt (now (bytes .entry)) pc ⌝ }
 {
-    word_from(memory, pc as usize)
+    word_from(bytes, pc as usize)
+}
+
+// The instruction word at an even PC, of program memory, or of data memory on the single-memory board.
+pub fn fetch(state: State, program: &[u8], memory: &[u8]) -> u16
+    requires { ⌜ (length (now program) ≡ 65536) × (length (now memory) ≡ 65536) × (state .pc % 2 ≡ 0) ⌝ }
+    ensures { λ w. ⌜ Fetches state (now (program .entry)) (now (memory .entry)) w ⌝ }
+{
+    if state.board == 0 {
+        word_at(program, state.pc)
+    } else {
+        word_at(memory, state.pc)
+    }
 }
 
 pub fn load_word(bytes: &[u8], address: Address) -> u16

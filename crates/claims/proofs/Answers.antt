@@ -5,7 +5,7 @@ use mathlib.Core.List.{List, [], _∷_}
 use Prim.Native.Nat.{ℕ}
 use lib.ListN.{getD}
 use Rattle.refusal.specs.declared.Refusal.{Refusal}
-use Rattle.refusal.specs.declared.Refusal.the-variants.{LentLength, ShortFile, LargePart, PartOutside, OddPc, StepCount, InstructionPart, LongFile, ShortDestination, TextLine, TextName, TextValue, FullSheet, ShortJournal}
+use Rattle.refusal.specs.declared.Refusal.the-variants.{LentLength, ShortFile, LargePart, PartOutside, OddPc, StepCount, InstructionPart, LongFile, ShortDestination, TextLine, TextName, TextValue, FullSheet, ShortJournal, SmallBoard}
 use Rattle.refusal.specs.Refusals.{refusalNumber, Verdict, accepted, refused}
 use Rattle.kinds.specs.declared.Kind.the-variants.{And}
 use Rattle.isa.specs.declared.Reading.{Reading}
@@ -20,7 +20,7 @@ use Rattle.image.specs.declared.Loading.{Loading}
 use Rattle.image.specs.declared.Loading.the-variants.{Accepted, Refused as LoadRefused}
 use Rattle.image.specs.Image.{shownLoading}
 use Rattle.save.specs.declared.Saving.{Saving}
-use Rattle.save.specs.declared.Saving.the-variants.{Saved, Refused as SaveRefused}
+use Rattle.save.specs.declared.Saving.the-variants.{Written, Refused as SaveRefused}
 use Rattle.assembler.specs.declared.Assembly.{Assembly}
 use Rattle.assembler.specs.declared.Assembly.the-variants.{Words, Refused as TextRefused}
 use Rattle.assembler.specs.Text.{Reply, words, text-refused}
@@ -46,7 +46,7 @@ undone f g h x y e = sym (h x) ∙ ap g e ∙ h y
 
 -- the refusal of a number
 abbrev refusal-at : ℕ → Refusal
-refusal-at n = getD (LentLength ∷ LentLength ∷ ShortFile ∷ LargePart ∷ PartOutside ∷ OddPc ∷ StepCount ∷ InstructionPart ∷ LongFile ∷ ShortDestination ∷ TextLine ∷ TextName ∷ TextValue ∷ FullSheet ∷ ShortJournal ∷ []) n LentLength
+refusal-at n = getD (LentLength ∷ LentLength ∷ ShortFile ∷ LargePart ∷ PartOutside ∷ OddPc ∷ StepCount ∷ InstructionPart ∷ LongFile ∷ ShortDestination ∷ TextLine ∷ TextName ∷ TextValue ∷ FullSheet ∷ ShortJournal ∷ SmallBoard ∷ []) n LentLength
 
 refusal-back : (x : Refusal) → refusal-at (refusalNumber x) ≡ x
 refusal-back LentLength = refl
@@ -63,6 +63,7 @@ refusal-back TextName = refl
 refusal-back TextValue = refl
 refusal-back FullSheet = refl
 refusal-back ShortJournal = refl
+refusal-back SmallBoard = refl
 
 reading-of : Read → Reading
 reading-of (instruction i) = ReadInstruction i
@@ -110,12 +111,12 @@ feeding-back Taken = refl
 feeding-back (FeedRefused r) = ap FeedRefused (refusal-back r)
 
 saving-of : SaveReply → Saving
-saving-of (saved n) = Saved n
+saving-of (saved n) = Written n
 saving-of (save-refused n) = SaveRefused (refusal-at n)
 
 saving-back : (x : Saving) → saving-of (shownSaving x) ≡ x
 unfolding saving-of
-saving-back (Saved n) = refl
+saving-back (Written n) = refl
 saving-back (SaveRefused r) = ap SaveRefused (refusal-back r)
 
 assembly-of : Reply → Assembly

@@ -22,6 +22,7 @@ use Rattle.isa.specs.Masks.{Masks, Decoding, masksOf}
 use Rattle.isa.proofs.Every.{listed}
 use Rattle.machine.specs.Run.{Stepper}
 use Rattle.panel.specs.Calls.{SetGiven, setLeft}
+use Rattle.machine.specs.declared.State.{State}
 use Rattle.image.specs.Image.{LoadGiven, loadLeft}
 use Rattle.save.specs.Saved.{SaveReply, saved, save-refused, SaveGiven, saveLeft}
 use Rattle.assembler.specs.Text.{Reply, words, text-refused, assembleLeft}
@@ -58,7 +59,7 @@ load : (g : LoadGiven) → LoadReplies g
 unfolding sisaLoadLeft
 load g =
     let l = loadLeft g in
-    let b = verdict-back (l .reply) (λ k e z. ⊎-elim (λ h. omega arith) (⊎-elim (λ h. omega arith) (⊎-elim (λ h. omega arith) (λ h. omega arith))) (refusals .load g .no-other k e)) in
+    let b = verdict-back (l .reply) (λ k e z. ⊎-elim (λ h. omega arith) (⊎-elim (λ h. omega arith) (⊎-elim (λ h. omega arith) (⊎-elim (λ h. omega arith) (λ h. omega arith)))) (refusals .load g .no-other k e)) in
     record {
       gives-back = ap (λ (x : Verdict). record { reply = x; state = l .state; P = l .P; D = l .D; I = l .I; O = l .O }) (b .0);
       refusal-0 = b .1;
@@ -73,18 +74,21 @@ setting g =
 
 -- ---- Saving
 
-save-back : (x : SaveReply) → Not0 save-refused x
-    → (savedOf (sisaSaved x) ≡ x) × ((sisaSaved x .refusal ≡ 0) ↔ ((n : ℕ) × (x ≡ saved n))) × ((sisaSaved x .refusal ≡ 0 → ⊥) → sisaSaved x .length ≡ 0)
-save-back (saved n) h = (refl, (λ e. (n, refl), λ e. refl), λ n. absurd (n refl))
-save-back (save-refused k) h = (rw (ne-eqb k 0 (h k refl)), (λ e. absurd (h k refl e), λ e. let z = e .1 in clash (cc)), λ n. refl)
+save-back : (x : SaveReply) (s : State) → Not0 save-refused x
+    → (savedOf (sisaSaved x s) ≡ x)
+    × ((sisaSaved x s .refusal ≡ 0) ↔ ((n : ℕ) × (x ≡ saved n)))
+    × ((sisaSaved x s .refusal ≡ 0 → ⊥) → sisaSaved x s .length ≡ 0)
+    × (sisaSaved x s .state ≡ s)
+save-back (saved n) s h = (refl, (λ e. (n, refl), λ e. refl), λ n. absurd (n refl), refl)
+save-back (save-refused k) s h = (rw (ne-eqb k 0 (h k refl)), (λ e. absurd (h k refl e), λ e. let z = e .1 in clash (cc)), λ n. refl, refl)
 
 save : (g : SaveGiven) → SaveReplies g
 unfolding sisaSaveLeft
 save g =
     let l = saveLeft g in
-    let b = save-back (l .reply) (λ k e z. ⊎-elim (λ h. omega arith) (λ h. omega arith) (saving .refusals g .no-other k e)) in
+    let b = save-back (l .reply) (l .state) (λ k e z. ⊎-elim (λ h. omega arith) (λ h. omega arith) (saving .refusals g .no-other k e)) in
     record {
-      gives-back = ap (λ (x : SaveReply). record { reply = x; P = l .P; D = l .D; destination = l .destination }) (b .0);
+      gives-back = λ i. record { reply = b .0 i; state = b .3 i; P = l .P; D = l .D; destination = l .destination };
       refusal-0 = b .1;
       others-0 = b .2;
     }

@@ -1,4 +1,6 @@
+pub mod Alike
 pub mod Answers
+pub mod Boards
 pub mod CReplies
 pub mod Chains
 pub mod Contracts
@@ -9,6 +11,7 @@ pub mod Feeding
 pub mod HostSteps
 pub mod Journaled
 pub mod Lengths
+pub mod OtherProgram
 pub mod Refusals
 pub mod Runs
 pub mod Saved

@@ -1,6 +1,6 @@
 -- The calls' replies are chains of tests; each condition is where its test fails.
 -- Assumes nothing.
-use mathlib.Core.Path.{_≡_, refl, ap}
+use mathlib.Core.Path.{_≡_, refl, sym, ap}
 use mathlib.Core.Bool.{Bool, true, false, and-assoc}
 use mathlib.Core.Logic.{_⊎_, inl, inr, ⊎-elim, _↔_}
 use mathlib.Core.List.{List}
@@ -11,11 +11,13 @@ use lib.Dec.{leb}
 use lib.ListN.{length, set}
 use Rattle.refusal.specs.Refusals.{Verdict, accepted, refused}
 use Rattle.word.specs.Word.{pick}
-use Rattle.word.proofs.Tests.{clash}
+use Rattle.word.proofs.Tests.{clash, never}
+use Rattle.machine.specs.declared.Board.{Board}
+use Rattle.machine.specs.declared.Board.the-variants.{TwoMemories, SingleMemory}
 use Rattle.machine.specs.Run.{Stepper}
 use Rattle.machine.specs.Lengths.{lengthsFit}
 use Rattle.panel.specs.Calls.{SetGiven, SetLeft, setLeft}
-use Rattle.image.specs.Image.{W, programOffset, C, dataOffset, LoadGiven, fileReply, loadReply, loadLeftBy, loadLeft}
+use Rattle.image.specs.Image.{W, programOffset, C, dataOffset, boardHolds, LoadGiven, fileReply, loadReply, loadLeftBy, loadLeft}
 use Rattle.usage.specs.Usage.{unused}
 use Rattle.run.specs.Runs.{Given, stopped, run-refused, verdict, verdictOn, runLeftBy, runLeft, countedBy, countedLeft}
 use Rattle.run.proofs.Uncounted.{uncounted}
@@ -31,6 +33,9 @@ flat3 e = (λ x. let h = e .0 x in (h .0, h .1 .0, h .1 .1), λ h. e .1 (h .0, (
 
 flat4 : {X A B C D : Type 0} → X ↔ (A × (B × (C × D))) → X ↔ (A × B × C × D)
 flat4 e = (λ x. let h = e .0 x in (h .0, h .1 .0, h .1 .1 .0, h .1 .1 .1), λ h. e .1 (h .0, (h .1, (h .2, h .3))))
+
+flat5 : {X A B C D E : Type 0} → X ↔ (A × (B × (C × (D × E)))) → X ↔ (A × B × C × D × E)
+flat5 e = (λ x. let h = e .0 x in (h .0, h .1 .0, h .1 .1 .0, h .1 .1 .1 .0, h .1 .1 .1 .1), λ h. e .1 (h .0, (h .1, (h .2, (h .3, h .4)))))
 
 lengths : (P D I O : List ℕ) → Fails (lengthsFit P D I O) (Lengths P D I O)
 lengths P D I O =
@@ -54,15 +59,20 @@ module _ (g : LoadGiven) where
         not-both = λ k e. clash (cc);
       }
 
+  holds : (board : Board) (file : List ℕ) → Fails (boardHolds board file) ((board ≡ SingleMemory) × (65536 < 2 * W file + C file))
+  holds TwoMemories file = (λ e. never (sym e), λ h. let z = h .0 in clash (cc))
+  holds SingleMemory file = let f = fails-le (2 * W file + C file) 65536 in (λ e. (refl, f .0 e), λ h. f .1 (h .1))
+
   load-tests : Tests
   load-tests =
       let file = g .file in
       at 1 (lengths (g .P) (g .D) (g .I) (g .O))
       then at 2 (fails-le 16 (length file))
       then at 3 (fails-and (fails-le (W file) 32768) (fails-le (C file) 65536))
-      then last (at 4 (fails-and
+      then at 4 (fails-and
       (fails-and (fails-le 16 (programOffset file)) (fails-le (programOffset file + 2 * W file) (length file)))
-      (fails-and (fails-le 16 (dataOffset file)) (fails-le (dataOffset file + C file) (length file)))))
+      (fails-and (fails-le 16 (dataOffset file)) (fails-le (dataOffset file + C file) (length file))))
+      then last (at 15 (holds (g .board) file))
 
   load : LoadRefusals g
   unfolding loadLeft loadReply fileReply load-replies load-tests
@@ -72,7 +82,8 @@ module _ (g : LoadGiven) where
         number-2 = number load-replies load-tests 0 2 refl;
         number-3 = flat3 (number load-replies load-tests 0 3 refl);
         number-4 = flat4 (number load-replies load-tests 0 4 refl);
-        accepts = flat4 (none load-replies load-tests);
+        number-15 = flat5 (number load-replies load-tests 0 15 refl);
+        accepts = flat5 (none load-replies load-tests);
         no-other = λ k e. one-of load-replies load-tests k e .0;
         nothing-changes = λ k e. ap (λ v. loadLeftBy v g) (one-of load-replies load-tests k e .1);
       }

@@ -76,7 +76,7 @@ module _ (v : Stepper) (known : Known v) (g : Given) where
         none-before = before;
         stops = said (omega arith) (e .stops);
         counted = omega (arith, known .lawful .counts m next s, e .counted);
-        journaled = e .journaled ∙ known .lawful .journaled m next s;
+        journaled = e .journaled ∙ ap (λ z. z .0) (known .lawful .leaves m next s);
         few = omega (arith, e .few);
         entries = entered;
       }

@@ -1,4 +1,4 @@
--- By the laws of image/proofs/Saved.antt.
+-- By the laws of save/proofs/Files.antt.
 -- Assumes nothing.
 use mathlib.Core.Path.{_≡_, refl, sym, ap, subst, _∙_}
 use mathlib.Core.Logic.{_↔_, inl, inr, ⊎-elim}
@@ -8,9 +8,10 @@ use native.Mathlib.Omega.{arith}
 use lib.ListN.{length, take, drop}
 use lib.Seq.{take-append-seam}
 use Rattle.word.proofs.Tests.{clash}
+use Rattle.machine.specs.declared.State.{State}
 use Rattle.save.specs.Saved.{savedFile, SaveReply, saved, save-refused, SaveGiven, SaveLeft, saveReply, saveLeftBy, saveLeft}
-use Rattle.save.proofs.Saved.{RightLengths, file-length, file-at-most, loads-back, last-word, least-words, last-byte, least-bytes, number-1, number-9, saves, no-other, nothing-changes}
-use Rattle.claims.specs.Saved.{LoadsAs, MemoryLengths, ShortDestination, SaveRefusals, Saved}
+use Rattle.save.proofs.Files.{RightLengths, file-length, file-at-most, loads-back, loads-back-single, last-word, least-words, last-byte, least-bytes, number-1, number-9, saves, no-other, nothing-changes}
+use Rattle.claims.specs.Saved.{LoadsBack, MemoryLengths, ShortDestination, SaveRefusals, Saved}
 use Rattle.claims_words.proofs.Decides.{decides-eq, decides-le, decides-stable}
 
 -- ---- The refusals
@@ -40,33 +41,47 @@ module _ (g : SaveGiven) where
       longer : {a b : ℕ} → (a ≤ b → ⊥) → b < a
       longer m = omega arith
 
-      at-least : (ShortDestination g → ⊥) → length (savedFile (g .P) (g .D)) ≤ length (g .destination)
+      at-least : (ShortDestination g → ⊥) → length (savedFile (g .state) (g .P) (g .D)) ≤ length (g .destination)
       at-least n = decides-stable (decides-le _ _) (λ m. n (longer m))
 
 -- ---- What a save left
 
-then-loaded : (g : SaveGiven) (l : SaveLeft) (n : ℕ) → l ≡ saveLeft g → l .reply ≡ saved n → LoadsAs (take n (l .destination)) (g .P) (g .D)
+back : (s : State) (P D : List ℕ) → length P ≡ 65536 → length D ≡ 65536 → LoadsBack s (savedFile s P D) P D
+back s P D p d =
+    (λ e P′ D′ I′ O′ p′ d′ i′ o′. loads-back s P D p d P′ D′ I′ O′ p′ d′ i′ o′ e, λ e P′ D′ I′ O′ p′ d′ i′ o′. loads-back-single s P D p d P′ D′ I′ O′ p′ d′ i′ o′ e)
+
+state-back : (g : SaveGiven) → saveLeft g .state ≡ g .state
+unfolding saveLeft
+state-back g = go (saveReply g)
+  where
+    go : (x : SaveReply) → saveLeftBy x g .state ≡ g .state
+    go (saved n) = refl
+    go (save-refused k) = refl
+
+then-loaded : (g : SaveGiven) (l : SaveLeft) (n : ℕ) → l ≡ saveLeft g → l .reply ≡ saved n → LoadsBack (g .state) (take n (l .destination)) (g .P) (g .D)
 unfolding saveLeft
 then-loaded g l n e r =
     let s = saves g n .0 (ap (λ (x : SaveLeft). x .reply) (sym e) ∙ r) in
-    let file : take n (l .destination) ≡ savedFile (g .P) (g .D) =
+    let file : take n (l .destination) ≡ savedFile (g .state) (g .P) (g .D) =
     ap (λ (x : SaveLeft). take n (x .destination)) e ∙ by-reply (saveReply g) (ap (λ (x : SaveLeft). x .reply) (sym e) ∙ r) (s .0) in
-    subst (λ f. LoadsAs f (g .P) (g .D)) (sym file) (loads-back (g .P) (g .D) (s .1 .0) (s .1 .1))
+    subst (λ f. LoadsBack (g .state) f (g .P) (g .D)) (sym file) (back (g .state) (g .P) (g .D) (s .1 .0) (s .1 .1))
   where
-    by-reply : (x : SaveReply) → saveLeftBy x g .reply ≡ saved n → n ≡ length (savedFile (g .P) (g .D)) → take n (saveLeftBy x g .destination) ≡ savedFile (g .P) (g .D)
-    by-reply (saved k) q z = let same : k ≡ n = cc in rw (same, z) (take-append-seam (savedFile (g .P) (g .D)) (drop (length (savedFile (g .P) (g .D))) (g .destination)))
+    by-reply : (x : SaveReply) → saveLeftBy x g .reply ≡ saved n → n ≡ length (savedFile (g .state) (g .P) (g .D)) → take n (saveLeftBy x g .destination) ≡ savedFile (g .state) (g .P) (g .D)
+    by-reply (saved k) q z = let same : k ≡ n = cc in rw (same, z) (take-append-seam (savedFile (g .state) (g .P) (g .D)) (drop (length (savedFile (g .state) (g .P) (g .D))) (g .destination)))
     by-reply (save-refused k) q z = clash (cc)
 
 pub saving : Saved
 saving =
     record {
-      loads-back = loads-back;
+      loads-back = back;
       saved-then-loaded = then-loaded;
+      state-back = state-back;
       least-words = least-words;
       least-bytes = least-bytes;
       last-word = last-word;
       last-byte = last-byte;
-      file-length = file-length;
+      file-length = λ s P D e. rw e at (file-length s P D);
+      file-length-single = λ s P D e. rw e at (file-length s P D);
       file-at-most = file-at-most;
       refusals = refusals;
     }

@@ -1,13 +1,18 @@
 -- By call: the host and the machine stay together (Together), the contracts decide the replies (Decided), the lengths stay (Lengths).
 -- Assumes nothing.
 use mathlib.Core.Path.{_≡_, refl, sym, ap, subst, _∙_}
+use mathlib.Core.Bool.{true}
 use mathlib.Core.List.{List, []}
 use Prim.Native.Nat.{ℕ, _+_, _-_, _*_, _≤_}
 use native.Mathlib.Omega.{arith}
+use borrow.Author.Tests.{leb-true}
 use lib.ListN.{length, replicate, length-append, length-take, length-drop, length-replicate}
 use Rattle.refusal.specs.Refusals.{Verdict, accepted, refused}
 use Rattle.word.proofs.Tests.{clash}
-use Rattle.image.specs.Image.{W, C, programOffset, dataOffset, memoryOf, loaded, LoadGiven, LoadLeft, fileReply, loadReply, loadLeftBy, loadLeft}
+use Rattle.machine.specs.declared.Board.{Board}
+use Rattle.machine.specs.declared.Board.the-variants.{TwoMemories, SingleMemory}
+use Rattle.image.specs.Image.{W, C, programOffset, dataOffset, memoryOf, loadedP, loadedD, boardHolds, loaded, LoadGiven, LoadLeft, fileReply, loadReply, loadLeftBy, loadLeft}
+use Rattle.image.specs.Parts.{Placeable}
 use Rattle.image.proofs.Fits.{fits}
 use Rattle.report.specs.Example.{exampleFile}
 use Rattle.claims.specs.Session.{Calls, hostOf, machineOn, machineCalls, machineReplies, Session}
@@ -20,31 +25,43 @@ use Rattle.claims.proofs.Lengths.{Fit, calls-fit}
 pub memory-length : (file : List ℕ) (offset count : ℕ) → count ≤ 65536 → offset + count ≤ length file → length (memoryOf file offset count) ≡ 65536
 memory-length file offset count small inside = simp (length-append, length-take, length-drop, length-replicate) (omega arith)
 
-pub loaded-fits : (g : LoadGiven) → loadReply g ≡ accepted → Fit (loaded (g .file))
+-- the memories that a load for a board leaves have their lengths
+pub loaded-lengths : (file : List ℕ) (board : Board) → Placeable file → boardHolds board file ≡ true
+    → (length (loadedP board file) ≡ 65536) × (length (loadedD board file) ≡ 65536)
+loaded-lengths file TwoMemories f h = (
+  memory-length file (programOffset file) (2 * W file) (f .program .inside-memory) (f .program .inside-file),
+  memory-length file (dataOffset file) (C file) (f .bytes .inside-memory) (f .bytes .inside-file),
+)
+loaded-lengths file SingleMemory f h =
+    let both : 2 * W file + C file ≤ 65536 = leb-true _ _ h in (
+      length-replicate {A = ℕ} 65536 0,
+      simp (length-append, length-take, length-drop, length-replicate) (omega (arith, both, f .program .inside-file, f .bytes .inside-file)),
+    )
+
+pub loaded-fits : (g : LoadGiven) → loadReply g ≡ accepted → Fit (loaded (g .file) (g .board))
 unfolding loaded
 loaded-fits g e =
-    let f = g .file in
     let fit = fits g (sym e) in
-    let p = memory-length f (programOffset f) (2 * W f) (fit .file .program .inside-memory) (fit .file .program .inside-file) in
-    let d = memory-length f (dataOffset f) (C f) (fit .file .bytes .inside-memory) (fit .file .bytes .inside-file) in
-    (λ i. (p i, d i, 256, 256), refl)
+    let l = loaded-lengths (g .file) (g .board) (fit .file) (fit .holds) in
+    (λ i. (l .0 i, l .1 i, 256, 256), refl)
 
--- it left the machine that 01 loads from the file
-pub accepted-load : (g : LoadGiven) (l : LoadLeft) → l ≡ loadLeft g → l .reply ≡ accepted → (loadReply g ≡ accepted) × (machineOn (hostOf l) [] ≡ loaded (g .file))
+-- it left the machine that 01 loads from the file, of that board
+pub accepted-load : (g : LoadGiven) (l : LoadLeft) → l ≡ loadLeft g → l .reply ≡ accepted → (loadReply g ≡ accepted) × (machineOn (hostOf l) [] ≡ loaded (g .file) (g .board))
 unfolding loadLeft loaded
 accepted-load g l e ok = go (loadReply g) e
   where
-    go : (r : Verdict) → l ≡ loadLeftBy r g → (r ≡ accepted) × (machineOn (hostOf l) [] ≡ loaded (g .file))
+    go : (r : Verdict) → l ≡ loadLeftBy r g → (r ≡ accepted) × (machineOn (hostOf l) [] ≡ loaded (g .file) (g .board))
     go accepted e = (refl, ap (λ x. machineOn (hostOf x) []) e)
     go (refused k) e = let z : refused k ≡ accepted = sym (ap (λ x. x .reply) e) ∙ ok in clash (cc)
 
 -- ---- The example
 
 example-accepted :
-    (P D I O : List ℕ) → length P ≡ 65536 → length D ≡ 65536 → length I ≡ 256 → length O ≡ 256
-    → loadLeft (record { file = exampleFile; P = P; D = D; I = I; O = O }) .reply ≡ accepted
+    (board : Board) (P D I O : List ℕ) → length P ≡ 65536 → length D ≡ 65536 → length I ≡ 256 → length O ≡ 256
+    → loadLeft (record { file = exampleFile; board = board; P = P; D = D; I = I; O = O }) .reply ≡ accepted
 unfolding loadLeft loadReply fileReply
-example-accepted P D I O p d i o = rw (p, d, i, o)
+example-accepted TwoMemories P D I O p d i o = rw (p, d, i, o)
+example-accepted SingleMemory P D I O p d i o = rw (p, d, i, o)
 
 zeros : (n : ℕ) → _≡_ {A = ℕ} (length (replicate {A = ℕ} n 0)) n
 zeros n = length-replicate n 0
@@ -65,7 +82,7 @@ session =
             same-host = s .1;
           };
       replies-exist = calls-exist;
-      load-exists = example-accepted (replicate 65536 0) (replicate 65536 0) (replicate 256 0) (replicate 256 0)
+      load-exists = λ board. example-accepted board (replicate 65536 0) (replicate 65536 0) (replicate 256 0) (replicate 256 0)
           (zeros 65536) (zeros 65536) (zeros 256) (zeros 256);
       only-6 = λ g l e ok cs rs h ds. let r = accepted-load g l e ok in calls-fit ds (subst Fit (sym (r .1)) (loaded-fits g (r .0)));
     }

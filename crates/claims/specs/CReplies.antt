@@ -59,7 +59,7 @@ abbrev pub savedOf : SisaSaved → SaveReply
 savedOf r = pick (eqb (r .refusal) 0) (saved (r .length)) (save-refused (r .refusal))
 
 abbrev pub saveOf : SisaSaveLeft → SaveLeft
-saveOf l = record { reply = savedOf (l .reply); P = l .P; D = l .D; destination = l .destination }
+saveOf l = record { reply = savedOf (l .reply); state = l .reply .state; P = l .P; D = l .D; destination = l .destination }
 
 pub record SaveReplies (g : SaveGiven) : Type 0 where
   pub gives-back : saveOf (sisaSaveLeft g) ≡ saveLeft g

@@ -109,7 +109,7 @@ pub record Contracts : Type 1 where
   -- write(i)
   pub write-asks : (κs : Lfts 0) (a : _) → write.Asked κs a
   pub write : (κs : Lfts 0) (a : _) (r : _) (s : _) → write.Learnt κs a r s ↔ (shownWriting r ≡ writeOf (a .0))
-  -- load(file, program, memory, inputs, outputs)
+  -- load(file, board, program, memory, inputs, outputs)
   pub load-asks : (κs : Lfts 5) (a : _) → load.Asked κs a
   pub load :
       (κs : Lfts 5) (a : _) (r : _) (s : _)
@@ -118,27 +118,34 @@ pub record Contracts : Type 1 where
       (record {
         reply = shownLoading (r .reply);
         state = r .state;
-        P = now (s .1 .0);
-        D = now (s .1 .1 .0);
-        I = now (s .1 .1 .1 .0);
-        O = now (s .1 .1 .1 .1 .0);
+        P = now (s .1 .1 .0);
+        D = now (s .1 .1 .1 .0);
+        I = now (s .1 .1 .1 .1 .0);
+        O = now (s .1 .1 .1 .1 .1 .0);
       })
       (loadLeft
       (record {
         file = now (a .0);
-        P = now (a .1 .0);
-        D = now (a .1 .1 .0);
-        I = now (a .1 .1 .1 .0);
-        O = now (a .1 .1 .1 .1 .0);
+        board = a .1 .0;
+        P = now (a .1 .1 .0);
+        D = now (a .1 .1 .1 .0);
+        I = now (a .1 .1 .1 .1 .0);
+        O = now (a .1 .1 .1 .1 .1 .0);
       })))
-  -- save(program, memory, destination)
+  -- save(state, program, memory, destination)
   pub save-asks : (κs : Lfts 3) (a : _) → save.Asked κs a
   pub save :
       (κs : Lfts 3) (a : _) (r : _) (s : _)
       → save.Learnt κs a r s
       ↔ (_≡_ {A = SaveLeft}
-      (record { reply = shownSaving r; P = now (s .0); D = now (s .1 .0); destination = now (s .1 .1 .0) })
-      (saveLeft (record { P = now (a .0); D = now (a .1 .0); destination = now (a .1 .1 .0) })))
+      (record {
+        reply = shownSaving (r .reply);
+        state = r .state;
+        P = now (s .1 .0);
+        D = now (s .1 .1 .0);
+        destination = now (s .1 .1 .1 .0);
+      })
+      (saveLeft (record { state = a .0; P = now (a .1 .0); D = now (a .1 .1 .0); destination = now (a .1 .1 .1 .0) })))
   -- assemble(text, program)
   pub assemble-asks : (κs : Lfts 2) (a : _) → assemble.Asked κs a
   pub assemble :

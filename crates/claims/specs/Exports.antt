@@ -6,6 +6,7 @@ use mathlib.Core.Bool.{not}
 use mathlib.Core.Logic.{_↔_}
 use mathlib.Core.Path.{_≡_}
 use lib.Dec.{eqb}
+use Rattle.machine.specs.Machine.{boardOf}
 use Rattle.machine.specs.Run.{Stepper, byRules}
 use Rattle.panel.specs.Calls.{windowOf}
 use Rattle.isa.specs.Masks.{decodingOf}
@@ -36,7 +37,7 @@ RunSays journal v a r s =
     (journal (s .1 .1 .1 .1 .1 .1 .1)))
 
 pub record Exports : Type 1 where
-  -- sisa_load(file, program, memory, inputs, outputs)
+  -- sisa_load(file, board, program, memory, inputs, outputs)
   pub load-asks : (κs : Lfts 5) (a : _) → load.Asked κs a
   pub load :
       (κs : Lfts 5) (a : _) (r : _) (s : _)
@@ -44,27 +45,28 @@ pub record Exports : Type 1 where
       ↔ (_≡_ {A = SisaLoadLeft}
       (record {
         reply = r;
-        P = now (s .1 .0);
-        D = now (s .1 .1 .0);
-        I = now (s .1 .1 .1 .0);
-        O = now (s .1 .1 .1 .1 .0);
+        P = now (s .1 .1 .0);
+        D = now (s .1 .1 .1 .0);
+        I = now (s .1 .1 .1 .1 .0);
+        O = now (s .1 .1 .1 .1 .1 .0);
       })
       (sisaLoadLeft
       (record {
         file = now (a .0);
-        P = now (a .1 .0);
-        D = now (a .1 .1 .0);
-        I = now (a .1 .1 .1 .0);
-        O = now (a .1 .1 .1 .1 .0);
+        board = boardOf (a .1 .0);
+        P = now (a .1 .1 .0);
+        D = now (a .1 .1 .1 .0);
+        I = now (a .1 .1 .1 .1 .0);
+        O = now (a .1 .1 .1 .1 .1 .0);
       })))
-  -- sisa_save(program, memory, destination)
+  -- sisa_save(state, program, memory, destination)
   pub save-asks : (κs : Lfts 3) (a : _) → save.Asked κs a
   pub save :
       (κs : Lfts 3) (a : _) (r : _) (s : _)
       → save.Learnt κs a r s
       ↔ (_≡_ {A = SisaSaveLeft}
-      (record { reply = r; P = now (s .0); D = now (s .1 .0); destination = now (s .1 .1 .0) })
-      (sisaSaveLeft (record { P = now (a .0); D = now (a .1 .0); destination = now (a .1 .1 .0) })))
+      (record { reply = r; P = now (s .1 .0); D = now (s .1 .1 .0); destination = now (s .1 .1 .1 .0) })
+      (sisaSaveLeft (record { state = a .0; P = now (a .1 .0); D = now (a .1 .1 .0); destination = now (a .1 .1 .1 .0) })))
   -- sisa_assemble(text, program)
   pub assemble-asks : (κs : Lfts 2) (a : _) → assemble.Asked κs a
   pub assemble :

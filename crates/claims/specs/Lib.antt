@@ -1,4 +1,5 @@
 pub mod Answers
+pub mod Boards
 pub mod CReplies
 pub mod Contracts
 pub mod Exports

@@ -7,6 +7,7 @@ use Prim.Native.Nat.{ℕ, _+_, _*_, _%_, _<_}
 use lib.ListN.{length}
 use Rattle.refusal.specs.Refusals.{accepted, refused}
 use Rattle.machine.specs.declared.State.{State}
+use Rattle.machine.specs.declared.Board.the-variants.{SingleMemory}
 use Rattle.machine.specs.Machine.{reset}
 use Rattle.machine.specs.Run.{Stepper}
 use Rattle.panel.specs.Calls.{SetGiven, SetLeft, setLeft}
@@ -36,6 +37,10 @@ PartOutside file =
     ((programOffset file < 16) ⊎ (length file < programOffset file + 2 * W file))
     ⊎ ((dataOffset file < 16) ⊎ (length file < dataOffset file + C file))
 
+-- 15 (02, L11): single-memory board and 2W plus C over 65,536
+abbrev pub SmallBoard : LoadGiven → Type 0
+SmallBoard g = (g .board ≡ SingleMemory) × (65536 < 2 * W (g .file) + C (g .file))
+
 -- 5: PC odd
 abbrev pub OddPC : State → Type 0
 OddPC s = s .pc % 2 ≡ 0 → ⊥
@@ -50,7 +55,7 @@ abbrev pub ShortJournal : BackGiven → Type 0
 ShortJournal g =
     ((length (g .journal) < g .state .journaled) × (0 < g .k)) ⊎ (g .state .journaled < g .k) ⊎ (g .state .n < g .k)
 
--- ---- Load: 1 to 4
+-- ---- Load: 1 to 4, 15
 
 pub record LoadRefusals (g : LoadGiven) : Type 0 where
   pub number-1 : (loadLeft g .reply ≡ refused 1) ↔ Lengths (g .P) (g .D) (g .I) (g .O)
@@ -61,11 +66,22 @@ pub record LoadRefusals (g : LoadGiven) : Type 0 where
   pub number-4 :
       (loadLeft g .reply ≡ refused 4)
       ↔ ((Lengths (g .P) (g .D) (g .I) (g .O) → ⊥) × (ShortFile (g .file) → ⊥) × (LargePart (g .file) → ⊥) × PartOutside (g .file))
+  pub number-15 :
+      (loadLeft g .reply ≡ refused 15)
+      ↔ ((Lengths (g .P) (g .D) (g .I) (g .O) → ⊥)
+      × (ShortFile (g .file) → ⊥)
+      × (LargePart (g .file) → ⊥)
+      × (PartOutside (g .file) → ⊥)
+      × SmallBoard g)
   pub accepts :
       (loadLeft g .reply ≡ accepted)
-      ↔ ((Lengths (g .P) (g .D) (g .I) (g .O) → ⊥) × (ShortFile (g .file) → ⊥) × (LargePart (g .file) → ⊥) × (PartOutside (g .file) → ⊥))
+      ↔ ((Lengths (g .P) (g .D) (g .I) (g .O) → ⊥)
+      × (ShortFile (g .file) → ⊥)
+      × (LargePart (g .file) → ⊥)
+      × (PartOutside (g .file) → ⊥)
+      × (SmallBoard g → ⊥))
   -- no other number
-  pub no-other : (k : ℕ) → loadLeft g .reply ≡ refused k → (k ≡ 1) ⊎ (k ≡ 2) ⊎ (k ≡ 3) ⊎ (k ≡ 4)
+  pub no-other : (k : ℕ) → loadLeft g .reply ≡ refused k → (k ≡ 1) ⊎ (k ≡ 2) ⊎ (k ≡ 3) ⊎ (k ≡ 4) ⊎ (k ≡ 15)
   -- Nothing lent changes; the state beside the number is the reset one.
   pub nothing-changes :
       (k : ℕ) → loadLeft g .reply ≡ refused k

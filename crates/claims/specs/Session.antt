@@ -8,6 +8,7 @@ use lib.ListN.{length, take, drop, replicate}
 use Rattle.refusal.specs.Refusals.{Verdict, accepted, refused}
 use Rattle.word.specs.Word.{pick}
 use Rattle.machine.specs.declared.State.{State}
+use Rattle.machine.specs.declared.Board.{Board}
 use Rattle.machine.specs.Machine.{Machine, putI, onState}
 use Rattle.machine.specs.Run.{Stepper, byRules, Outcome, run, trace}
 use Rattle.usage.specs.declared.Usage.{Usage}
@@ -161,11 +162,11 @@ machineReplies m (c ∷ cs) = machineSays m c ∷ machineReplies (machineCall m 
 abbrev pub machineOn : Host → List ℕ → Machine
 machineOn h L = record { state = h .state; P = h .P; D = h .D; I = h .I; O = h .O; L = L }
 
-pub record Mirrors (file : List ℕ) (cs : List Call) (rs₁ rs₂ : List Reply) (h₁ h₂ : Host) : Type 0 where
-  -- state (with n), P, D, I, O, and L are the machine's, started as 01 loads that file and given the same calls
-  pub machine : machineOn h₁ (joined rs₁) ≡ machineCalls (loaded file) cs
+pub record Mirrors (file : List ℕ) (board : Board) (cs : List Call) (rs₁ rs₂ : List Reply) (h₁ h₂ : Host) : Type 0 where
+  -- state (with n), P, D, I, O, and L are the machine's, started as 01 loads that file, of the board loaded (02, L11), and given the same calls
+  pub machine : machineOn h₁ (joined rs₁) ≡ machineCalls (loaded file board) cs
   -- every reply, with its log and journal as returned, is what that machine says of the call
-  pub replies : rs₁ ≡ machineReplies (loaded file) cs
+  pub replies : rs₁ ≡ machineReplies (loaded file board) cs
   -- the other list, alike in all but the engines, got the same replies, logs and journals and left the same states, memories and ports
   pub same-replies : rs₁ ≡ rs₂
   pub same-host : h₁ ≡ h₂
@@ -186,12 +187,13 @@ pub record Session : Type 0 where
       (g : LoadGiven) (l₁ l₂ : LoadLeft) → l₁ ≡ loadLeft g → l₁ .reply ≡ accepted → l₂ ≡ loadLeft g → l₂ .reply ≡ accepted
       → (cs₁ cs₂ : List Call) → Alike cs₁ cs₂
       → (rs₁ rs₂ : List Reply) (h₁ h₂ : Host) → Calls (hostOf l₁) cs₁ rs₁ h₁ → Calls (hostOf l₂) cs₂ rs₂ h₂
-      → Mirrors (g .file) cs₁ rs₁ rs₂ h₁ h₂
+      → Mirrors (g .file) (g .board) cs₁ rs₁ rs₂ h₁ h₂
   -- such replies exist for every list,
   pub replies-exist : (h : Host) (cs : List Call) → (rs : List Reply) × (after : Host) × Calls h cs rs after
-  -- and an accepted load exists: 01's file
+  -- and an accepted load exists for either board: 01's file
   pub load-exists :
-      loadLeft (record { file = exampleFile; P = replicate 65536 0; D = replicate 65536 0; I = replicate 256 0; O = replicate 256 0 }) .reply ≡ accepted
+      (board : Board)
+      → loadLeft (record { file = exampleFile; board = board; P = replicate 65536 0; D = replicate 65536 0; I = replicate 256 0; O = replicate 256 0 }) .reply ≡ accepted
   -- after an accepted load only refusal 6 can occur in a list
   pub only-6 :
       (g : LoadGiven) (l : LoadLeft) → l ≡ loadLeft g → l .reply ≡ accepted

@@ -8,7 +8,8 @@ use lib.ListN.{length, getD, set, take, drop, replicate, length-drop, getD-repli
 use lib.Seq.{getD-take}
 use Rattle.refusal.specs.Refusals.{Verdict, accepted, refused}
 use Rattle.word.proofs.Tests.{clash}
-use Rattle.machine.specs.Machine.{Machine, reset, putJournaled}
+use Rattle.machine.specs.declared.Board.{Board}
+use Rattle.machine.specs.Machine.{Machine, reset, resetOn, putJournaled}
 use Rattle.machine.specs.Step.{PC, fetched, to, choice, stepBy, step}
 use Rattle.journal.specs.Journal.{keysBack, entryOf}
 use Rattle.journal.specs.Ranges.{Numbers, InRange}
@@ -107,10 +108,10 @@ module _ (h : Host) (xs : List ℕ) (ms : List Machine) (p : Past h xs ms) where
 
 -- ---- A load
 
-load-begins : (h : Host) (file : List ℕ) → machineOn h [] ≡ loaded file → InRange (loaded file) → (xs : List ℕ) → Past h xs []
+load-begins : (h : Host) (file : List ℕ) (board : Board) → machineOn h [] ≡ loaded file board → InRange (loaded file board) → (xs : List ℕ) → Past h xs []
 unfolding loaded
-load-begins h file e r xs =
-    let s : h .state ≡ reset = ap (λ x. x .state) e in
+load-begins h file board e r xs =
+    let s : h .state ≡ resetOn board = ap (λ x. x .state) e in
     let n : h .state .n ≡ 0 = ap (λ x. x .n) s in
     record {
       counted = ap (λ x. x .journaled) s;
@@ -165,7 +166,7 @@ histories =
       in-range = λ h xs ms p. known (p .history) .sound .in-range;
       after-load = λ g l e ok bytes xs.
           let (accepts, m) = accepted-load g l e ok in
-          load-begins (hostOf l) (g .file) m (loaded-in-range g accepts bytes) xs;
+          load-begins (hostOf l) (g .file) (g .board) m (loaded-in-range g accepts bytes) xs;
       after-run-without = run-begins;
       after-run = run-carries;
       after-refused-run = λ h xs ms p e lent l meets k r. subst (λ h. Past h xs ms) (left-alone h lent l (both e _ l meets) k r) p;

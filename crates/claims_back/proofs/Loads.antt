@@ -7,10 +7,12 @@ use native.Mathlib.Omega.{arith}
 use lib.ListN.{length, getD, take, drop, replicate, length-replicate}
 use lib.Seq.{getD-drop}
 use Rattle.refusal.specs.Refusals.{accepted}
+use Rattle.machine.specs.declared.Board.{Board}
+use Rattle.machine.specs.declared.Board.the-variants.{TwoMemories, SingleMemory}
 use Rattle.journal.specs.Ranges.{Numbers, InRange}
-use Rattle.image.specs.Image.{W, C, programOffset, dataOffset, memoryOf, loaded, LoadGiven, loadReply}
+use Rattle.image.specs.Image.{W, C, programOffset, dataOffset, partOf, memoryOf, singleMemoryOf, loadedP, loadedD, loaded, LoadGiven, loadReply}
 use Rattle.image.proofs.Fits.{fits}
-use Rattle.claims.proofs.Session.{memory-length}
+use Rattle.claims.proofs.Session.{loaded-lengths}
 
 module _ (bound : ℕ) (some : 0 < bound) where
   abbrev Below : List ℕ → Type 0
@@ -35,30 +37,35 @@ module _ (bound : ℕ) (some : 0 < bound) where
   pub zeros : (n : ℕ) → Numbers n bound (replicate n 0)
   zeros n = record { many = length-replicate n 0; below = below-zeros n }
 
-  memory-below : (file : List ℕ) (offset count : ℕ) → Below file → Below (memoryOf file offset count)
-  memory-below file offset count p =
-      below-append (take count (drop offset file)) (replicate (65536 - count) 0)
-      (below-take count (drop offset file) (λ k. rw (getD-drop offset file k 0) (p (offset + k)))) (below-zeros (65536 - count))
+  part-below : (file : List ℕ) (offset count : ℕ) → Below file → Below (partOf file offset count)
+  part-below file offset count p = below-take count (drop offset file) (λ k. rw (getD-drop offset file k 0) (p (offset + k)))
 
-pub loaded-in-range : (g : LoadGiven) → loadReply g ≡ accepted → Numbers (length (g .file)) 256 (g .file) → InRange (loaded (g .file))
+  memory-below : (file : List ℕ) (offset count : ℕ) → Below file → Below (memoryOf file offset count)
+  memory-below file offset count p = below-append (partOf file offset count) (replicate (65536 - count) 0) (part-below file offset count p) (below-zeros (65536 - count))
+
+  single-below : (file : List ℕ) → Below file → Below (singleMemoryOf file)
+  single-below file p =
+      let program = partOf file (programOffset file) (2 * W file) in
+      let bytes = partOf file (dataOffset file) (C file) in
+      let count = 2 * W file + C file in
+      below-append (program ++ bytes) (replicate (65536 - count) 0)
+      (below-append program bytes (part-below file (programOffset file) (2 * W file) p) (part-below file (dataOffset file) (C file) p)) (below-zeros (65536 - count))
+
+  loaded-below : (file : List ℕ) (board : Board) → Below file → Below (loadedP board file) × Below (loadedD board file)
+  loaded-below file TwoMemories p = (memory-below file (programOffset file) (2 * W file) p, memory-below file (dataOffset file) (C file) p)
+  loaded-below file SingleMemory p = (below-zeros 65536, single-below file p)
+
+pub loaded-in-range : (g : LoadGiven) → loadReply g ≡ accepted → Numbers (length (g .file)) 256 (g .file) → InRange (loaded (g .file) (g .board))
 unfolding loaded
 loaded-in-range g e n =
-    let f = g .file in
     let fit = fits g (sym e) in
-    let memory = memory-below 256 (omega arith) f in
+    let long = loaded-lengths (g .file) (g .board) (fit .file) (fit .holds) in
+    let bytes = loaded-below 256 (omega arith) (g .file) (g .board) (n .below) in
     record {
       registers = zeros 65536 (omega arith) 8;
       pc = omega arith;
-      program =
-          record {
-            many = memory-length f (programOffset f) (2 * W f) (fit .file .program .inside-memory) (fit .file .program .inside-file);
-            below = memory (programOffset f) (2 * W f) (n .below);
-          };
-      memory =
-          record {
-            many = memory-length f (dataOffset f) (C f) (fit .file .bytes .inside-memory) (fit .file .bytes .inside-file);
-            below = memory (dataOffset f) (C f) (n .below);
-          };
+      program = record { many = long .0; below = bytes .0 };
+      memory = record { many = long .1; below = bytes .1 };
       inputs = zeros 65536 (omega arith) 256;
       outputs = zeros 65536 (omega arith) 256;
     }

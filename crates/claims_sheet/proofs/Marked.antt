@@ -3,13 +3,13 @@
 use mathlib.Core.Path.{_≡_, refl, _∙_, ap, ap₂}
 use mathlib.Core.Bool.{Bool, true, false}
 use mathlib.Core.List.{List}
-use Prim.Native.Nat.{ℕ, _+_, _%_, _<_}
+use Prim.Native.Nat.{ℕ, _+_, _/_, _%_, _<_}
 use native.Mathlib.Omega.{arith}
 use borrow.Author.Tests.{ne-eqb}
 use lib.Dec.{eqb, ltb}
 use lib.IntN.{pos}
-use lib.ListN.{length, getD, set}
-use lib.Seq.{getD-set-same}
+use lib.ListN.{length, getD, set, length-set}
+use lib.Seq.{getD-set-same, getD-set-other}
 use lib.Signed.{ltZ}
 use Rattle.word.specs.Fields.{Bits}
 use Rattle.word.specs.Word.{pick, add, clear0, signed, lowBits, SE, shifted, sha, shl, flag}
@@ -19,8 +19,8 @@ use Rattle.kinds.specs.declared.Kind.the-variants.{Sha, Shl, Cmplt, Cmpltu, Ldb
 use Rattle.isa.specs.declared.Instruction.{Instruction}
 use Rattle.isa.specs.Sheet.{kindAt, sheetLine}
 use Rattle.isa.specs.Instructions.{readOf, writeOf}
-use Rattle.machine.specs.Machine.{Machine, count, onState, readFrom, wordAt}
-use Rattle.machine.specs.Step.{PC, write, jump, Rule, addi, ld, jalr, bnz, movi, movhi, input, rule, choice, cannot, to, stepBy, step}
+use Rattle.machine.specs.Machine.{Machine, count, onState, readFrom, wordAt, putWord}
+use Rattle.machine.specs.Step.{PC, write, jump, Rule, fetched, addi, ld, st, jalr, bnz, movi, movhi, input, rule, choice, cannot, to, stepBy, step}
 use Rattle.claims_words.specs.Instructions.{RegisterRange, InRange}
 use Rattle.claims_sheet.specs.Rules.{r, SE-n, done, effect, stepAs}
 use Rattle.claims_sheet.specs.Marked.{registers, Steps, Does, Gives, Marked}
@@ -55,8 +55,17 @@ gives k g s e m d a b p q =
     by-sheet (registers k d a b) m (s (jump (add (PC m) 2) m) d a b q)
     (λ i l. there (m .state .r) d l (few (sheetLine k .format .d) d (i .d)) (ap₂ g p q ∙ e))
 
+-- a word that was stored at 2 stands there
+stored : (D : List ℕ) (v : ℕ) → length D ≡ 65536 → wordAt (putWord 2 v D) 2 ≡ v
+stored D v l =
+    let low : getD (set (set D 2 (v % 256)) 3 (v / 256)) 2 0 ≡ v % 256 =
+    getD-set-other (set D 2 (v % 256)) 3 2 (v / 256) 0 (λ e. omega (arith, e)) ∙ getD-set-same D 2 (v % 256) 0 (omega (arith, l)) in
+    let high : getD (set (set D 2 (v % 256)) 3 (v / 256)) 3 0 ≡ v / 256 =
+    getD-set-same (set D 2 (v % 256)) 3 (v / 256) 0 (omega (arith, l, length-set D 2 (v % 256))) in
+    rw (low, high) (omega arith)
+
 pub marked : Marked
-unfolding readOf writeOf kindAt signed lowBits SE shifted choice addi ld jalr bnz movi movhi input
+unfolding readOf writeOf kindAt signed lowBits SE shifted choice fetched addi ld st jalr bnz movi movhi input
 marked =
     record {
       a = (refl, refl);
@@ -80,5 +89,10 @@ marked =
           λ m others p. (
             by-word 0xA601 input m refl (λ l. (there (m .state .r) 3 l (omega arith) (ap (λ I. getD I 1 0) p), ap (readFrom 1) p)),
             by-word 0xA600 input m refl (λ l. (there (m .state .r) 3 l (omega arith) (ap (λ I. getD I 0 0) p), p)),
+          );
+      patch =
+          λ m v p q s l. (
+            λ t. by-word 0x4280 st m refl (λ e. rw (t, p, q, s) (stored (m .D) v l)),
+            λ t. by-word 0x4280 st m refl (λ e. rw (t, p)),
           );
     }

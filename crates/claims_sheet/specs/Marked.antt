@@ -1,5 +1,6 @@
--- The marked cases of 01, the one that 02 (L6) marks, and a read of the key (02, L8). What a row does not mention, other registers, memory, ports, is any.
+-- The marked cases of 01, the one that 02 (L6) marks, a read of the key (02, L8), and a store over the instruction that follows (02, L11). What a row does not mention, other registers, memory, ports, is any.
 use mathlib.Core.Path.{_≡_}
+use mathlib.Core.Bool.{true, false}
 use mathlib.Core.List.{List, _∷_}
 use Prim.Native.Nat.{ℕ}
 use lib.IntN.{ℤ, pos}
@@ -8,7 +9,7 @@ use Rattle.kinds.specs.declared.Kind.{Kind}
 use Rattle.kinds.specs.declared.Kind.the-variants.{Sha, Shl, Cmplt, Cmpltu, Cmpleu, Ldb, Bz, Div}
 use Rattle.isa.specs.declared.Instruction.{Instruction}
 use Rattle.isa.specs.Instructions.{instruction, readOf, word, writeOf}
-use Rattle.machine.specs.Machine.{Machine, wordAt}
+use Rattle.machine.specs.Machine.{Machine, isSingle, wordAt}
 use Rattle.machine.specs.Step.{PC, to, fetched, step}
 use Rattle.claims_sheet.specs.Rules.{r, address}
 
@@ -69,3 +70,9 @@ pub record Marked : Type 0 where
       (m : Machine) (others : List ℕ) → m .I ≡ 5 ∷ 7 ∷ others
       → Steps 0xA601 m (λ next. (r next 3 ≡ 7) × (next .I ≡ 0 ∷ 7 ∷ others))
       × Steps 0xA600 m (λ next. (r next 3 ≡ 5) × (next .I ≡ 5 ∷ 7 ∷ others))
+  -- 02, L11, with R1 = 2 and R2 = v at PC 0: 0x4280 (ST 0(R1),R2) stores v over the instruction that follows. On the single-memory board the
+  -- word fetched next is v, on the older one it is program memory's, as it was.
+  pub patch :
+      (m : Machine) (v : ℕ) → PC m ≡ 0 → r m 1 ≡ 2 → r m 2 ≡ v → length (m .D) ≡ 65536
+      → (isSingle (m .state) ≡ true → Steps 0x4280 m (λ next. fetched next ≡ v))
+      × (isSingle (m .state) ≡ false → Steps 0x4280 m (λ next. fetched next ≡ wordAt (m .P) 2))

@@ -1,6 +1,7 @@
 // A case: its load, its calls, its saves and its going back.
 use crate::backs;
 use crate::backs::GOING_BACK;
+use crate::boards;
 use crate::calls;
 use crate::calls::Kept;
 use crate::saves;
@@ -8,6 +9,7 @@ use crate::sheets;
 use machine::State;
 use numbers::number;
 use player::file;
+use player::file::NO_DAMAGE;
 use player::file::Sort;
 use player::lent::Log;
 use player::lent::Memory;
@@ -26,7 +28,14 @@ fn load(
     outputs: &mut [u16],
 ) -> SisaLoad {
     let bytes = all_but(number(c, 4) % 8 == 0, memory.len());
-    sisa::sisa_load(file, program, &mut memory[0..bytes], inputs, outputs)
+    sisa::sisa_load(
+        file,
+        boards::board_of(c),
+        program,
+        &mut memory[0..bytes],
+        inputs,
+        outputs,
+    )
 }
 
 fn load_file(
@@ -42,7 +51,28 @@ fn load_file(
     load(c, &file[0..length], program, memory, inputs, outputs)
 }
 
-// The line of a load.
+// The undamaged file of case c is loaded into the whole memories and ports.
+pub fn load_whole(
+    sort: Sort,
+    c: u16,
+    program: &mut Memory,
+    memory: &mut Memory,
+    inputs: &mut Ports,
+    outputs: &mut Ports,
+) -> SisaLoad {
+    let length = file::length(sort, c, NO_DAMAGE) as usize;
+    let file = file::make(sort, c, NO_DAMAGE);
+    sisa::sisa_load(
+        &file[0..length],
+        boards::board_of(c),
+        program,
+        memory,
+        inputs,
+        outputs,
+    )
+}
+
+// The line of a load, and the one of its board.
 pub fn print_load(
     what: &[u8],
     c: u16,
@@ -57,8 +87,10 @@ pub fn print_load(
     print::field(c as u64);
     print::field(load.refusal as u64);
     print::left(load.state, program, memory, inputs, outputs, log);
+    boards::print_board(c, load.state);
 }
 
+// Answers the state that the host keeps.
 fn play_calls(
     c: u16,
     loaded: State,
@@ -67,7 +99,7 @@ fn play_calls(
     inputs: &mut Ports,
     outputs: &mut Ports,
     log: &mut Log,
-) {
+) -> State {
     let mut kept = Kept {
         state: loaded,
         sheet: sheets::first(c),
@@ -75,21 +107,23 @@ fn play_calls(
     for i in 0..16 {
         kept = calls::call(c, i, kept, program, memory, inputs, outputs, log);
     }
+    kept.state
 }
 
-pub fn play(
+// A case from its load on.
+pub fn play_loaded(
     c: u16,
+    load: SisaLoad,
     program: &mut Memory,
     memory: &mut Memory,
     inputs: &mut Ports,
     outputs: &mut Ports,
     log: &mut Log,
 ) {
-    let load = load_file(c, program, memory, inputs, outputs);
     print_load(b"load", c, load, program, memory, inputs, outputs, log);
     if load.refusal == 0 {
-        play_calls(c, load.state, program, memory, inputs, outputs, log);
-        let again = saves::play(c, program, memory, inputs, outputs, log);
+        let kept = play_calls(c, load.state, program, memory, inputs, outputs, log);
+        let again = saves::play(c, kept, program, memory, inputs, outputs, log);
         if again.refusal == 0 {
             backs::play(
                 GOING_BACK,
@@ -103,4 +137,16 @@ pub fn play(
             );
         }
     }
+}
+
+pub fn play(
+    c: u16,
+    program: &mut Memory,
+    memory: &mut Memory,
+    inputs: &mut Ports,
+    outputs: &mut Ports,
+    log: &mut Log,
+) {
+    let load = load_file(c, program, memory, inputs, outputs);
+    play_loaded(c, load, program, memory, inputs, outputs, log);
 }

@@ -2,6 +2,7 @@
 use machine::State;
 
 mod backs;
+mod boards;
 mod calls;
 mod cases;
 mod host;
@@ -41,4 +42,11 @@ fn main() {
             &mut log,
         );
     }
+    boards::all(
+        &mut program,
+        &mut memory,
+        &mut inputs,
+        &mut outputs,
+        &mut log,
+    );
 }

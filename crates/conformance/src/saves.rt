@@ -1,6 +1,8 @@
 // The saves of a case, and the load of a saved file.
+use crate::boards;
 use crate::calls;
 use crate::cases;
+use machine::State;
 use player::digest;
 use player::lent::Log;
 use player::lent::Memory;
@@ -34,13 +36,14 @@ fn bytes_lent(s: u16, length: usize) -> usize {
 fn save_memories(
     s: u16,
     length: usize,
+    state: State,
     program: &[u8],
     memory: &[u8],
     destination: &mut [u8],
 ) -> SisaSaved {
     let bytes = all_but(s == 3, memory.len());
     let most = least(bytes_lent(s, length), destination.len());
-    sisa::sisa_save(program, &memory[0..bytes], &mut destination[0..most])
+    sisa::sisa_save(state, program, &memory[0..bytes], &mut destination[0..most])
 }
 
 fn print_save(c: u16, s: u16, saved: SisaSaved, destination: &[u8]) {
@@ -48,6 +51,7 @@ fn print_save(c: u16, s: u16, saved: SisaSaved, destination: &[u8]) {
     print::field(saved.refusal as u64);
     print::field(saved.length as u64);
     print::last_field(digest::bytes(0, destination) as u64);
+    boards::print_board(c, saved.state);
 }
 
 // Save s. Answers the length of its file.
@@ -55,17 +59,19 @@ fn save(
     c: u16,
     s: u16,
     length: usize,
+    state: State,
     program: &Memory,
     memory: &Memory,
     destination: &mut Destination,
 ) -> usize {
     fill(s, destination);
-    let saved = save_memories(s, length, program, memory, destination);
+    let saved = save_memories(s, length, state, program, memory, destination);
     print_save(c, s, saved, destination);
     saved.length
 }
 
 fn load(
+    c: u16,
     length: usize,
     destination: &[u8],
     program: &mut [u8],
@@ -74,7 +80,14 @@ fn load(
     outputs: &mut [u16],
 ) -> SisaLoad {
     let most = least(length, destination.len());
-    sisa::sisa_load(&destination[0..most], program, memory, inputs, outputs)
+    sisa::sisa_load(
+        &destination[0..most],
+        boards::board_of(c),
+        program,
+        memory,
+        inputs,
+        outputs,
+    )
 }
 
 // The file of this length, at the front of the destination, is loaded.
@@ -88,14 +101,15 @@ fn load_again(
     outputs: &mut Ports,
     log: &Log,
 ) -> SisaLoad {
-    let load = load(length, destination, program, memory, inputs, outputs);
+    let load = load(c, length, destination, program, memory, inputs, outputs);
     cases::print_load(b"again", c, load, program, memory, inputs, outputs, log);
     load
 }
 
-// Answers what the load of the saved file replied.
+// From the state that the host keeps. Answers what the load of the saved file replied.
 pub fn play(
     c: u16,
+    kept: State,
     program: &mut Memory,
     memory: &mut Memory,
     inputs: &mut Ports,
@@ -103,8 +117,8 @@ pub fn play(
     log: &Log,
 ) -> SisaLoad {
     let mut destination = [0u8; DESTINATION_BYTES];
-    let length = save(c, 0, 0, program, memory, &mut destination);
-    save(c, 1, length, program, memory, &mut destination);
+    let length = save(c, 0, 0, kept, program, memory, &mut destination);
+    save(c, 1, length, kept, program, memory, &mut destination);
     let again = load_again(
         c,
         length,
@@ -115,7 +129,8 @@ pub fn play(
         outputs,
         log,
     );
-    save(c, 2, length, program, memory, &mut destination);
-    save(c, 3, length, program, memory, &mut destination);
+    let state = again.state;
+    save(c, 2, length, state, program, memory, &mut destination);
+    save(c, 3, length, state, program, memory, &mut destination);
     again
 }

@@ -1,6 +1,7 @@
 // The runs by a table.
 use crate::tables;
 use crate::tables::Table;
+use machine::Board;
 use machine::State;
 use numbers::number;
 use player::file;
@@ -132,7 +133,14 @@ fn load(
 ) -> State {
     let length = file::length(sort, c, NO_DAMAGE) as usize;
     let file = file::make(sort, c, NO_DAMAGE);
-    let loaded = image::load(&file[0..length], program, memory, inputs, outputs);
+    let loaded = image::load(
+        &file[0..length],
+        Board::TwoMemories,
+        program,
+        memory,
+        inputs,
+        outputs,
+    );
     set_inputs(c, inputs);
     let mut state = loaded.state;
     let r = registers(c);

@@ -1,5 +1,5 @@
 -- What holds of a step by any control word: it adds 1 to n, keeps an even PC even, drops no entry of L, leaves the count of journal
--- entries, keeps P and the lengths, and does not look at L. So it holds of a run by any table, and of the plain machine, whose steps are the
+-- entries and the board, keeps P and the lengths, and does not look at L. So it holds of a run by any table, and of the plain machine, whose steps are the
 -- table's.
 -- Assumes nothing.
 use mathlib.Core.Path.{_≡_, refl, ap, subst, _∙_}
@@ -19,15 +19,15 @@ use Rattle.machine.specs.Machine.{Machine, putR, putPC, count, onState, putD, o
 use Rattle.machine.specs.Step.{PC, Ra, Rb, d5-3, d8-6, d11-9, fetched, Next, cannot, to}
 use Rattle.machine.specs.Run.{Stepper, byRules}
 use Rattle.machine.proofs.Inputs.{read-length}
-use Rattle.machine.proofs.Runs.{Lawful}
+use Rattle.machine.proofs.Runs.{unwritten, Lawful}
 use Rattle.control.specs.Control.{unit, result, inputsAfter, next, storeField, writesPort, storedData, stored, written, performed, assigned, zeroDivisor, controlStep, controlIn, byControl, table}
 use Rattle.control.proofs.Agreement.{same-stepper}
 
 -- ---- The parts
 
--- the destination's write keeps PC and the counts
-abbrev apart : State → ℕ × ℕ × ℕ
-apart s = (s .pc, s .n, s .journaled)
+-- the destination's write keeps all but the registers
+abbrev apart : State → ℕ × (ℕ × (ℕ × ℕ))
+apart s = (s .pc, (s .n, unwritten s))
 
 written-keeps : (c w v : ℕ) (s : State) → apart (written c w v s) ≡ apart s
 unfolding written
@@ -92,7 +92,7 @@ record Keeps (m after : Machine) : Type 0 where
   counts : after .state .n ≡ m .state .n + 1
   even : PC m % 2 ≡ 0 → PC after % 2 ≡ 0
   grows : length (m .L) ≤ length (after .L)
-  journaled : after .state .journaled ≡ m .state .journaled
+  leaves : unwritten (after .state) ≡ unwritten (m .state)
   lent : kept after ≡ kept m
 
 step-keeps : (c w : ℕ) (m : Machine) → Keeps m (performed c w m)
@@ -106,10 +106,10 @@ step-keeps c w m =
     let s = store-keeps c w x (Rb w m) u m in
     let r = written-keeps c w v (putPC p (count (st .state))) in
     record {
-      counts = ap (λ z. z .1) r ∙ ap (λ (t : State). t .n + 1) (s .state);
+      counts = ap (λ z. z .1 .0) r ∙ ap (λ (t : State). t .n + 1) (s .state);
       even = λ h. ap (λ z. z .0 % 2) r ∙ next-even c w x (PC m) h;
       grows = s .grows;
-      journaled = ap (λ z. z .2) r ∙ ap (λ (t : State). t .journaled) (s .state);
+      leaves = ap (λ z. z .1 .1) r ∙ ap unwritten (s .state);
       lent = ap (λ k. (st .P, length (st .D), k, length (st .O))) (inputs-length c w (st .I)) ∙ s .lent;
     }
 
@@ -170,7 +170,7 @@ module _ (words : List ℕ) where
         counts = λ m next e. stepped m next e .counts;
         even = λ m next e. stepped m next e .even;
         grows = λ m next e. stepped m next e .grows;
-        journaled = λ m next e. stepped m next e .journaled;
+        leaves = λ m next e. stepped m next e .leaves;
       }
 
   local-control : Local (byControl words)

@@ -10,10 +10,10 @@ use lib.Dec.{leb}
 use lib.ListN.{length, getD, take, drop, take-append-drop}
 use lib.Seq.{length-take-le, drop-drop}
 use Rattle.machine.specs.declared.State.{State}
-use Rattle.machine.specs.Machine.{Machine, wordAt}
+use Rattle.machine.specs.Machine.{Machine}
 use Rattle.machine.specs.Step.{Next, cannot, to, fetched}
 use Rattle.machine.specs.Run.{Stepper, Outcome, noPlace, unless, runFrom, traceFrom}
-use Rattle.machine.specs.Held.{Held, machineOf, isFull, Ready, outcomeOf, StepMeets}
+use Rattle.machine.specs.Held.{Fetches, Held, machineOf, isFull, Ready, outcomeOf, StepMeets}
 use Rattle.machine.proofs.Runs.{Lawful, run-none, trace-none, run-stops, trace-stops, run-goes}
 use Rattle.isa.specs.Masks.{masksOf}
 use Rattle.usage.specs.declared.Usage.{Usage}
@@ -177,10 +177,9 @@ module _ (t : Bool) (words : List ℕ) {g : Given} {keeps : Bool} {journal₀ pl
   pub journal-room : steps < g .budget → keeps ≡ true → g .state .journaled + steps < length journal
   journal-room b k = omega (arith, v .keeping .room k, v .keeping .same-length)
 
-  module _ {w stop : ℕ} {after : Held} (b : steps < g .budget) (fetch : w ≡ wordAt (g .P) (h .state .pc)) (met : StepMeets (stepOf t words w) (writesOf t words w) h stop after) where
+  module _ {w stop : ℕ} {after : Held} (b : steps < g .budget) (fetch : Fetches (h .state) (g .P) (h .D) w) (met : StepMeets (stepOf t words w) (writesOf t words w) h stop after) where
     fetches : fetched (hereOf g h) ≡ w
-    unfolding fetched
-    fetches = sym fetch
+    fetches = sym (fetch _ _ _)
 
     -- what the run makes of the step
     outcome : outcomeOf (hereOf g h) (unless (noPlace (chosen t words) (length (g .log)) (hereOf g h)) (chosen t words .steps (hereOf g h))) ≡ record { reason = stop; after = hereOf g after }
@@ -248,7 +247,7 @@ module _ (t : Bool) (words : List ℕ) {g : Given} {keeps : Bool} {journal₀ pl
           used = omega arith;
           counted = omega (arith, law .counts m _ (goes .steps));
           counts = v .counts;
-          journaled = law .journaled m _ (goes .steps) ∙ v .journaled;
+          journaled = ap (λ z. z .0) (law .leaves m _ (goes .steps)) ∙ v .journaled;
           fits = v .fits;
           rest = met .rest ∙ further (h .entries) (after .entries) (h .log) (g .log) more (v .rest);
           same = sym (goes .on) ∙ from-here;

@@ -62,7 +62,7 @@ pub fn run_accepted(
     let mut reads = [0u64; 8];
     let mut writes = [0u64; 8];
     while steps < budget {
-        let w = bus::fetch(program, state.pc);
+        let w = bus::fetch(state, program, memory);
         if keeps {
             entry = journal::entry(w, state, memory, inputs, outputs);
         }

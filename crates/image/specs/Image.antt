@@ -8,7 +8,9 @@ use lib.ListN.{length, getD, take, drop, replicate}
 use Rattle.refusal.specs.Refusals.{refusalNumber, Verdict, accepted, refused}
 use Rattle.word.specs.Word.{pick}
 use Rattle.machine.specs.declared.State.{State}
-use Rattle.machine.specs.Machine.{Machine, reset}
+use Rattle.machine.specs.declared.Board.{Board}
+use Rattle.machine.specs.declared.Board.the-variants.{TwoMemories, SingleMemory}
+use Rattle.machine.specs.Machine.{Machine, reset, resetOn}
 use Rattle.machine.specs.Lengths.{lengthsFit}
 use Rattle.machine.specs.Slices.{Slice, before, after}
 use Rattle.image.specs.declared.Loaded.{Loaded}
@@ -46,19 +48,37 @@ inside file offset count = leb 16 offset && leb (offset + count) (length file)
 abbrev pub partsInside : List ℕ → Bool
 partsInside file = inside file (programOffset file) (2 * W file) && inside file (dataOffset file) (C file)
 
--- ---- The machine that 01 loads from a file
+-- ---- The machine that 01 loads from a file, for the board that is named (02, L11)
+
+-- a part of the file
+abbrev pub partOf : List ℕ → ℕ → ℕ → List ℕ
+partOf file offset count = take count (drop offset file)
 
 -- a memory: the part, and zeros
 abbrev pub memoryOf : List ℕ → ℕ → ℕ → List ℕ
-memoryOf file offset count = take count (drop offset file) ++ replicate (65536 - count) 0
+memoryOf file offset count = partOf file offset count ++ replicate (65536 - count) 0
 
--- Loading copies the parts to P[0..] and D[0..], zeroes all other memory and ports, and returns a reset machine.
-unfoldable pub loaded : List ℕ → Machine
-loaded file =
+-- the single memory (02, L11): the program part goes to address 0, the data part to address 2W; and zeros
+abbrev pub singleMemoryOf : List ℕ → List ℕ
+singleMemoryOf file =
+    partOf file (programOffset file) (2 * W file) ++ partOf file (dataOffset file) (C file) ++ replicate (65536 - (2 * W file + C file)) 0
+
+-- Loading copies the parts to P[0..] and D[0..], and zeroes all other memory; on the single-memory board P is zeroed.
+abbrev pub loadedP : Board → List ℕ → List ℕ
+loadedP TwoMemories file = memoryOf file (programOffset file) (2 * W file)
+loadedP SingleMemory file = replicate 65536 0
+
+abbrev pub loadedD : Board → List ℕ → List ℕ
+loadedD TwoMemories file = memoryOf file (dataOffset file) (C file)
+loadedD SingleMemory file = singleMemoryOf file
+
+-- It zeroes the ports too, and returns a reset machine, of the board named.
+unfoldable pub loaded : List ℕ → Board → Machine
+loaded file board =
     record {
-      state = reset;
-      P = memoryOf file (programOffset file) (2 * W file);
-      D = memoryOf file (dataOffset file) (C file);
+      state = resetOn board;
+      P = loadedP board file;
+      D = loadedD board file;
       I = replicate 256 0;
       O = replicate 256 0;
       L = [];
@@ -72,6 +92,7 @@ shownLoading (Refused r) = refused (refusalNumber r)
 
 pub record LoadGiven : Type 0 where
   pub file : List ℕ
+  pub board : Board
   pub P : List ℕ
   pub D : List ℕ
   pub I : List ℕ
@@ -85,20 +106,27 @@ pub record LoadLeft : Type 0 where
   pub I : List ℕ
   pub O : List ℕ
 
--- Load 1 to 4: a number is given when its condition holds and no earlier test does. 2 to 4 are tests of the file alone.
-unfoldable pub fileReply : List ℕ → Verdict
-fileReply file =
+-- 15 is where this fails: single-memory board and 2W plus C over 65,536 (02, L11)
+abbrev pub boardHolds : Board → List ℕ → Bool
+boardHolds TwoMemories file = true
+boardHolds SingleMemory file = leb (2 * W file + C file) 65536
+
+-- Load 1 to 4, 15: a number is given when its condition holds and no earlier test does. All but 1 are tests of file and board alone.
+unfoldable pub fileReply : List ℕ → Board → Verdict
+fileReply file board =
     pick (leb 16 (length file))
-    (pick (partsFit file) (pick (partsInside file) accepted (refused 4)) (refused 3))
+    (pick (partsFit file)
+    (pick (partsInside file) (pick (boardHolds board file) accepted (refused 15)) (refused 4))
+    (refused 3))
     (refused 2)
 
 unfoldable pub loadReply : LoadGiven → Verdict
-loadReply g = pick (lengthsFit (g .P) (g .D) (g .I) (g .O)) (fileReply (g .file)) (refused 1)
+loadReply g = pick (lengthsFit (g .P) (g .D) (g .I) (g .O)) (fileReply (g .file) (g .board)) (refused 1)
 
 -- A refused load changes nothing lent; the state beside its number is the reset one.
 abbrev pub loadLeftBy : Verdict → LoadGiven → LoadLeft
 loadLeftBy accepted g =
-    let m = loaded (g .file) in
+    let m = loaded (g .file) (g .board) in
     record { reply = accepted; state = m .state; P = m .P; D = m .D; I = m .I; O = m .O }
 loadLeftBy (refused k) g = record { reply = refused k; state = reset; P = g .P; D = g .D; I = g .I; O = g .O }
 
@@ -107,13 +135,14 @@ loadLeft g = loadLeftBy (loadReply g) g
 
 -- ---- The contract, of load's parameters in their order and what it replies
 
-abbrev pub fileLent : Slice → Slice → Slice → Slice → Slice → LoadGiven
-fileLent file program memory inputs outputs =
-    record { file = before file; P = before program; D = before memory; I = before inputs; O = before outputs }
+abbrev pub fileLent : Slice → Board → Slice → Slice → Slice → Slice → LoadGiven
+fileLent file board program memory inputs outputs =
+    record { file = before file; board = board; P = before program; D = before memory; I = before inputs; O = before outputs }
 
 abbrev pub loadedWith : Slice → Slice → Slice → Slice → Loaded → LoadLeft
 loadedWith program memory inputs outputs r =
     record { reply = shownLoading (r .reply); state = r .state; P = after program; D = after memory; I = after inputs; O = after outputs }
 
-abbrev pub Loads : Slice → Slice → Slice → Slice → Slice → Loaded → Type 0
-Loads file program memory inputs outputs r = loadedWith program memory inputs outputs r ≡ loadLeft (fileLent file program memory inputs outputs)
+abbrev pub Loads : Slice → Board → Slice → Slice → Slice → Slice → Loaded → Type 0
+Loads file board program memory inputs outputs r =
+    loadedWith program memory inputs outputs r ≡ loadLeft (fileLent file board program memory inputs outputs)

@@ -1,13 +1,16 @@
 // Loading a trim file, called an image here.
 ghost use mathlib.Core.Path.{_≡_};
 ghost use mathlib.Core.List.{_++_};
-ghost use Prim.Native.Nat.{_+_, _-_, _<_, _≤_};
+ghost use Prim.Native.Nat.{_+_, _-_, _*_, _<_, _≤_};
 ghost use lib.ListN.{length, take, drop, replicate};
 ghost use Rattle.refusal.specs.Refusals.{accepted};
-ghost use Rattle.image.specs.Parts.{programPart, dataPart, ReadAs};
-ghost use Rattle.image.specs.Image.{number32, partsFit, inside, partsInside, fileReply, loadReply, loadLeftBy, shownLoading, fileLent, loadedWith, Loads};
+ghost use mathlib.Core.Bool.{true};
+ghost use Rattle.machine.specs.declared.Board.the-variants.{SingleMemory};
+ghost use Rattle.image.specs.Parts.{programPart, dataPart, ReadAs, Placeable};
+ghost use Rattle.image.specs.Image.{W, C, number32, partsFit, inside, partsInside, boardHolds, loadedP, loadedD, fileReply, loadReply, loadLeftBy, shownLoading, fileLent, loadedWith, Loads};
 use block::copy;
 use bus::lengths_fit;
+use machine::Board;
 use machine::State;
 use refusal::Refusal;
 
@@ -98,9 +101,22 @@ fn parts_inside(file: &[u8]) -> bool
     inside(file, program_part(file)) & inside(file, data_part(file))
 }
 
-// The tests of the refusal table that look at the file alone, in their order.
-pub fn file_verdict(file: &[u8]) -> Loading
-    ensures { λ r. ⌜ shownLoading r ≡ fileReply (now (file .entry)) ⌝ }
+// The board's memory holds both parts, where it has one memory only.
+fn board_holds(file: &[u8], board: Board) -> bool
+    requires { ⌜ 16 ≤ length (now file) ⌝ }
+    ensures { λ r. ⌜ r ≡ boardHolds board (now (file .entry)) ⌝ }
+{
+    match board {
+        Board::TwoMemories => true,
+        Board::SingleMemory => {
+            2 * number32(file, WORDS) + number32(file, BYTES) <= State::MEMORY_BYTES
+        }
+    }
+}
+
+// The tests of the refusal table that look at the file and the board alone, in their order.
+pub fn file_verdict(file: &[u8], board: Board) -> Loading
+    ensures { λ r. ⌜ shownLoading r ≡ fileReply (now (file .entry)) board ⌝ }
 {
     if file.len() < HEADER_BYTES {
         return Loading::Refused(Refusal::ShortFile);
@@ -111,17 +127,27 @@ pub fn file_verdict(file: &[u8]) -> Loading
     if !parts_inside(file) {
         return Loading::Refused(Refusal::PartOutside);
     }
+    if !board_holds(file, board) {
+        return Loading::Refused(Refusal::SmallBoard);
+    }
     Loading::Accepted
 }
 
 // What is lent is tested before the file.
-fn verdict(file: &[u8], program: &[u8], memory: &[u8], inputs: &[u16], outputs: &[u16]) -> Loading
-    ensures { λ r. ⌜ shownLoading r ≡ loadReply (fileLent file program memory inputs outputs) ⌝ }
+fn verdict(
+    file: &[u8],
+    board: Board,
+    program: &[u8],
+    memory: &[u8],
+    inputs: &[u16],
+    outputs: &[u16],
+) -> Loading
+    ensures { λ r. ⌜ shownLoading r ≡ loadReply (fileLent file board program memory inputs outputs) ⌝ }
 {
     if !lengths_fit(program, memory, inputs, outputs) {
         return Loading::Refused(Refusal::LentLength);
     }
-    file_verdict(file)
+    file_verdict(file, board)
 }
 
 fn zero_bytes(bytes: &mut [u8])
@@ -156,40 +182,70 @@ fn place(file: &[u8], part: Part, target: &mut [u8])
     copy(&file[offset..end], &mut target[..count]);
 }
 
+// The single memory: the program part, straight after it the data part, and zeros.
+fn place_both(file: &[u8], memory: &mut [u8])
+    requires { ⌜ Placeable (now file) × (length (now memory) ≡ 65536) × (2 * W (now file) + C (now file) ≤ 65536) ⌝ }
+    ensures { λ _. ⌜ now (memory .exit) ≡ loadedD SingleMemory (now (file .entry)) ⌝ }
+{
+    let program = program_part(file);
+    let end = program.count;
+    place(file, program, memory);
+    place(file, data_part(file), &mut memory[end..]);
+}
+
+// Both memories, as a load for the board leaves them.
+fn fill(file: &[u8], board: Board, program: &mut [u8], memory: &mut [u8])
+    requires { ⌜ Placeable (now file) × (length (now program) ≡ 65536) × (length (now memory) ≡ 65536) × (boardHolds board (now file) ≡ true) ⌝ }
+    ensures { λ _. ⌜ (now (program .exit) ≡ loadedP board (now (file .entry))) × (now (memory .exit) ≡ loadedD board (now (file .entry))) ⌝ }
+{
+    match board {
+        Board::TwoMemories => {
+            place(file, program_part(file), program);
+            place(file, data_part(file), memory);
+        }
+        Board::SingleMemory => {
+            zero_bytes(program);
+            place_both(file, memory);
+        }
+    }
+}
+
 // The reply of an accepted load, and what it leaves.
 fn accept(
     file: &[u8],
+    board: Board,
     program: &mut [u8],
     memory: &mut [u8],
     inputs: &mut [u16],
     outputs: &mut [u16],
 ) -> Loaded
-    requires { ⌜ accepted ≡ loadReply (record { file = now file; P = now program; D = now memory; I = now inputs; O = now outputs }) ⌝ }
-    ensures { λ r. ⌜ loadedWith program memory inputs outputs r ≡ loadLeftBy accepted (fileLent file program memory inputs outputs) ⌝ }
+    requires { ⌜ accepted ≡ loadReply (record { file = now file; board = board; P = now program; D = now memory; I = now inputs; O = now outputs }) ⌝ }
+    ensures { λ r. ⌜ loadedWith program memory inputs outputs r ≡ loadLeftBy accepted (fileLent file board program memory inputs outputs) ⌝ }
 {
-    place(file, program_part(file), program);
-    place(file, data_part(file), memory);
+    fill(file, board, program, memory);
     zero_ports(inputs);
     zero_ports(outputs);
     Loaded {
-        state: State::reset(),
+        state: State::reset_on(board),
         reply: Loading::Accepted,
     }
 }
 
-// The file's parts are copied to the program and the data memory; all other memory and both port arrays become zero.
+// The file's parts are copied to the program and the data memory, on the single-memory board both to the data memory; all other memory and
+// both port arrays become zero.
 pub fn load(
     file: &[u8],
+    board: Board,
     program: &mut [u8],
     memory: &mut [u8],
     inputs: &mut [u16],
     outputs: &mut [u16],
 ) -> Loaded
-    ensures { λ r. ⌜ Loads file program memory inputs outputs r ⌝ }
+    ensures { λ r. ⌜ Loads file board program memory inputs outputs r ⌝ }
 {
-    let reply = verdict(file, program, memory, inputs, outputs);
+    let reply = verdict(file, board, program, memory, inputs, outputs);
     match reply {
-        Loading::Accepted => accept(file, program, memory, inputs, outputs),
+        Loading::Accepted => accept(file, board, program, memory, inputs, outputs),
         Loading::Refused(refusal) => Loaded {
             state: State::reset(),
             reply: Loading::Refused(refusal),

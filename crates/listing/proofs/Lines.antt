@@ -13,9 +13,11 @@ use Rattle.refusal.specs.Refusals.{Verdict, accepted, refused}
 use Rattle.word.specs.Word.{pick}
 use Rattle.machine.specs.Machine.{wordAt}
 use Rattle.image.specs.declared.Part.{Part}
+use Rattle.machine.specs.declared.Board.the-variants.{TwoMemories}
 use Rattle.image.specs.Image.{W, memoryOf, fileReply}
 use Rattle.image.specs.Parts.{programPart, ReadAs}
-use Rattle.image.proofs.Fits.{FileFits, file-fits}
+use Rattle.image.specs.Parts.{Placeable}
+use Rattle.image.proofs.Fits.{file-fits}
 use Rattle.printing.specs.declared.Printed.{Printed}
 use Rattle.printing.specs.Text.{inArray}
 use Rattle.printing.proofs.Writing.{count-fits}
@@ -84,7 +86,7 @@ module _ (file : List ℕ) {k : ℕ} {read : Part} (r : ReadAs (programPart file
   pub no-word : {text : Printed} → read .count / 2 ≤ k → text ≡ inArray [] → record { there = false; text = text } ≡ listedLine (wordLines file) k
   no-word h p = past-the-end (wordLines file) {k = k} (rw lines-length (omega (arith, r .count))) p
 
-  module _ (f : FileFits file) (h : k < read .count / 2) where
+  module _ (f : Placeable file) (h : k < read .count / 2) where
     pub word-inside : read .offset + 2 * k + 1 < length file
     word-inside = omega (arith, f .program, r .offset, r .count)
 
@@ -107,7 +109,7 @@ module _ (file : List ℕ) (k : ℕ) {r : Line} where
   unfolding listing
   too-long h e = rw (lt-leb (length file) 65536 h) e
 
-  pub by-reply : {x : Verdict} → length file ≤ 65536 → x ≡ fileReply file → r ≡ listedLine (listingBy x file) k → r ≡ listedLine (listing file) k
+  pub by-reply : {x : Verdict} → length file ≤ 65536 → x ≡ fileReply file TwoMemories → r ≡ listedLine (listingBy x file) k → r ≡ listedLine (listing file) k
   unfolding listing
   by-reply h e p = rw (le-leb (length file) 65536 h, ← e) p
 
@@ -115,10 +117,10 @@ module _ (file : List ℕ) (k : ℕ) {r : Line} where
 
 listing-short : (file : List ℕ) → length (listing file) ≤ 65536
 unfolding listing
-listing-short file = go (leb (length file) 65536) (fileReply file) refl
+listing-short file = go (leb (length file) 65536) (fileReply file TwoMemories) refl
   where
-    go : (b : Bool) (x : Verdict) → x ≡ fileReply file → length (pick b (listingBy x file) (refusedLine 8 ∷ [])) ≤ 65536
-    go true accepted e = rw lines-length (omega (arith, file-fits file e .program .inside-memory))
+    go : (b : Bool) (x : Verdict) → x ≡ fileReply file TwoMemories → length (pick b (listingBy x file) (refusedLine 8 ∷ [])) ≤ 65536
+    go true accepted e = rw lines-length (omega (arith, file-fits file TwoMemories e .0 .program .inside-memory))
     go true (refused q) e = omega arith
     go false x e = omega arith
 

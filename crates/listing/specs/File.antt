@@ -6,6 +6,7 @@ use lib.ListN.{length, getD}
 use Rattle.refusal.specs.Refusals.{Verdict, accepted, refused}
 use Rattle.word.specs.Word.{pick}
 use Rattle.machine.specs.Machine.{wordAt}
+use Rattle.machine.specs.declared.Board.the-variants.{TwoMemories}
 use Rattle.image.specs.Image.{W, programOffset, memoryOf, fileReply}
 use Rattle.printing.specs.Text.{inArray}
 use Rattle.report.specs.Printed.{refusedLine}
@@ -31,7 +32,7 @@ listingBy (refused number) file = refusedLine number ∷ []
 
 -- A refusal is the one line that `panelrun` prints: 8 for a file over 65,536 bytes, then load's.
 unfoldable pub listing : List ℕ → List (List ℕ)
-listing file = pick (leb (length file) 65536) (listingBy (fileReply file) file) (refusedLine 8 ∷ [])
+listing file = pick (leb (length file) 65536) (listingBy (fileReply file TwoMemories) file) (refusedLine 8 ∷ [])
 
 -- line k, from 0, or none past the end
 abbrev pub listedLine : List (List ℕ) → ℕ → Line

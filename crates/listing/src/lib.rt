@@ -2,10 +2,12 @@
 ghost use mathlib.Core.Path.{_≡_};
 ghost use mathlib.Core.List.{[], _∷_};
 ghost use Rattle.refusal.specs.Refusals.{refusalNumber, accepted};
+ghost use Rattle.machine.specs.declared.Board.the-variants.{TwoMemories};
 ghost use Rattle.image.specs.Image.{fileReply};
 ghost use Rattle.report.specs.Printed.{refusedLine};
 ghost use Rattle.listing.specs.File.{listedLine, wordLines, listing};
 use image::Loading;
+use machine::Board;
 use printing::Printed;
 use refusal::Refusal;
 
@@ -35,7 +37,7 @@ fn refusal_line(refusal: Refusal, k: usize) -> Line
 
 // Line k of the listing of a file that load takes: that of word k of the program part.
 fn word_line(file: &[u8], k: usize) -> Line
-    requires { ⌜ accepted ≡ fileReply (now file) ⌝ }
+    requires { ⌜ accepted ≡ fileReply (now file) TwoMemories ⌝ }
     ensures { λ r. ⌜ r ≡ listedLine (wordLines (now (file .entry))) k ⌝ }
 {
     let part = image::program_part(file);
@@ -59,7 +61,7 @@ pub fn line_at(file: &[u8], k: usize) -> Line
     if report::FILE_BYTES < file.len() {
         return refusal_line(Refusal::LongFile, k);
     }
-    let verdict = image::file_verdict(file);
+    let verdict = image::file_verdict(file, Board::TwoMemories);
     match verdict {
         Loading::Accepted => word_line(file, k),
         Loading::Refused(refusal) => refusal_line(refusal, k),

@@ -6,6 +6,7 @@ use mathlib.Core.List.{List, [], _∷_}
 use Prim.Native.Nat.{ℕ, suc, _+_, _%_, _≤_}
 use native.Mathlib.Omega.{arith}
 use lib.ListN.{length}
+use Rattle.machine.specs.declared.State.{State}
 use Rattle.machine.specs.Machine.{Machine}
 use Rattle.machine.specs.Step.{PC, Next, cannot, to}
 use Rattle.machine.specs.Run.{Stepper, Outcome, noPlace, unless, runFrom, traceFrom}
@@ -62,6 +63,10 @@ module _ (v : Stepper) (budget full : ℕ) (m : Machine) where
 
 -- ---- What a run's loop relies on
 
+-- the fields of the state that no step writes
+abbrev pub unwritten : State → ℕ × ℕ
+unwritten s = (s .journaled, s .board)
+
 pub record Lawful (v : Stepper) : Type 0 where
   -- 0 is no reason why a machine can't step
   pub reasons : (m : Machine) (q : ℕ) → v .steps m ≡ cannot q → q ≡ 0 → ⊥
@@ -69,8 +74,8 @@ pub record Lawful (v : Stepper) : Type 0 where
   pub counts : (m next : Machine) → v .steps m ≡ to next → next .state .n ≡ m .state .n + 1
   pub even : (m next : Machine) → v .steps m ≡ to next → PC m % 2 ≡ 0 → PC next % 2 ≡ 0
   pub grows : (m next : Machine) → v .steps m ≡ to next → length (m .L) ≤ length (next .L)
-  -- and leaves the count of journal entries
-  pub journaled : (m next : Machine) → v .steps m ≡ to next → next .state .journaled ≡ m .state .journaled
+  -- and leaves the count of journal entries and the board
+  pub leaves : (m next : Machine) → v .steps m ≡ to next → unwritten (next .state) ≡ unwritten (m .state)
 
 -- ---- By what a step function answers
 

@@ -8,9 +8,13 @@ use lib.ListN.{length, take, drop}
 use Rattle.machine.specs.declared.State.{State}
 use Rattle.machine.specs.declared.Stepped.{Stepped}
 use Rattle.machine.specs.Machine.{Machine}
-use Rattle.machine.specs.Step.{Next, cannot, to}
+use Rattle.machine.specs.Step.{fetched, Next, cannot, to}
 use Rattle.machine.specs.Run.{Outcome, unless}
 use Rattle.machine.specs.Slices.{Slice, before, after}
+
+-- w is the word that a machine of this state, program and data memory fetches
+abbrev pub Fetches : State → List ℕ → List ℕ → ℕ → Type 0
+Fetches s P D w = (I O L : List ℕ) → w ≡ fetched (record { state = s; P = P; D = D; I = I; O = O; L = L })
 
 -- registers, data memory, ports, and the lent log with the number of entries in it
 pub record Held : Type 0 where

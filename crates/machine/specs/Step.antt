@@ -7,7 +7,7 @@ use lib.ListN.{getD}
 use Rattle.word.specs.Fields.{bits, field, opcode, a-of, b-of, e-of, f-of, N6, N8}
 use Rattle.word.specs.Word.{pick, add, clear0, SE, operation, comparison}
 use Rattle.muldiv.specs.Muldiv.{muldiv}
-use Rattle.machine.specs.Machine.{Machine, R, putR, putPC, count, onState, putD, readFrom, onInputs, putO, wordAt, putWord, putByte}
+use Rattle.machine.specs.Machine.{Machine, isSingle, R, putR, putPC, count, onState, putD, readFrom, onInputs, putO, wordAt, putWord, putByte}
 
 -- ---- What the rules are made of
 
@@ -168,11 +168,11 @@ choice w = ruleInRow (getD ruleRows (opcode w) no-rule) (e-of w) (f-of w)
 
 -- ---- Step
 
--- the memory that instructions are fetched from
+-- the memory that instructions are fetched from: P, and on the single-memory board D (02, L11)
 abbrev pub fetchMemory : Machine → List ℕ
-fetchMemory m = m .P
+fetchMemory m = pick (isSingle (m .state)) (m .D) (m .P)
 
--- w is P[PC] + 256 times P[PC+1]
+-- w is M[PC] + 256 times M[PC+1], where M is that memory
 unfoldable pub fetched : Machine → ℕ
 fetched m = wordAt (fetchMemory m) (PC m)
 

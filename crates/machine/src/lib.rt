@@ -4,15 +4,23 @@ ghost use Prim.Native.Nat.{_+_, _-_, _%_, _<_};
 ghost use Rattle.word.specs.Fields.{a-of, b-of};
 ghost use Rattle.word.specs.Word.{pick, add};
 ghost use lib.Dec.{eqb};
-ghost use Rattle.machine.specs.Machine.{reset, R, putR, putPC, putN, putJournaled, count};
+ghost use Rattle.machine.specs.Machine.{reset, R, putR, putPC, putN, putJournaled, count, boardNumber, boardOf, resetOn};
 
-// R0 to R7, PC, n, the count of steps done, and the count of journal entries.
+// R0 to R7, PC, n, the count of steps done, the count of journal entries, and the board: 0 with two memories, any other number the
+// single-memory one.
 #[repr(C)]
 pub struct State {
     pub r: [u16; 8],
     pub pc: u16,
     pub n: u32,
     pub journaled: u64,
+    pub board: u8,
+}
+
+// The board that a load names: instructions are fetched from program memory, or from data memory, the only one.
+pub enum Board {
+    TwoMemories,
+    SingleMemory,
 }
 
 // What an engine's step hands back: stop 0, the register state, and how many places of the log are filled; or why it can't be
@@ -65,6 +73,26 @@ fn one_less(n: u32) -> u32
     if n == 0 { 0 } else { n - 1 }
 }
 
+fn board_number(board: Board) -> u8
+    ensures { λ r. ⌜ r ≡ boardNumber board ⌝ }
+{
+    match board {
+        Board::TwoMemories => 0,
+        Board::SingleMemory => 1,
+    }
+}
+
+// The board that a number names.
+pub fn board_of(number: u8) -> Board
+    ensures { λ r. ⌜ r ≡ boardOf number ⌝ }
+{
+    if number == 0 {
+        Board::TwoMemories
+    } else {
+        Board::SingleMemory
+    }
+}
+
 impl State {
     // The bytes of a memory, and the words of an array of ports.
     pub const MEMORY_BYTES: usize = 65536;
@@ -74,11 +102,20 @@ impl State {
     pub fn reset() -> Self
         ensures { λ s. ⌜ s ≡ reset ⌝ }
     {
+        Self::reset_on(Board::TwoMemories)
+    }
+
+    // The reset state of a board.
+    pub fn reset_on(board: Board) -> Self
+        ensures { λ s. ⌜ s ≡ resetOn board ⌝ }
+    {
+        let number = board_number(board);
         Self {
             r: [0; 8],
             pc: 0,
             n: 0,
             journaled: 0,
+            board: number,
         }
     }
 
@@ -135,6 +172,7 @@ impl State {
             pc: self.pc,
             n: self.n,
             journaled: self.journaled,
+            board: self.board,
         }
     }
 
@@ -148,6 +186,7 @@ impl State {
             pc: v,
             n: self.n,
             journaled: self.journaled,
+            board: self.board,
         }
     }
 
@@ -176,6 +215,7 @@ impl State {
             pc: self.pc,
             n: v,
             journaled: self.journaled,
+            board: self.board,
         }
     }
 
@@ -195,6 +235,7 @@ impl State {
             pc: self.pc,
             n: self.n,
             journaled: v,
+            board: self.board,
         }
     }
 }

@@ -1,4 +1,5 @@
--- The file of case c (docs/CONFORMANCE.md), of each sort: as under "The file of case c", as under "Keys", and as for a table from 128 on.
+-- The file of case c (docs/CONFORMANCE.md), of each sort: as under "The file of case c", as under "Keys", as under "The single-memory
+-- board", and as for a table from 128 on.
 use Prim.Native.Nat.{ℕ, _+_, _-_, _*_, _/_, _%_}
 use mathlib.Core.List.{List, [], _∷_}
 use lib.Dec.{ltb, eqb}
@@ -7,15 +8,16 @@ use Rattle.word.specs.Word.{pick, flag}
 use Rattle.numbers.specs.Numbers.{numberOf}
 use Rattle.player.specs.Lists.{places}
 use Rattle.player.specs.declared.file.Sort.{Sort}
-use Rattle.player.specs.declared.file.Sort.the-variants.{Any, Keys, LowPorts}
+use Rattle.player.specs.declared.file.Sort.the-variants.{Any, Keys, Stores, LowPorts}
 
--- W = 1 + number(c, 0) mod 200, C = number(c, 1) mod 300; under "Keys" W is 32
+-- W = 1 + number(c, 0) mod 200, C = number(c, 1) mod 300; under "Keys" and "The single-memory board" W is 32
 abbrev pub anyW : ℕ → ℕ
 anyW c = 1 + numberOf c 0 % 200
 
 unfoldable pub W : Sort → ℕ → ℕ
 W Any c = anyW c
 W Keys c = 32
+W Stores c = 32
 W LowPorts c = anyW c
 
 abbrev pub C : ℕ → ℕ
@@ -41,13 +43,21 @@ anyWord c j =
     let x = numberOf c (1000 + j) in
     pick (eqb (numberOf c (2000 + j) % 16) 0) x (x / 4096 % 12 * 4096 + x % 4096)
 
--- Under "Keys": word j, for j from 0 to 29, where number(c, 4,000 + j) mod 2 is 0, is 40,960 + 512 · (x mod 8) + (x / 8) mod 4; else it is as
--- above; word 30 is 32,993 and word 31 is 33,248.
-unfoldable pub keyWord : ℕ → ℕ → ℕ
-keyWord c j =
+-- Under "Keys" and "The single-memory board": word j, for j from 0 to 29, where number(c, 4,000 + j) mod 2 is 0, is the section's own; else
+-- it is as above; word 30 is 32,993 and word 31 is 33,248.
+unfoldable pub loopWord : ℕ → ℕ → ℕ → ℕ
+loopWord c j own =
+    pick (ltb j 30) (pick (eqb (numberOf c (4000 + j) % 2) 0) own (anyWord c j)) (pick (eqb j 30) 32993 33248)
+
+-- under "Keys" 40,960 + 512 · (x mod 8) + (x / 8) mod 4, an IN
+abbrev pub keyWord : ℕ → ℕ → ℕ
+keyWord c j = let x = numberOf c (1000 + j) in loopWord c j (40960 + 512 * (x % 8) + x / 8 % 4)
+
+-- under "The single-memory board" 16,384 + 8,192 · (x mod 2) + 64 · ((x / 2) mod 8) + (x / 16) mod 64, an ST or STB
+abbrev pub storeWord : ℕ → ℕ → ℕ
+storeWord c j =
     let x = numberOf c (1000 + j) in
-    pick (ltb j 30) (pick (eqb (numberOf c (4000 + j) % 2) 0) (40960 + 512 * (x % 8) + x / 8 % 4) (anyWord c j))
-    (pick (eqb j 30) 32993 33248)
+    loopWord c j (16384 + 8192 * (x % 2) + 64 * (x / 2 % 8) + x / 16 % 64)
 
 -- For a table from 128 on: the low byte of word j is made number(c, 4,000 + j) mod 4.
 unfoldable pub lowPortWord : ℕ → ℕ → ℕ
@@ -56,6 +66,7 @@ lowPortWord c j = anyWord c j / 256 * 256 + numberOf c (4000 + j) % 4
 unfoldable pub programWord : Sort → ℕ → ℕ → ℕ
 programWord Any c j = anyWord c j
 programWord Keys c j = keyWord c j
+programWord Stores c j = storeWord c j
 programWord LowPorts c j = lowPortWord c j
 
 -- the bytes of a number under 65,536, the low one first; others are 0

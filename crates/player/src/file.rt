@@ -4,14 +4,15 @@ ghost use Prim.Native.Nat.{_<_};
 ghost use lib.Dec.{eqb};
 ghost use lib.ListN.{getD};
 ghost use Rattle.word.specs.Word.{flag};
-ghost use Rattle.player.specs.File.{anyW, W, C, damageOf, lengthOf, header, anyWord, keyWord, lowPortWord, programWord, byteOf, fileByte, fileOf};
+ghost use Rattle.player.specs.File.{anyW, W, C, damageOf, lengthOf, header, anyWord, loopWord, keyWord, storeWord, lowPortWord, programWord, byteOf, fileByte, fileOf};
 use crate::lent::File;
 use numbers::number;
 
-// The sort of a file, by its program: a case's, one of "Keys", or one for a table from 128 on.
+// The sort of a file, by its program: a case's, one of "Keys", one of "The single-memory board", or one for a table from 128 on.
 pub enum Sort {
     Any,
     Keys,
+    Stores,
     LowPorts,
 }
 
@@ -38,6 +39,7 @@ fn words(sort: Sort, c: u16) -> u16
     match sort {
         Sort::Any => any_words(c),
         Sort::Keys => 32,
+        Sort::Stores => 32,
         Sort::LowPorts => any_words(c),
     }
 }
@@ -81,19 +83,41 @@ fn any_word(c: u16, j: u16) -> u16
     }
 }
 
-// An IN of a port from 0 to 3, or any word; at the end a BZ and a BNZ of R0 to address 0.
-fn key_word(c: u16, j: u16) -> u16
+// The section's own word, or any word; at the end a BZ and a BNZ of R0 to address 0.
+fn loop_word(c: u16, j: u16, own: u16) -> u16
     requires { ⌜ j < 200 ⌝ }
-    ensures { λ r. ⌜ r ≡ keyWord c j ⌝ }
+    ensures { λ r. ⌜ r ≡ loopWord c j own ⌝ }
 {
     if j >= 30 {
         return if j == 30 { 32993 } else { 33248 };
     }
-    if number(c, 4000 + j) % 2 != 0 {
-        return any_word(c, j);
+    if number(c, 4000 + j) % 2 == 0 {
+        own
+    } else {
+        any_word(c, j)
     }
+}
+
+// The section's own word is an IN of a port from 0 to 3.
+fn key_word(c: u16, j: u16) -> u16
+    requires { ⌜ j < 200 ⌝ }
+    ensures { λ r. ⌜ r ≡ keyWord c j ⌝ }
+{
     let x = number(c, 1000 + j);
-    40960 + 512 * (x % 8) + x / 8 % 4
+    loop_word(c, j, 40960 + 512 * (x % 8) + x / 8 % 4)
+}
+
+// The section's own word is an ST or STB at an address from R0.
+fn store_word(c: u16, j: u16) -> u16
+    requires { ⌜ j < 200 ⌝ }
+    ensures { λ r. ⌜ r ≡ storeWord c j ⌝ }
+{
+    let x = number(c, 1000 + j);
+    loop_word(
+        c,
+        j,
+        16384 + 8192 * (x % 2) + 64 * (x / 2 % 8) + x / 16 % 64,
+    )
 }
 
 fn low_port_word(c: u16, j: u16) -> u16
@@ -111,6 +135,7 @@ fn program_word(sort: Sort, c: u16, j: u16) -> u16
     match sort {
         Sort::Any => any_word(c, j),
         Sort::Keys => key_word(c, j),
+        Sort::Stores => store_word(c, j),
         Sort::LowPorts => low_port_word(c, j),
     }
 }

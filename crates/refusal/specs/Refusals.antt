@@ -2,7 +2,7 @@
 -- accepted or refused with a number.
 use Prim.Native.Nat.{ℕ}
 use Rattle.refusal.specs.declared.Refusal.{Refusal}
-use Rattle.refusal.specs.declared.Refusal.the-variants.{LentLength, ShortFile, LargePart, PartOutside, OddPc, StepCount, InstructionPart, LongFile, ShortDestination, TextLine, TextName, TextValue, FullSheet, ShortJournal}
+use Rattle.refusal.specs.declared.Refusal.the-variants.{LentLength, ShortFile, LargePart, PartOutside, OddPc, StepCount, InstructionPart, LongFile, ShortDestination, TextLine, TextName, TextValue, FullSheet, ShortJournal, SmallBoard}
 
 abbrev pub refusalNumber : Refusal → ℕ
 -- P or D not 65,536 bytes, or I or O not 256 words (set looks at I only)
@@ -33,6 +33,8 @@ refusalNumber TextValue = 12
 refusalNumber FullSheet = 13
 -- the journal holds fewer than k steps (02, L7)
 refusalNumber ShortJournal = 14
+-- single-memory board and 2W plus C over 65,536 (02, L11)
+refusalNumber SmallBoard = 15
 
 -- whether a call is accepted: it is, or it is refused with this number
 pub data Verdict : Type 0 where

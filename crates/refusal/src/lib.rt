@@ -17,6 +17,7 @@ pub enum Refusal {
     TextValue,
     FullSheet,
     ShortJournal,
+    SmallBoard,
 }
 
 // The refusal's number in the table.
@@ -38,5 +39,6 @@ pub fn number(refusal: Refusal) -> u8
         Refusal::TextValue => 12,
         Refusal::FullSheet => 13,
         Refusal::ShortJournal => 14,
+        Refusal::SmallBoard => 15,
     }
 }

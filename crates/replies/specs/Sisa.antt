@@ -17,11 +17,12 @@ use Rattle.kinds.specs.Kinds.{kinds, kindNumber}
 use Rattle.isa.specs.Instructions.{Read, instruction, unassigned, WriteReply, word, write-refused, writeOf}
 use Rattle.isa.specs.Masks.{Masks, Decoding}
 use Rattle.machine.specs.declared.State.{State}
+use Rattle.machine.specs.Machine.{boardOf}
 use Rattle.machine.specs.Run.{Stepper}
 use Rattle.machine.specs.Slices.{Slice, before, after}
 use Rattle.panel.specs.Calls.{SetGiven, SetLeft, setLeft, windowOf}
 use Rattle.image.specs.Image.{LoadGiven, LoadLeft, loadLeft, fileLent}
-use Rattle.save.specs.Saved.{SaveReply, saved, save-refused, SaveGiven, SaveLeft, saveLeft}
+use Rattle.save.specs.Saved.{SaveReply, saved, save-refused, SaveGiven, SaveLeft, saveLeft, lentToSave}
 use Rattle.assembler.specs.Text.{Reply, words, text-refused, AssembleLeft, assembleLeft}
 use Rattle.control.specs.Control.{byTable}
 use Rattle.usage.specs.declared.Usage.{Usage}
@@ -63,16 +64,17 @@ loadInNumbers l = record { reply = sisaLoad (l .reply) (l .state); P = l .P; D =
 unfoldable pub sisaLoadLeft : LoadGiven → SisaLoadLeft
 sisaLoadLeft g = loadInNumbers (loadLeft g)
 
-abbrev pub SisaLoads : Slice → Slice → Slice → Slice → Slice → SisaLoad → Type 0
-SisaLoads file program memory inputs outputs r =
+-- the board is the one that the number names
+abbrev pub SisaLoads : Slice → ℕ → Slice → Slice → Slice → Slice → SisaLoad → Type 0
+SisaLoads file board program memory inputs outputs r =
     _≡_ {A = SisaLoadLeft} (record { reply = r; P = after program; D = after memory; I = after inputs; O = after outputs })
-    (sisaLoadLeft (fileLent file program memory inputs outputs))
+    (sisaLoadLeft (fileLent file (boardOf board) program memory inputs outputs))
 
 -- ---- sisa_save
 
-abbrev pub sisaSaved : SaveReply → SisaSaved
-sisaSaved (saved n) = record { refusal = 0; length = n }
-sisaSaved (save-refused k) = record { refusal = k; length = 0 }
+abbrev pub sisaSaved : SaveReply → State → SisaSaved
+sisaSaved (saved n) s = record { state = s; refusal = 0; length = n }
+sisaSaved (save-refused k) s = record { state = s; refusal = k; length = 0 }
 
 pub record SisaSaveLeft : Type 0 where
   pub reply : SisaSaved
@@ -81,15 +83,15 @@ pub record SisaSaveLeft : Type 0 where
   pub destination : List ℕ
 
 abbrev pub saveInNumbers : SaveLeft → SisaSaveLeft
-saveInNumbers l = record { reply = sisaSaved (l .reply); P = l .P; D = l .D; destination = l .destination }
+saveInNumbers l = record { reply = sisaSaved (l .reply) (l .state); P = l .P; D = l .D; destination = l .destination }
 
 unfoldable pub sisaSaveLeft : SaveGiven → SisaSaveLeft
 sisaSaveLeft g = saveInNumbers (saveLeft g)
 
-abbrev pub SisaSaves : Slice → Slice → Slice → SisaSaved → Type 0
-SisaSaves program memory destination r =
+abbrev pub SisaSaves : State → Slice → Slice → Slice → SisaSaved → Type 0
+SisaSaves state program memory destination r =
     _≡_ {A = SisaSaveLeft} (record { reply = r; P = after program; D = after memory; destination = after destination })
-    (sisaSaveLeft (record { P = before program; D = before memory; destination = before destination }))
+    (sisaSaveLeft (lentToSave state program memory destination))
 
 -- ---- sisa_assemble
 

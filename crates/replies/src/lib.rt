@@ -26,6 +26,7 @@ use panel::Setting;
 use refusal::Refusal;
 use run::Answer;
 use run::Counted;
+use save::Saved;
 use save::Saving;
 use sheet::Fed;
 use sheet::Feeding;
@@ -92,6 +93,7 @@ pub struct SisaWindow {
 
 #[repr(C)]
 pub struct SisaSaved {
+    pub state: State,
     pub refusal: u8,
     pub length: usize,
 }
@@ -123,12 +125,19 @@ pub fn load(loaded: Loaded) -> SisaLoad
     }
 }
 
-pub fn save(saving: Saving) -> SisaSaved
-    ensures { λ r. ⌜ r ≡ sisaSaved (shownSaving saving) ⌝ }
+pub fn save(saved: Saved) -> SisaSaved
+    ensures { λ r. ⌜ r ≡ sisaSaved (shownSaving (saved .reply)) (saved .state) ⌝ }
 {
-    match saving {
-        Saving::Saved(length) => SisaSaved { refusal: 0, length },
+    let state = saved.state;
+    let reply = saved.reply;
+    match reply {
+        Saving::Written(length) => SisaSaved {
+            state,
+            refusal: 0,
+            length,
+        },
         Saving::Refused(refusal) => SisaSaved {
+            state,
             refusal: refusal::number(refusal),
             length: 0,
         },

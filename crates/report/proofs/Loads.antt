@@ -6,6 +6,7 @@ use mathlib.Core.List.{List}
 use lib.ListN.{length, replicate}
 use borrow.Author.Tests.{le-leb, lt-leb}
 use Rattle.refusal.specs.Refusals.{Verdict, accepted, refused}
+use Rattle.machine.specs.declared.Board.the-variants.{TwoMemories}
 use Rattle.image.specs.Image.{LoadLeft, loadLeft}
 use Rattle.control.specs.Control.{byTable}
 use Rattle.run.specs.Runs.{no-journal, given, runLeft}
@@ -18,7 +19,7 @@ unfolding printed
 too-long file h e = rw (lt-leb (length file) 65536 h) e
 
 module _ (file : List ℕ) {l : LoadLeft} (h : length file ≤ 65536)
-    (e : l ≡ loadLeft (record { file = file; P = replicate 65536 0; D = replicate 65536 0; I = replicate 256 0; O = replicate 256 0 })) where
+    (e : l ≡ loadLeft (record { file = file; board = TwoMemories; P = replicate 65536 0; D = replicate 65536 0; I = replicate 256 0; O = replicate 256 0 })) where
   loaded : {reply : Verdict} {r : Printed} → l .reply ≡ reply → r ≡ inArray (loadedBy reply l) → r ≡ inArray (printed file)
   unfolding printed
   loaded k p =

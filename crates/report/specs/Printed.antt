@@ -7,6 +7,7 @@ use Rattle.refusal.specs.Refusals.{Verdict, accepted, refused}
 use Rattle.word.specs.Word.{pick}
 use Rattle.token.specs.Ascii.{ascii}
 use Rattle.machine.specs.declared.State.{State}
+use Rattle.machine.specs.declared.Board.the-variants.{TwoMemories}
 use Rattle.image.specs.Image.{LoadLeft, loadLeft}
 use Rattle.control.specs.Control.{byTable}
 use Rattle.run.specs.Runs.{no-journal, given, RunReply, stopped, run-refused, Left, runLeft}
@@ -69,5 +70,5 @@ loadedBy (refused number) l = refusedLine number
 -- 8: the program's file exceeds 65,536 bytes. The program tests 8 before its load.
 unfoldable pub printed : List ℕ → List ℕ
 printed file =
-    let l = loadLeft (record { file = file; P = replicate 65536 0; D = replicate 65536 0; I = replicate 256 0; O = replicate 256 0 }) in
+    let l = loadLeft (record { file = file; board = TwoMemories; P = replicate 65536 0; D = replicate 65536 0; I = replicate 256 0; O = replicate 256 0 }) in
     pick (leb (length file) 65536) (loadedBy (l .reply) l) (refusedLine 8)

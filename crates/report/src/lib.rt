@@ -7,6 +7,7 @@ ghost use Rattle.run.specs.Runs.{no-journal, given, runLeft};
 ghost use Rattle.printing.specs.Text.{inArray};
 ghost use Rattle.report.specs.Printed.{refusedLine, ranLines, printed};
 use image::Loading;
+use machine::Board;
 use machine::State;
 use printing::Printed;
 use refusal::Refusal;
@@ -65,7 +66,14 @@ pub fn report(file: &[u8]) -> Printed
     let mut memory = [0u8; State::MEMORY_BYTES];
     let mut inputs = [0u16; State::PORTS];
     let mut outputs = [0u16; State::PORTS];
-    let loaded = image::load(file, &mut program, &mut memory, &mut inputs, &mut outputs);
+    let loaded = image::load(
+        file,
+        Board::TwoMemories,
+        &mut program,
+        &mut memory,
+        &mut inputs,
+        &mut outputs,
+    );
     let reply = loaded.reply;
     match reply {
         Loading::Accepted => run_loaded(

@@ -1,3 +1,3 @@
 mod Kept
 mod Writing
-pub mod Saved
+pub mod Files

@@ -6,8 +6,8 @@ use mathlib.Core.List.{List, _++_}
 use native.Mathlib.Omega.{arith}
 use lib.ListN.{length, take, drop, length-append, length-take}
 use lib.Seq.{take-at, drop-at, drop-drop}
-use Rattle.save.specs.Saved.{wordsKept, bytesKept, header, fileOf, savedFile, saved, save-refused, SaveGiven, SaveLeft, saveLeftBy, saveLeft}
-use Rattle.save.proofs.Saved.{file-length, Found, short, room, decided, replies, nothing-changes}
+use Rattle.save.specs.Saved.{wordsSaved, bytesKept, header, fileOf, savedFile, saved, save-refused, SaveGiven, SaveLeft, saveLeftBy, saveLeft}
+use Rattle.save.proofs.Files.{file-length, Found, short, room, decided, replies, nothing-changes}
 
 -- the memory begins with `front`, of n bytes, and is as it was after that
 pub record Begun (front old memory : List ℕ) (n : ℕ) : Type 0 where
@@ -36,32 +36,32 @@ module _ (P D old : List ℕ) (w c : ℕ) where
 
 module _ (g : SaveGiven) where
   pub refused-left : {k : ℕ} → Found g (save-refused k)
-      → _≡_ {A = SaveLeft} (record { reply = save-refused k; P = g .P; D = g .D; destination = g .destination }) (saveLeft g)
+      → _≡_ {A = SaveLeft} (record { reply = save-refused k; state = g .state; P = g .P; D = g .D; destination = g .destination }) (saveLeft g)
   refused-left f = sym (nothing-changes g _ (replies g f))
 
-  saved-left : {n : ℕ} {new : List ℕ} → Found g (saved n) → new ≡ savedFile (g .P) (g .D) ++ drop n (g .destination)
-      → _≡_ {A = SaveLeft} (record { reply = saved n; P = g .P; D = g .D; destination = new }) (saveLeft g)
+  saved-left : {n : ℕ} {new : List ℕ} → Found g (saved n) → new ≡ savedFile (g .state) (g .P) (g .D) ++ drop n (g .destination)
+      → _≡_ {A = SaveLeft} (record { reply = saved n; state = g .state; P = g .P; D = g .D; destination = new }) (saveLeft g)
   unfolding saveLeft
   saved-left {n} f e =
-      ap (λ (d : List ℕ). record { reply = saved n; P = g .P; D = g .D; destination = d }) e ∙ ap (λ r. saveLeftBy r g) (decided g f)
+      ap (λ (d : List ℕ). record { reply = saved n; state = g .state; P = g .P; D = g .D; destination = d }) e ∙ ap (λ r. saveLeftBy r g) (decided g f)
 
 -- where the memories have their lengths, with the numbers that the code computes
 
-module _ (g : SaveGiven) {w c : ℕ} (p : length (g .P) ≡ 65536) (d : length (g .D) ≡ 65536) (e : w ≡ wordsKept (g .P)) (f : c ≡ bytesKept (g .D)) where
-  end : 16 + 2 * w + c ≡ length (savedFile (g .P) (g .D))
-  end = rw (e, f) (sym (file-length (g .P) (g .D)))
+module _ (g : SaveGiven) {w c : ℕ} (p : length (g .P) ≡ 65536) (d : length (g .D) ≡ 65536) (e : w ≡ wordsSaved (g .state) (g .P)) (f : c ≡ bytesKept (g .D)) where
+  end : 16 + 2 * w + c ≡ length (savedFile (g .state) (g .P) (g .D))
+  end = rw (e, f) (sym (file-length (g .state) (g .P) (g .D)))
 
-  file : fileOf w c (g .P) (g .D) ≡ savedFile (g .P) (g .D)
+  file : fileOf w c (g .P) (g .D) ≡ savedFile (g .state) (g .P) (g .D)
   unfolding savedFile
-  file = ap (λ n. fileOf n c (g .P) (g .D)) e ∙ ap (λ n. fileOf (wordsKept (g .P)) n (g .P) (g .D)) f
+  file = ap (λ n. fileOf n c (g .P) (g .D)) e ∙ ap (λ n. fileOf (wordsSaved (g .state) (g .P)) n (g .P) (g .D)) f
 
   pub short-left : length (g .destination) < 16 + 2 * w + c
-      → _≡_ {A = SaveLeft} (record { reply = save-refused 9; P = g .P; D = g .D; destination = g .destination }) (saveLeft g)
+      → _≡_ {A = SaveLeft} (record { reply = save-refused 9; state = g .state; P = g .P; D = g .D; destination = g .destination }) (saveLeft g)
   short-left h = refused-left g (short (p, d) (rw end at h))
 
   pub written-left : {new : List ℕ} → 16 + 2 * w + c ≤ length (g .destination)
       → new ≡ fileOf w c (g .P) (g .D) ++ drop (16 + 2 * w + c) (g .destination)
-      → _≡_ {A = SaveLeft} (record { reply = saved (16 + 2 * w + c); P = g .P; D = g .D; destination = new }) (saveLeft g)
+      → _≡_ {A = SaveLeft} (record { reply = saved (16 + 2 * w + c); state = g .state; P = g .P; D = g .D; destination = new }) (saveLeft g)
   written-left h n =
-      let found : Found g (saved (length (savedFile (g .P) (g .D)))) = room (p, d) (rw end at h) in
+      let found : Found g (saved (length (savedFile (g .state) (g .P) (g .D)))) = room (p, d) (rw end at h) in
       saved-left g (rw (← end) at found) (n ∙ ap (λ l. l ++ drop (16 + 2 * w + c) (g .destination)) file)

@@ -1,4 +1,4 @@
--- Saving a trim file from the panel (02, L1).
+-- Saving a trim file from the panel (02, L1), of the board that the state names (02, L11).
 use Prim.Native.Nat.{ℕ, zero, suc, _+_, _*_, _/_, _%_}
 use mathlib.Core.Bool.{Bool, _&&_}
 use mathlib.Core.List.{List, [], _∷_, _++_}
@@ -7,10 +7,12 @@ use lib.Dec.{eqb, leb}
 use lib.ListN.{length, getD, take, drop}
 use Rattle.refusal.specs.Refusals.{refusalNumber}
 use Rattle.word.specs.Word.{pick}
-use Rattle.machine.specs.Machine.{wordAt}
+use Rattle.machine.specs.declared.State.{State}
+use Rattle.machine.specs.Machine.{isSingle, wordAt}
 use Rattle.machine.specs.Slices.{Slice, before, after}
+use Rattle.save.specs.declared.Saved.{Saved}
 use Rattle.save.specs.declared.Saving.{Saving}
-use Rattle.save.specs.declared.Saving.the-variants.{Saved, Refused}
+use Rattle.save.specs.declared.Saving.the-variants.{Written, Refused}
 
 -- ---- The file
 
@@ -39,9 +41,13 @@ header w c = bytes32 w ++ bytes32 16 ++ bytes32 c ++ bytes32 (16 + 2 * w)
 abbrev pub fileOf : ℕ → ℕ → List ℕ → List ℕ → List ℕ
 fileOf w c P D = header w c ++ take (2 * w) P ++ take c D
 
+-- L1's call now also gets the state and saves the new board's data memory as data with W zero.
+abbrev pub wordsSaved : State → List ℕ → ℕ
+wordsSaved s P = pick (isSingle s) 0 (wordsKept P)
+
 -- Write a trim file from program and data memory.
-unfoldable pub savedFile : List ℕ → List ℕ → List ℕ
-savedFile P D = fileOf (wordsKept P) (bytesKept D) P D
+unfoldable pub savedFile : State → List ℕ → List ℕ → List ℕ
+savedFile s P D = fileOf (wordsSaved s P) (bytesKept D) P D
 
 -- ---- The call
 
@@ -51,16 +57,18 @@ pub data SaveReply : Type 0 where
   save-refused : ℕ → SaveReply
 
 abbrev pub shownSaving : Saving → SaveReply
-shownSaving (Saved n) = saved n
+shownSaving (Written n) = saved n
 shownSaving (Refused r) = save-refused (refusalNumber r)
 
 pub record SaveGiven : Type 0 where
+  pub state : State
   pub P : List ℕ
   pub D : List ℕ
   pub destination : List ℕ
 
 pub record SaveLeft : Type 0 where
   pub reply : SaveReply
+  pub state : State
   pub P : List ℕ
   pub D : List ℕ
   pub destination : List ℕ
@@ -72,21 +80,36 @@ memoriesFit P D = eqb (length P) 65536 && eqb (length D) 65536
 -- Turned away: 9, destination shorter than the file, after 1. Otherwise the file's length is returned.
 unfoldable pub saveReply : SaveGiven → SaveReply
 saveReply g =
-    let size = length (savedFile (g .P) (g .D)) in
+    let size = length (savedFile (g .state) (g .P) (g .D)) in
     pick (memoriesFit (g .P) (g .D)) (pick (leb size (length (g .destination))) (saved size) (save-refused 9)) (save-refused 1)
 
 -- The destination begins with the file, and its unused end keeps its bytes. Nothing else lent changes, and in a refused
--- call nothing does.
+-- call nothing does. The state comes back as it was.
 abbrev pub saveLeftBy : SaveReply → SaveGiven → SaveLeft
 saveLeftBy (saved n) g =
-    record { reply = saved n; P = g .P; D = g .D; destination = savedFile (g .P) (g .D) ++ drop n (g .destination) }
-saveLeftBy (save-refused k) g = record { reply = save-refused k; P = g .P; D = g .D; destination = g .destination }
+    record {
+      reply = saved n;
+      state = g .state;
+      P = g .P;
+      D = g .D;
+      destination = savedFile (g .state) (g .P) (g .D) ++ drop n (g .destination);
+    }
+saveLeftBy (save-refused k) g =
+    record { reply = save-refused k; state = g .state; P = g .P; D = g .D; destination = g .destination }
 
 unfoldable pub saveLeft : SaveGiven → SaveLeft
 saveLeft g = saveLeftBy (saveReply g) g
 
--- the contract, of save's parameters in their order and what it replies
-abbrev pub Saves : Slice → Slice → Slice → Saving → Type 0
-Saves program memory destination r =
-    _≡_ {A = SaveLeft} (record { reply = shownSaving r; P = after program; D = after memory; destination = after destination })
-    (saveLeft (record { P = before program; D = before memory; destination = before destination }))
+-- ---- The contract, of save's parameters in their order and what it replies
+
+abbrev pub lentToSave : State → Slice → Slice → Slice → SaveGiven
+lentToSave state program memory destination =
+    record { state = state; P = before program; D = before memory; destination = before destination }
+
+abbrev pub savedWith : SaveReply → State → Slice → Slice → Slice → SaveLeft
+savedWith reply state program memory destination =
+    record { reply = reply; state = state; P = after program; D = after memory; destination = after destination }
+
+abbrev pub Saves : State → Slice → Slice → Slice → Saved → Type 0
+Saves state program memory destination r =
+    savedWith (shownSaving (r .reply)) (r .state) program memory destination ≡ saveLeft (lentToSave state program memory destination)

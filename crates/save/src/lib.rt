@@ -4,15 +4,21 @@ ghost use mathlib.Core.List.{_++_};
 ghost use Prim.Native.Nat.{_+_, _*_, _<_, _≤_};
 ghost use lib.Dec.{eqb};
 ghost use lib.ListN.{length, getD, take, drop};
-ghost use Rattle.save.specs.Saved.{kept, wordsKept, bytesKept, header, fileOf, Saves};
+ghost use Rattle.save.specs.Saved.{kept, wordsKept, wordsSaved, bytesKept, header, fileOf, shownSaving, saveLeft, lentToSave, savedWith, Saves};
 use block::copy;
 use image::HEADER_BYTES;
 use machine::State;
 use refusal::Refusal;
 
 pub enum Saving {
-    Saved(usize),
+    Written(usize),
     Refused(Refusal),
+}
+
+// What a save replies: the state as it was handed, and the file's length or the refusal.
+pub struct Saved {
+    pub state: State,
+    pub reply: Saving,
 }
 
 // Trailing zeros are dropped block by block, then byte by byte.
@@ -112,9 +118,21 @@ fn write(program: &[u8], memory: &[u8], words: usize, bytes: usize, destination:
     put_at(memory, bytes, destination, HEADER_BYTES + 2 * words);
 }
 
-// The trim file of both memories, without trailing zeros, at the front of the destination; its unused end keeps its bytes.
-pub fn save(program: &[u8], memory: &[u8], destination: &mut [u8]) -> Saving
-    ensures { λ r. ⌜ Saves program memory destination r ⌝ }
+// How many words of the program the file has: on the single-memory board none.
+fn words_saved(state: State, program: &[u8]) -> usize
+    requires { ⌜ length (now program) ≡ 65536 ⌝ }
+    ensures { λ r. ⌜ (r ≡ wordsSaved state (now (program .entry))) × (r ≤ 32768) ⌝ }
+{
+    if state.board == 0 {
+        words_kept(program)
+    } else {
+        0
+    }
+}
+
+// The reply, and the file in the destination.
+fn written(state: State, program: &[u8], memory: &[u8], destination: &mut [u8]) -> Saving
+    ensures { λ r. ⌜ savedWith (shownSaving r) state program memory destination ≡ saveLeft (lentToSave state program memory destination) ⌝ }
 {
     if program.len() != State::MEMORY_BYTES {
         return Saving::Refused(Refusal::LentLength);
@@ -122,12 +140,21 @@ pub fn save(program: &[u8], memory: &[u8], destination: &mut [u8]) -> Saving
     if memory.len() != State::MEMORY_BYTES {
         return Saving::Refused(Refusal::LentLength);
     }
-    let words = words_kept(program);
+    let words = words_saved(state, program);
     let bytes = bytes_kept(memory);
     let end = HEADER_BYTES + 2 * words + bytes;
     if destination.len() < end {
         return Saving::Refused(Refusal::ShortDestination);
     }
     write(program, memory, words, bytes, destination);
-    Saving::Saved(end)
+    Saving::Written(end)
+}
+
+// The trim file of both memories, on the single-memory board of data memory alone, without trailing zeros, at the front of the
+// destination; its unused end keeps its bytes.
+pub fn save(state: State, program: &[u8], memory: &[u8], destination: &mut [u8]) -> Saved
+    ensures { λ r. ⌜ Saves state program memory destination r ⌝ }
+{
+    let reply = written(state, program, memory, destination);
+    Saved { state, reply }
 }

@@ -2,9 +2,10 @@
 -- Assumes nothing.
 use Prim.Native.Nat.{ℕ}
 use mathlib.Core.List.{List}
-use mathlib.Core.Path.{_≡_, ap}
+use mathlib.Core.Path.{_≡_, ap, _∙_}
 use Rattle.refusal.specs.Refusals.{Verdict}
 use Rattle.machine.specs.declared.State.{State}
+use Rattle.machine.specs.declared.Board.{Board}
 use Rattle.machine.specs.Run.{Stepper}
 use Rattle.panel.specs.Calls.{SetGiven, SetLeft, setLeft}
 use Rattle.image.specs.Image.{LoadGiven, LoadLeft, loadLeft}
@@ -20,6 +21,12 @@ use Rattle.replies.specs.declared.SisaRun.{SisaRun}
 use Rattle.replies.specs.declared.SisaBack.{SisaBack}
 use Rattle.replies.specs.Sisa.{sisaLoad, SisaLoadLeft, loadInNumbers, sisaLoadLeft, sisaSaved, SisaSaveLeft, saveInNumbers, sisaSaveLeft, sisaAssembly, SisaAssembleLeft, assemblyInNumbers, sisaAssembleLeft, verdictNumber, SisaSetLeft, setInNumbers, sisaSetLeft, sisaRun, sisaLeft, runInNumbers, sisaRunLeft, SisaRunMeets, sisaBack, SisaBackLeft, backInNumbers, sisaBackLeft}
 
+-- the board that a number names
+pub board-load : (file P D I O : List ℕ) {b b′ : Board} {l : LoadLeft} → b ≡ b′
+    → l ≡ loadLeft (record { file = file; board = b; P = P; D = D; I = I; O = O })
+    → l ≡ loadLeft (record { file = file; board = b′; P = P; D = D; I = I; O = O })
+board-load file P D I O e l = l ∙ ap (λ (b : Board). loadLeft (record { file = file; board = b; P = P; D = D; I = I; O = O })) e
+
 pub load-meets : (g : LoadGiven) {reply : Verdict} {state : State} {P D I O : List ℕ} {r : SisaLoad}
     → _≡_ {A = LoadLeft} (record { reply = reply; state = state; P = P; D = D; I = I; O = O }) (loadLeft g)
     → r ≡ sisaLoad reply state
@@ -27,9 +34,9 @@ pub load-meets : (g : LoadGiven) {reply : Verdict} {state : State} {P D I O : Li
 unfolding sisaLoadLeft
 load-meets g e h = rw h (ap loadInNumbers e)
 
-pub save-meets : (g : SaveGiven) {reply : SaveReply} {P D destination : List ℕ} {r : SisaSaved}
-    → _≡_ {A = SaveLeft} (record { reply = reply; P = P; D = D; destination = destination }) (saveLeft g)
-    → r ≡ sisaSaved reply
+pub save-meets : (g : SaveGiven) {reply : SaveReply} {state : State} {P D destination : List ℕ} {r : SisaSaved}
+    → _≡_ {A = SaveLeft} (record { reply = reply; state = state; P = P; D = D; destination = destination }) (saveLeft g)
+    → r ≡ sisaSaved reply state
     → _≡_ {A = SisaSaveLeft} (record { reply = r; P = P; D = D; destination = destination }) (sisaSaveLeft g)
 unfolding sisaSaveLeft
 save-meets g e h = rw h (ap saveInNumbers e)

@@ -24,23 +24,36 @@ pub mod host;
 #[no_mangle]
 pub extern "C" fn sisa_load(
     file: &[u8],
+    board: u8,
     program: &mut [u8],
     memory: &mut [u8],
     inputs: &mut [u16],
     outputs: &mut [u16],
 ) -> SisaLoad
-    ensures { λ r. ⌜ SisaLoads file program memory inputs outputs r ⌝ }
+    ensures { λ r. ⌜ SisaLoads file board program memory inputs outputs r ⌝ }
 {
-    let loaded = image::load(file, program, memory, inputs, outputs);
+    let loaded = image::load(
+        file,
+        machine::board_of(board),
+        program,
+        memory,
+        inputs,
+        outputs,
+    );
     replies::load(loaded)
 }
 
 #[no_mangle]
-pub extern "C" fn sisa_save(program: &[u8], memory: &[u8], destination: &mut [u8]) -> SisaSaved
-    ensures { λ r. ⌜ SisaSaves program memory destination r ⌝ }
+pub extern "C" fn sisa_save(
+    state: State,
+    program: &[u8],
+    memory: &[u8],
+    destination: &mut [u8],
+) -> SisaSaved
+    ensures { λ r. ⌜ SisaSaves state program memory destination r ⌝ }
 {
-    let saving = save::save(program, memory, destination);
-    replies::save(saving)
+    let saved = save::save(state, program, memory, destination);
+    replies::save(saved)
 }
 
 #[no_mangle]

@@ -7,8 +7,10 @@ use native.Mathlib.Omega.{arith}
 use lib.ListN.{length, replicate}
 use Rattle.printing.specs.declared.Printed.{Printed}
 use Rattle.printing.proofs.Writing.{count-fits}
+use Rattle.machine.specs.declared.State.{State}
+use Rattle.machine.specs.Machine.{reset}
 use Rattle.save.specs.Saved.{SaveReply, saved, save-refused, SaveGiven, SaveLeft, saveLeft}
-use Rattle.save.proofs.Saved.{saves}
+use Rattle.save.proofs.Files.{saves}
 use Rattle.assembler.specs.Text.{Reply, words, text-refused, AssembleLeft, assembleLeft}
 use Rattle.diagnostic.specs.Diagnostic.{diagnosticOf}
 use Rattle.trimfile.specs.declared.Trim.{Trim}
@@ -21,16 +23,19 @@ pub left-is : {t t′ : Trim} {d : List ℕ} → t ≡ t′ → _≡_ {A = FileL
 left-is {d} e = ap (λ (x : Trim). record { trim = x; destination = d }) e
 
 -- what the save is given
-abbrev givenBy : List ℕ → List ℕ → SaveGiven
-givenBy P destination = record { P = P; D = replicate 65536 0; destination = destination }
+abbrev givenIn : State → List ℕ → List ℕ → SaveGiven
+givenIn s P destination = record { state = s; P = P; D = replicate 65536 0; destination = destination }
 
-pub by-save : (text P destination : List ℕ) {s : SaveLeft} {x : SaveReply} {t : Trim}
-    → s ≡ saveLeft (givenBy P destination) → s .reply ≡ x → t ≡ savedBy text x
+abbrev givenBy : List ℕ → List ℕ → SaveGiven
+givenBy P destination = givenIn reset P destination
+
+pub by-save : (text P destination : List ℕ) {state : State} {s : SaveLeft} {x : SaveReply} {t : Trim}
+    → state ≡ reset → s ≡ saveLeft (givenIn state P destination) → s .reply ≡ x → t ≡ savedBy text x
     → _≡_ {A = FileLeft} (record { trim = t; destination = s .destination }) (savedLeft text P destination)
 unfolding savedLeft
-by-save text P destination {s} e k p =
+by-save text P destination {s = s} z e k p =
     left-is (p ∙ ap (savedBy text) (sym k))
-    ∙ ap (λ (s : SaveLeft). record { trim = savedBy text (s .reply); destination = s .destination }) e
+    ∙ ap (λ (s : SaveLeft). record { trim = savedBy text (s .reply); destination = s .destination }) (e ∙ ap (λ (z : State). saveLeft (givenIn z P destination)) z)
 
 pub by-assembly : (text destination : List ℕ) {a : AssembleLeft} {x : Reply} {l : FileLeft}
     → a ≡ assembleLeft text (replicate 65536 0) → a .reply ≡ x → l ≡ assembledBy text x (a .program) destination → l ≡ fileLeft text destination

@@ -3,6 +3,7 @@ use Prim.Native.Nat.{ℕ}
 use mathlib.Core.List.{List, []}
 use lib.ListN.{replicate}
 use Rattle.printing.specs.Text.{inArray}
+use Rattle.machine.specs.Machine.{reset}
 use Rattle.save.specs.Saved.{SaveReply, saved, save-refused, saveLeft}
 use Rattle.assembler.specs.Text.{Reply, words, text-refused, assembleLeft}
 use Rattle.diagnostic.specs.Diagnostic.{diagnosticOf}
@@ -22,10 +23,10 @@ abbrev pub savedBy : List ℕ → SaveReply → Trim
 savedBy text (saved n) = record { length = n; diagnostic = inArray [] }
 savedBy text (save-refused number) = turnedAway text 0 number
 
--- the program is saved with a data memory of zeros
+-- the program is saved with a data memory of zeros, for the board with two memories
 unfoldable pub savedLeft : List ℕ → List ℕ → List ℕ → FileLeft
 savedLeft text program destination =
-    let s = saveLeft (record { P = program; D = replicate 65536 0; destination = destination }) in
+    let s = saveLeft (record { state = reset; P = program; D = replicate 65536 0; destination = destination }) in
     record { trim = savedBy text (s .reply); destination = s .destination }
 
 abbrev pub assembledBy : List ℕ → Reply → List ℕ → List ℕ → FileLeft

@@ -32,9 +32,10 @@ fn saved(text: &[u8], program: &[u8], destination: &mut [u8]) -> Trim
     ensures { λ r. ⌜ _≡_ {A = FileLeft} (record { trim = r; destination = now (destination .exit) }) (savedLeft (now (text .entry)) (now (program .entry)) (now (destination .entry))) ⌝ }
 {
     let memory = [0u8; State::MEMORY_BYTES];
-    let saving = save::save(program, &memory, destination);
-    match saving {
-        Saving::Saved(length) => Trim {
+    let saved = save::save(State::reset(), program, &memory, destination);
+    let reply = saved.reply;
+    match reply {
+        Saving::Written(length) => Trim {
             length,
             diagnostic: Printed::empty(),
         },

@@ -3,6 +3,7 @@
 //! Sentences in quotation marks are that page's.
 
 mod backs;
+mod boards;
 mod calls;
 mod files;
 mod host;
@@ -12,6 +13,7 @@ mod saves;
 mod tables;
 pub mod texts;
 
+pub use boards::storing_file;
 pub use calls::lines;
 pub use files::file;
 pub use keys::key_file;

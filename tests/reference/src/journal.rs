@@ -4,7 +4,7 @@
 //! Sentences in quotation marks are L7's unless L8 is named before them.
 
 use crate::instruction::{read, Instruction, Kind};
-use crate::machine::{data_word, reads_key, store_data_word, word, Places, State};
+use crate::machine::{data_word, reads_key, store_data_word, Places, State};
 use crate::masks::{masks, registers};
 use crate::number::modulo16;
 
@@ -140,7 +140,7 @@ impl Parts {
 pub fn entry(state: &State, places: &Places) -> u64 {
     let parts = Parts {
         pc: state.pc,
-        overwritten: Overwritten::by(word(places.p, state.pc), state, places),
+        overwritten: Overwritten::by(places.fetch(state), state, places),
     };
     parts.coded()
 }

@@ -1,6 +1,6 @@
 //! The SISA trim processor of paper 01, the SISA reference sheet (004) and
-//! requests L1, L2 and L4 to L9 of paper 02, written from those papers alone, to
-//! be compared with another build.
+//! requests L1, L2, L4 to L9 and L11 of paper 02, written from those papers alone,
+//! to be compared with another build.
 //!
 //! Sentences in quotation marks are paper 01's unless "Sheet" or a request is
 //! named before them.

@@ -1,6 +1,6 @@
 //! Loading a trim file.
 
-use crate::machine::{State, MEMORY, PORTS};
+use crate::machine::{Memories, State, MEMORY, PORTS};
 
 /// "four 32-bit little-endian numbers: W program words, their offset, C data
 /// bytes, their offset"
@@ -54,18 +54,31 @@ pub fn parts(file: &[u8]) -> Result<(&[u8], &[u8]), u8> {
     Ok((program, data))
 }
 
-/// "Loading copies them to P[0..] and D[0..], zeroes all other memory and
-/// ports": here one memory.
-fn fill(memory: &mut [u8], part: &[u8]) {
-    for (at, place) in memory.iter_mut().enumerate() {
-        *place = part.get(at).copied().unwrap_or(0);
+/// What the memories hold from address 0 on, P's part first.
+fn contents(board: Memories, program: &[u8], data: &[u8]) -> Result<[Vec<u8>; 2], u8> {
+    match board {
+        // "Loading copies them to P[0..] and D[0..]"
+        Memories::Two => Ok([program.to_vec(), data.to_vec()]),
+        // L11: "15, new board and 2W plus C over 65,536, after 4"
+        Memories::Single if program.len() + data.len() > 65_536 => Err(15),
+        // L11: "On the new one the program part goes to address 0, the data part to
+        // address 2W, the lent program memory is zeroed"
+        Memories::Single => Ok([Vec::new(), [program, data].concat()]),
     }
 }
 
-/// Loads a file and "returns a reset machine", or the refusal's number.
-/// "Order is by number: load 1 to 4". "Nothing lent changes" on a refusal.
+/// The content, and "zeroes all other memory": here one memory.
+fn fill(memory: &mut [u8], content: &[u8]) {
+    for (at, place) in memory.iter_mut().enumerate() {
+        *place = content.get(at).copied().unwrap_or(0);
+    }
+}
+
+/// Loads a file for a board and "returns a reset machine", or the refusal's number.
+/// "Order is by number: load 1 to 4", then 15. "Nothing lent changes" on a refusal.
 pub fn load(
     file: &[u8],
+    board: Memories,
     p: &mut [u8],
     d: &mut [u8],
     i: &mut [u16],
@@ -76,9 +89,13 @@ pub fn load(
         return Err(1);
     }
     let (program, data) = parts(file)?;
-    fill(p, program);
-    fill(d, data);
+    let [of_p, of_d] = contents(board, program, data)?;
+    fill(p, &of_p);
+    fill(d, &of_d);
     i.fill(0);
     o.fill(0);
-    Ok(State::reset())
+    Ok(State {
+        board: board.number(),
+        ..State::reset()
+    })
 }

@@ -16,18 +16,56 @@ pub struct State {
     pub n: u32,
     /// L7: "The state counts these entries", those of the journal.
     pub journaled: u64,
+    /// L11: "The board is named at load [...] and kept in the state." A host may
+    /// hand in any byte.
+    pub board: u8,
+}
+
+/// The boards: L11's "new board fetches from data memory [...]; older boards stay in
+/// use".
+#[derive(Clone, Copy, Debug, PartialEq, Eq)]
+pub enum Memories {
+    /// An older board.
+    Two,
+    /// "The single-memory board."
+    Single,
+}
+
+impl Memories {
+    /// By its number, in a load's argument and in the state: "0 two memories, any
+    /// other the single memory" (the issue).
+    pub fn of(board: u8) -> Memories {
+        match board {
+            0 => Memories::Two,
+            _ => Memories::Single,
+        }
+    }
+
+    /// The number that a load puts into the state.
+    pub fn number(self) -> u8 {
+        match self {
+            Memories::Two => 0,
+            Memories::Single => 1,
+        }
+    }
 }
 
 impl State {
     /// "A reset machine has every register, PC and n at zero." L7's count is
-    /// "from 0 at a load".
+    /// "from 0 at a load". Of an older board.
     pub fn reset() -> State {
         State {
             r: [0; 8],
             pc: 0,
             n: 0,
             journaled: 0,
+            board: 0,
         }
+    }
+
+    /// The board that the state names.
+    pub fn memories(&self) -> Memories {
+        Memories::of(self.board)
     }
 }
 
@@ -58,6 +96,20 @@ impl<'a> Places<'a> {
             o: lent.o.try_into().ok()?,
         })
     }
+
+    /// The memory that holds the instructions: P, or by L11 D, where "a store may
+    /// change the instruction that follows".
+    fn fetch_memory(&self, board: Memories) -> &[u8; MEMORY] {
+        match board {
+            Memories::Two => self.p,
+            Memories::Single => self.d,
+        }
+    }
+
+    /// The word at PC.
+    pub fn fetch(&self, state: &State) -> u16 {
+        word(self.fetch_memory(state.memories()), state.pc)
+    }
 }
 
 /// What a step leaves: the state, and the entry that L gains, if any.
@@ -67,10 +119,10 @@ pub struct Stepped {
     pub entry: Option<u64>,
 }
 
-/// "w is P[PC] + 256 times P[PC+1]."
-pub fn word(p: &[u8; MEMORY], pc: u16) -> u16 {
-    let low = p[usize::from(pc)];
-    let high = p[usize::from(modulo16(i64::from(pc) + 1))];
+/// "w is P[PC] + 256 times P[PC+1]", of the fetch memory.
+fn word(fetch_memory: &[u8; MEMORY], pc: u16) -> u16 {
+    let low = fetch_memory[usize::from(pc)];
+    let high = fetch_memory[usize::from(modulo16(i64::from(pc) + 1))];
     u16::from(low) + 256 * u16::from(high)
 }
 
@@ -261,7 +313,7 @@ impl Fields {
 /// One step, or None: "If w is unassigned, no step is possible." L6: "the plain
 /// machine so widened, which can't step on a zero divisor".
 pub fn step(state: State, places: &mut Places) -> Option<Stepped> {
-    let w = word(places.p, state.pc);
+    let w = places.fetch(&state);
     if !assigned(w) || zero_divisor(w, &state) {
         return None;
     }

@@ -2,7 +2,7 @@
 
 use crate::control::{self, control_word, Table};
 use crate::journal::{self, Journal};
-use crate::machine::{self, word, Lent, Places, State, Stepped};
+use crate::machine::{self, Lent, Places, State, Stepped};
 use crate::ticks::ticks;
 use crate::usage::Usage;
 
@@ -61,7 +61,7 @@ impl Engine<'_> {
         match self {
             Engine::Rules => machine::step(state, places),
             Engine::Table(table) => {
-                let w = word(places.p, state.pc);
+                let w = places.fetch(&state);
                 control::step(control_word(table, w), w, state, places)
             }
         }
@@ -140,7 +140,7 @@ impl Returned {
     /// sum of these over the steps the plain machine took".
     fn count_steps(&mut self, mut state: State, places: &mut Places) {
         for _ in 0..self.reply.steps() {
-            self.count(word(places.p, state.pc));
+            self.count(places.fetch(&state));
             state = machine::step(state, places).map_or(state, |stepped| stepped.state);
         }
     }
@@ -207,7 +207,7 @@ fn admitted(
         if steps == budget || journal::is_full(&journal, &state) {
             break 0;
         }
-        let w = word(places.p, state.pc);
+        let w = places.fetch(&state);
         let free_place = (entries as usize) < log.len();
         if let Some(stop) = engine.stop(w, &state, free_place) {
             break stop;

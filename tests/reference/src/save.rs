@@ -1,8 +1,9 @@
-//! Saving a trim file, as document 02's request L1 says.
+//! Saving a trim file, as document 02's request L1 says, and of the single-memory
+//! board as L11 does.
 //!
-//! Sentences in quotation marks are that request's.
+//! Sentences in quotation marks are L1's unless L11 is named before them.
 
-use crate::machine::MEMORY;
+use crate::machine::{Memories, State, MEMORY};
 
 /// A file of these parts: "program at offset 16, data straight after it".
 pub fn file_of(program: &[u8], data: &[u8]) -> Vec<u8> {
@@ -24,15 +25,21 @@ fn trimmed(memory: &[u8], size: usize) -> &[u8] {
 }
 
 /// "Write a trim file from program and data memory and return its length", or
-/// the refusal's number. "The unused end of the destination keeps its bytes."
-pub fn save(p: &[u8], d: &[u8], destination: &mut [u8]) -> Result<usize, u8> {
+/// the refusal's number. "The unused end of the destination keeps its bytes." L11:
+/// "L1's call now also gets the state", which stays as it is.
+pub fn save(state: &State, p: &[u8], d: &[u8], destination: &mut [u8]) -> Result<usize, u8> {
     // 01's "1 | P or D not 65,536 bytes"
     if p.len() != MEMORY || d.len() != MEMORY {
         return Err(1);
     }
     // "Trailing zero words of the program and trailing zero bytes of the data
     // are dropped."
-    let file = file_of(trimmed(p, 2), trimmed(d, 1));
+    let program = match state.memories() {
+        Memories::Two => trimmed(p, 2),
+        // L11: "saves the new board's data memory as data with W zero"
+        Memories::Single => &[],
+    };
+    let file = file_of(program, trimmed(d, 1));
     // "9, destination shorter than the file, after 1"
     let Some(start) = destination.get_mut(..file.len()) else {
         return Err(9);

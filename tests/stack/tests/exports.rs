@@ -22,6 +22,7 @@ const RESET: State = State {
     pc: 0,
     n: 0,
     journaled: 0,
+    board: 0,
 };
 
 /// A loop with all 30 kinds of instruction; a semicolon stands for a newline.
@@ -97,15 +98,15 @@ fn files() -> Vec<Call> {
     for (what, fill, length) in [("full memories", 7, FILE_BYTES), ("empty memories", 0, 16)] {
         let mut world = World::new(fill);
         let mut file = vec![0; FILE_BYTES];
-        let reply = ffi::save(&world.program, &world.memory, &mut file);
+        let reply = ffi::save(RESET, &world.program, &world.memory, &mut file);
         assert_eq!(reply.length, length);
         let saved = file[..length].to_vec();
         let (program, memory) = (world.program.clone(), world.memory.clone());
         calls.push(call("sisa_load", what, move || {
-            ffi::load(&saved, &mut world.lent()).refusal == 0
+            ffi::load(&saved, 0, &mut world.lent()).refusal == 0
         }));
         calls.push(call("sisa_save", what, move || {
-            ffi::save(&program, &memory, &mut file).length == length
+            ffi::save(RESET, &program, &memory, &mut file).length == length
         }));
     }
     calls

@@ -25,4 +25,5 @@ main-spec =
     (λ c. omega arith)
     (λ c. omega arith)
     (λ c. tt)
+    (λ c κs. tt)
     (λ c. tt))

@@ -35,14 +35,14 @@ loop-holds : tie.Need-loop-holds Inv-loop μ-loop
 loop-holds c = let p = c .before .before .before .before .before .before .before .pre in start _ _ _ _ _ refl (p .0) (p .1)
 
 fetch-requires : tie.Need-fetch-requires Inv-loop μ-loop
-fetch-requires c κs = let v = c .before .loop .inv in (v .program, v .even)
+fetch-requires c κs = let v = c .before .before .loop .inv in (v .program, v .memory, v .even)
 
 entry-requires : tie.Need-entry-requires Inv-loop μ-loop
-entry-requires c κs = let v = c .before .before .before .before .before .before .loop .inv in (v .memory, v .inputs, v .outputs)
+entry-requires c κs = let v = c .before .before .before .before .before .before .before .loop .inv in (v .memory, v .inputs, v .outputs)
 
 step-requires : tie.Need-step-requires Inv-loop μ-loop
 step-requires c κs =
-    let l = c .before .before .before .before .before .before in
+    let l = c .before .before .before .before .before .before .before in
     let a = l .before .before .before .before .before .before .before .before .before .args in
     ready (a .by-table) (a .table .now) (l .before .loop .inv) (l .loop-test .taken)
 
@@ -50,7 +50,7 @@ ending-requires : tie.Need-ending-requires Inv-loop μ-loop
 ending-requires c κs =
     let k = c .before .before .before .before .before .before .before .before .before .before .before in
     let f = k .before .before .before .before .before .before in
-    let l = f .before in
+    let l = f .before .before in
     let a = l .before .before .before .before .before .before .before .before .before .args in
     journaled-stopped (a .by-table) (a .table .now) (l .before .loop .inv) (l .loop-test .taken) (f .fetch .ensures) (k .step .ensures) (c .if2 .taken)
 
@@ -58,36 +58,36 @@ returns : tie.Need-returns Inv-loop μ-loop
 returns c =
     let k = c .before .before .before .before .before .before .before .before .before .before .before .before in
     let f = k .before .before .before .before .before .before in
-    let l = f .before in
+    let l = f .before .before in
     let a = l .before .before .before .before .before .before .before .before .before .args in
     ends-stopped (a .by-table) (a .table .now) (l .before .loop .inv) (l .loop-test .taken) (f .fetch .ensures) (k .step .ensures) (c .before .if2 .taken)
     (c .ending .ensures)
 
 tally-requires : tie.Need-tally-requires Inv-loop μ-loop
 tally-requires c κs =
-    let l = c .before .before .before .before .before .before .before .before .before .before .before .before .before .before .before .before .before .before .before .before .before .before .before in
+    let l = c .before .before .before .before .before .before .before .before .before .before .before .before .before .before .before .before .before .before .before .before .before .before .before .before in
     let a = l .before .before .before .before .before .before .before .before .before .args in
     room (a .by-table) (a .table .now) (l .before .loop .inv) (l .loop-test .taken)
 
 add-counts : tie.Need-add-counts Inv-loop μ-loop
 add-counts c =
-    let l = c .before .before .before .before .before .before .before .before .before .before .before .before .before .before .before .before .before .before .before .before .before .before in
+    let l = c .before .before .before .before .before .before .before .before .before .before .before .before .before .before .before .before .before .before .before .before .before .before .before in
     let a = l .before .before .before .before .before .before .before .before .before .args in
     record { fits = omega (arith, place-room (a .by-table) (a .table .now) (l .before .loop .inv) (l .loop-test .taken) (c .before .place-of .result)) }
 
 add-place : tie.Need-add-place Inv-loop μ-loop
-add-place c = let l = c .before .before .before .before .before .before .before .before .before .before .before .before .before .before .before .before .before .before .before in record { fits = omega (arith, l .before .loop .inv .fits, l .loop-test .taken) }
+add-place c = let l = c .before .before .before .before .before .before .before .before .before .before .before .before .before .before .before .before .before .before .before .before in record { fits = omega (arith, l .before .loop .inv .fits, l .loop-test .taken) }
 
 mul-journal : tie.Need-mul-journal Inv-loop μ-loop
 mul-journal c =
-    let l = c .before .before .before .before .before .before .before .before .before .before .before .before .before .before .before .before .before .before .before in
+    let l = c .before .before .before .before .before .before .before .before .before .before .before .before .before .before .before .before .before .before .before .before in
     let a = l .before .before .before .before .before .before .before .before .before .args in
     let v = l .before .loop .inv in
     record { fits = omega (arith, journal-room (a .by-table) (a .table .now) v (l .loop-test .taken) (c .if3 .taken), v .keeping .same-length, l .before .before .before .before .before .before .before .before .before .good .1 .1 .1 .1 .1 .1 .1 .1 .1 .1 .0 .1) }
 
 slice-write-journal : tie.Need-slice-write-journal Inv-loop μ-loop
 slice-write-journal c =
-    let l = c .before .before .before .before .before .before .before .before .before .before .before .before .before .before .before .before .before .before .before in
+    let l = c .before .before .before .before .before .before .before .before .before .before .before .before .before .before .before .before .before .before .before .before in
     let a = l .before .before .before .before .before .before .before .before .before .args in
     journal-room (a .by-table) (a .table .now) (l .before .loop .inv) (l .loop-test .taken) (c .if3 .taken)
 
@@ -97,7 +97,7 @@ loop-again c =
     let k = e .before .before .before .before .before .before .before .before .before .before .before in
     let j = k .before .before .before .before .before in
     let f = j .before in
-    let l = f .before in
+    let l = f .before .before in
     let a = l .before .before .before .before .before .before .before .before .before .args in
     let v = l .before .loop .inv in
     turns (a .by-table) (a .table .now) v (l .loop-test .taken) (f .fetch .ensures) (k .step .ensures) (e .if2 .left)
@@ -129,12 +129,12 @@ run-accepted-spec =
     entry-requires
     step-requires
     ending-requires
-    (λ c. let k = c .before .before .before .before .before .before .before .before .before .before .before .before in k .step .kept .1 .1 .1 .1 .0 ∙ k .before .before .before .before .before .before .before .before .loop .inv .memory-kept)
-    (λ c. let k = c .before .before .before .before .before .before .before .before .before .before .before .before in k .step .kept .1 .1 .1 .1 .1 .0 ∙ k .before .before .before .before .before .before .before .before .loop .inv .inputs-kept)
-    (λ c. let k = c .before .before .before .before .before .before .before .before .before .before .before .before in k .step .kept .1 .1 .1 .1 .1 .1 .0 ∙ k .before .before .before .before .before .before .before .before .loop .inv .outputs-kept)
-    (λ c. let k = c .before .before .before .before .before .before .before .before .before .before .before .before in k .step .kept .1 .1 .1 .1 .1 .1 .1 .0 ∙ k .before .before .before .before .before .before .before .before .loop .inv .log-kept)
-    (λ c. c .before .before .before .before .before .before .before .before .before .before .before .before .before .before .before .before .before .before .before .before .loop .inv .keeping .same-length)
-    (λ c. c .before .before .before .before .before .before .before .before .before .before .before .before .before .before .before .before .before .before .before .before .loop .inv .counting .kept)
+    (λ c. let k = c .before .before .before .before .before .before .before .before .before .before .before .before in k .step .kept .1 .1 .1 .1 .0 ∙ k .before .before .before .before .before .before .before .before .before .loop .inv .memory-kept)
+    (λ c. let k = c .before .before .before .before .before .before .before .before .before .before .before .before in k .step .kept .1 .1 .1 .1 .1 .0 ∙ k .before .before .before .before .before .before .before .before .before .loop .inv .inputs-kept)
+    (λ c. let k = c .before .before .before .before .before .before .before .before .before .before .before .before in k .step .kept .1 .1 .1 .1 .1 .1 .0 ∙ k .before .before .before .before .before .before .before .before .before .loop .inv .outputs-kept)
+    (λ c. let k = c .before .before .before .before .before .before .before .before .before .before .before .before in k .step .kept .1 .1 .1 .1 .1 .1 .1 .0 ∙ k .before .before .before .before .before .before .before .before .before .loop .inv .log-kept)
+    (λ c. c .before .before .before .before .before .before .before .before .before .before .before .before .before .before .before .before .before .before .before .before .before .loop .inv .keeping .same-length)
+    (λ c. c .before .before .before .before .before .before .before .before .before .before .before .before .before .before .before .before .before .before .before .before .before .loop .inv .counting .kept)
     returns
     (λ c. search needs)
     add-place

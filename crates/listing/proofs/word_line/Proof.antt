@@ -1,13 +1,15 @@
 -- By k: word k of the program part, or what lies past the last.
 -- Assumes nothing.
 use borrow.Author.Needs.{needs}
-use Rattle.image.proofs.Fits.{FileFits, file-fits}
+use Rattle.machine.specs.declared.Board.the-variants.{TwoMemories}
+use Rattle.image.specs.Parts.{Placeable}
+use Rattle.image.proofs.Fits.{file-fits}
 use Rattle.listing.proofs.Lines.{no-word, word-inside, address-fits, word-there}
 use Rattle.listing.proofs.word_line.Statement.{statement}
 use Rattle.listing.proofs.word_line.Tie as tie
 
-fits : (c : tie.Start) → FileFits (c .args .file .now)
-fits c = file-fits _ (c .pre)
+fits : (c : tie.Start) → Placeable (c .args .file .now)
+fits c = file-fits _ TwoMemories (c .pre) .0
 
 returns : tie.Need-returns
 returns c = no-word _ (c .before .before .before .program-part .ensures) (c .before .if1 .taken) (c .empty .ensures)

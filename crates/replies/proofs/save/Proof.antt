@@ -9,10 +9,14 @@ use Rattle.replies.proofs.save.Statement.{statement}
 use Rattle.replies.proofs.save.Tie as tie
 
 returns : tie.Need-returns
-returns c = sym (ap (λ (x : Saving). sisaSaved (shownSaving x)) (c .before .saving .given .1))
+returns c =
+    let b = c .before .before .before .before .args .saved in
+    sym (ap (λ (x : Saving). sisaSaved (shownSaving x) (b .state)) (c .before .reply .given .1))
 
 returns-2 : tie.Need-returns-2
-returns-2 c = rw (c .number .ensures) (sym (ap (λ (x : Saving). sisaSaved (shownSaving x)) (c .before .before .saving2 .given .1)))
+returns-2 c =
+    let b = c .before .before .before .before .before .args .saved in
+    rw (c .number .ensures) (sym (ap (λ (x : Saving). sisaSaved (shownSaving x) (b .state)) (c .before .before .reply2 .given .1)))
 
 pub save-spec : {M : Type 1} → statement M
 save-spec = tie.close (tie.spec (λ c. search needs) (λ c. search needs) (λ c κs. search needs) returns returns-2)

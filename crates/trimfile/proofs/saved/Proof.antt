@@ -10,17 +10,20 @@ use Rattle.trimfile.proofs.saved.Tie as tie
 returns : tie.Need-returns
 returns c =
     let saving = c .before .before in
-    by-save _ _ _ (saving .before .before .before .before .save .ensures) (ap shownSaving (saving .saving .given .1)) (trim-is (c .empty .ensures))
+    let save = saving .before .before .before .before in
+    by-save _ _ _ (save .before .before .before .reset .ensures) (save .save .ensures) (ap shownSaving (saving .reply .given .1)) (trim-is (c .empty .ensures))
 
 returns-2 : tie.Need-returns-2
 returns-2 c =
     let saving = c .before .before in
-    by-save _ _ _ (saving .before .before .before .before .save .ensures) (ap shownSaving (saving .saving2 .given .1)) (c .turned-away .ensures)
+    let save = saving .before .before .before .before in
+    by-save _ _ _ (save .before .before .before .reset .ensures) (save .save .ensures) (ap shownSaving (saving .reply2 .given .1)) (c .turned-away .ensures)
 
 pub saved-spec : {M : Type 1} → statement M
 saved-spec =
     tie.close
     (tie.spec
+    (λ c κs. search needs)
     (λ c. search needs)
     (λ c κs. search needs)
     (λ c. search needs)

@@ -1,7 +1,7 @@
 //! A trim file made from a text.
 
 use super::{assemble, Refused};
-use crate::machine::MEMORY;
+use crate::machine::{State, MEMORY};
 use crate::save::save;
 
 /// The file of the text's words, with no data.
@@ -10,7 +10,8 @@ pub fn trim(text: &[u8]) -> Result<Vec<u8>, Refused> {
     assemble(text, &mut program)?;
     let mut file = vec![0; 16 + MEMORY];
     // The file fits: a header, the program and no data.
-    let length = save(&program, &[0; MEMORY], &mut file).unwrap_or(0);
+    let saved = save(&State::reset(), &program, &[0; MEMORY], &mut file);
+    let length = saved.unwrap_or(0);
     file.truncate(length);
     Ok(file)
 }

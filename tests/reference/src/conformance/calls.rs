@@ -27,6 +27,7 @@ pub fn lines() -> Vec<String> {
     }
     lines.extend(printed());
     lines.extend(host.keys());
+    lines.extend(host.boards());
     lines
 }
 
@@ -41,13 +42,20 @@ impl Host {
         let refusal = self.load(&file(c), memory);
         let mut lines = vec![format!("load {c} {refusal} {}", self.digest(self.kept))];
         if refusal == 0 {
-            self.sheet = first_sheet(c);
-            lines.extend((0..CALLS).flat_map(|i| self.call(Call::of_case(c, i))));
-            let (saves, again) = self.saves(c);
-            lines.extend(saves);
-            if again == Some(0) {
-                lines.extend(self.with_journal(c, &GOING_BACK));
-            }
+            lines.extend(self.after_load(c));
+        }
+        lines
+    }
+
+    /// The calls, saves and calls with a journal of case c.
+    pub fn after_load(&mut self, c: u64) -> Vec<String> {
+        self.sheet = first_sheet(c);
+        let calls = (0..CALLS).flat_map(|i| self.call(Call::of_case(c, i)));
+        let mut lines: Vec<String> = calls.collect();
+        let (saves, again) = self.saves(c);
+        lines.extend(saves);
+        if again == Some(0) {
+            lines.extend(self.with_journal(c, &GOING_BACK));
         }
         lines
     }

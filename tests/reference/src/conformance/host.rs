@@ -2,7 +2,7 @@
 
 use super::{Call, Digest};
 use crate::load::load;
-use crate::machine::{Lent, State, MEMORY, PORTS};
+use crate::machine::{Lent, Memories, State, MEMORY, PORTS};
 use crate::run::Reply;
 use crate::sheet::Sheet;
 
@@ -15,6 +15,8 @@ pub struct Handed<'a> {
 }
 
 pub struct Host {
+    /// The board that its loads name.
+    pub board: Memories,
     pub kept: State,
     pub sheet: Sheet,
     pub program: Vec<u8>,
@@ -28,6 +30,7 @@ impl Host {
     /// What is lent at the start, "before any case".
     pub fn at_the_start() -> Host {
         Host {
+            board: Memories::Two,
             kept: State::reset(),
             sheet: Sheet::empty(),
             program: (0..MEMORY).map(|at| (at % 251) as u8).collect(),
@@ -57,6 +60,7 @@ impl Host {
     pub fn load(&mut self, file: &[u8], memory: usize) -> u8 {
         let loaded = load(
             file,
+            self.board,
             &mut self.program,
             &mut self.memory[..memory],
             &mut self.inputs,

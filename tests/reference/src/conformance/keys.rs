@@ -17,22 +17,22 @@ const CALLS: Calls = Calls {
     ports: 2,
 };
 
-/// Word j of the 32.
-fn word(c: u64, j: u64) -> u16 {
-    let x = number(c, 1_000 + j);
-    match j {
+/// The file of case c.
+pub fn key_file(c: u64) -> Vec<u8> {
+    // "an IN" from port 0 to 3
+    file_of_32(c, |x| 40_960 + 512 * (x % 8) + x / 8 % 4)
+}
+
+/// The file of case c with 32 words, "where number(c, 4,000 + j) mod 2 is 0" that of
+/// x = number(c, 1,000 + j).
+pub fn file_of_32(c: u64, of: fn(u64) -> u64) -> Vec<u8> {
+    of_words(c, 32, |j| match j {
         // BZ and BNZ of R0 to address 0
         30 => 32_993,
         31 => 33_248,
-        // "an IN from port 0 to 3"
-        _ if number(c, 4_000 + j).is_multiple_of(2) => (40_960 + 512 * (x % 8) + x / 8 % 4) as u16,
+        _ if number(c, 4_000 + j).is_multiple_of(2) => of(number(c, 1_000 + j)) as u16,
         _ => program_word(c, j),
-    }
-}
-
-/// The file of case c.
-pub fn key_file(c: u64) -> Vec<u8> {
-    of_words(c, 32, |j| word(c, j))
+    })
 }
 
 impl Host {

@@ -28,7 +28,8 @@ impl Host {
             };
             // "made anew before each save"
             let mut buffer: Vec<u8> = (0..BUFFER).map(|j| ((j + s) % 253) as u8).collect();
-            let saved = save(&self.program, &self.memory[..memory], &mut buffer[..lent]);
+            let (program, memory) = (&self.program, &self.memory[..memory]);
+            let saved = save(&self.kept, program, memory, &mut buffer[..lent]);
             let (refusal, replied) = (saved.err().unwrap_or(0), saved.unwrap_or(0));
             let mut digest = Digest::default();
             digest.take_all(&buffer);
@@ -36,6 +37,7 @@ impl Host {
                 "save {c} {s} {refusal} {replied} {}",
                 digest.value()
             ));
+            lines.extend(self.board_line(c));
             if s == 0 {
                 length = replied;
             }
@@ -43,6 +45,7 @@ impl Host {
             if s == 1 {
                 let refusal = self.load(&buffer[..lent], MEMORY);
                 lines.push(format!("again {c} {refusal} {}", self.digest(self.kept)));
+                lines.extend(self.board_line(c));
                 again = Some(refusal);
             }
         }

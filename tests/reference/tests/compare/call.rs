@@ -5,7 +5,7 @@ use crate::world::{first, touched, Lengths, World, GUARD};
 use reference::assemble::{assemble, Refused};
 use reference::back::{step_back, Back};
 use reference::load::load;
-use reference::machine::{self, State};
+use reference::machine::{self, Memories, State};
 use reference::run::{host_step, run_by_rules, run_by_table, Engine, Reply, Returned};
 use reference::save::save;
 use reference::set::set;
@@ -43,7 +43,8 @@ impl fmt::Debug for Text {
 
 #[derive(Clone, Debug)]
 pub enum Call {
-    Load(Bytes),
+    /// For the board of this number.
+    Load(u8, Bytes),
     Set(u8, u16),
     /// The library knows the paper's table only.
     Run(Engine<'static>, State, u32),
@@ -53,7 +54,7 @@ pub enum Call {
     Back(State, u64),
     Window(u8, usize, usize),
     /// Into these bytes, but for the guards before and after.
-    Save(Bytes),
+    Save(State, Bytes),
     Assemble(Text),
 }
 
@@ -71,6 +72,15 @@ impl Call {
         }
     }
 
+    /// The state that it is handed, if any.
+    pub fn state(&self) -> Option<State> {
+        match *self {
+            Call::Run(_, state, _) | Call::Journaled(_, state, _) => Some(state),
+            Call::HostStep(state) | Call::Back(state, _) | Call::Save(state, _) => Some(state),
+            _ => None,
+        }
+    }
+
     /// The places of the journal that the call may write, by its answer.
     fn places_written(&self, answer: &Answer) -> Range<u64> {
         match (self, answer) {
@@ -85,7 +95,7 @@ impl Call {
 /// The bytes that a call only reads, but for the memories and ports.
 fn read_by(call: &Call) -> &[u8] {
     match call {
-        Call::Load(Bytes(bytes)) | Call::Assemble(Text(bytes)) => bytes,
+        Call::Load(_, Bytes(bytes)) | Call::Assemble(Text(bytes)) => bytes,
         _ => &[],
     }
 }
@@ -134,6 +144,7 @@ pub fn header_state(state: State) -> ffi::State {
         pc: state.pc,
         n: state.n,
         journaled: state.journaled,
+        board: state.board,
     }
 }
 
@@ -144,6 +155,7 @@ pub fn plain_state(state: ffi::State) -> State {
         pc: state.pc,
         n: state.n,
         journaled: state.journaled,
+        board: state.board,
     }
 }
 
@@ -219,8 +231,11 @@ fn saved_into(bytes: &Bytes, save: impl FnOnce(&mut [u8]) -> ffi::Saved) -> Answ
     Answer::Save(save(&mut left.0[GUARD..end]), left)
 }
 
-fn header_saved(saved: Result<usize, u8>) -> ffi::Saved {
+/// L11: "a state [...] that was handed comes back as it was", also where the save
+/// is accepted.
+fn header_saved(state: State, saved: Result<usize, u8>) -> ffi::Saved {
     ffi::Saved {
+        state: header_state(state),
         refusal: saved.err().unwrap_or(0),
         length: saved.unwrap_or(0),
     }
@@ -268,9 +283,9 @@ fn split(lent: Lent<'_>) -> (machine::Lent<'_>, &mut [u64]) {
 pub fn of_reference(call: &Call, world: &mut World, lengths: &Lengths) -> Answer {
     let (lent, journal) = world.lend_with_journal(lengths);
     match *call {
-        Call::Load(ref file) => {
-            let (p, d) = (lent.program, lent.memory);
-            let loaded = load(&file.0, p, d, lent.inputs, lent.outputs);
+        Call::Load(board, ref file) => {
+            let (board, p, d) = (Memories::of(board), lent.program, lent.memory);
+            let loaded = load(&file.0, board, p, d, lent.inputs, lent.outputs);
             Answer::Load(ffi::Load {
                 // All zero where the load is refused.
                 state: header_state(loaded.unwrap_or(State::reset())),
@@ -296,9 +311,10 @@ pub fn of_reference(call: &Call, world: &mut World, lengths: &Lengths) -> Answer
             let (program, memory) = (lent.program, lent.memory);
             Answer::Window(header_window(program, memory, of_data, start, count))
         }
-        Call::Save(ref bytes) => {
+        Call::Save(state, ref bytes) => {
             let (program, memory) = (lent.program, lent.memory);
-            saved_into(bytes, |to| header_saved(save(program, memory, to)))
+            let save = |to: &mut [u8]| save(&state, program, memory, to);
+            saved_into(bytes, |to| header_saved(state, save(to)))
         }
         Call::Assemble(ref text) => {
             Answer::Assemble(header_assembly(assemble(&text.0, lent.program)))
@@ -310,7 +326,7 @@ pub fn of_library(call: &Call, world: &mut World, lengths: &Lengths) -> Answer {
     let (mut lent, journal) = world.lend_with_journal(lengths);
     let lent = &mut lent;
     match *call {
-        Call::Load(ref file) => Answer::Load(ffi::load(&file.0, lent)),
+        Call::Load(board, ref file) => Answer::Load(ffi::load(&file.0, board, lent)),
         Call::Set(port, value) => Answer::Set(ffi::set_input(lent.inputs, port, value)),
         Call::Run(engine, state, budget) => {
             let run = match engine {
@@ -336,7 +352,9 @@ pub fn of_library(call: &Call, world: &mut World, lengths: &Lengths) -> Answer {
             let (program, memory) = (&*lent.program, &*lent.memory);
             Answer::Window(ffi::window(program, memory, of_data, start, count))
         }
-        Call::Save(ref bytes) => saved_into(bytes, |to| ffi::save(lent.program, lent.memory, to)),
+        Call::Save(state, ref bytes) => saved_into(bytes, |to| {
+            ffi::save(header_state(state), lent.program, lent.memory, to)
+        }),
         Call::Assemble(ref text) => Answer::Assemble(ffi::assemble(&text.0, lent.program)),
     }
 }
@@ -426,7 +444,7 @@ impl Sides {
     /// Whether the call changed anything lent.
     fn changed(&self, call: &Call, answer: &Answer) -> bool {
         let destination = match (call, answer) {
-            (Call::Save(before), Answer::Save(_, left)) => before != left,
+            (Call::Save(_, before), Answer::Save(_, left)) => before != left,
             _ => false,
         };
         destination || self.before != self.reference

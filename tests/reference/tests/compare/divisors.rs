@@ -58,7 +58,11 @@ impl Program {
     fn put(&self, sides: &mut Sides, last: u16) -> u16 {
         let first = last.wrapping_sub(2 * self.lead.len() as u16);
         for (k, &w) in (0..).zip(self.lead.iter().chain([&self.division])) {
-            sides.change(|lent| put(lent, first.wrapping_add(2 * k), w));
+            let at = State {
+                pc: first.wrapping_add(2 * k),
+                ..State::reset()
+            };
+            sides.change(|lent| put(lent, &at, w));
         }
         first
     }

@@ -1,7 +1,7 @@
 //! L6's five operations of edges and of any operands.
 
 use crate::call::Sides;
-use crate::make::one_of;
+use crate::make::{board, one_of};
 use crate::random::Random;
 use crate::steps::{calls, put, Counts};
 use crate::world::{Lengths, World};
@@ -40,12 +40,13 @@ fn compare(sides: &mut Sides, random: &mut Random, ra: u16, rb: u16, counts: &mu
             r: [0; 8].map(|_| random.value()),
             pc: random.word() & 0xFFFE,
             n: random.below(u32::MAX.into()) as u32,
+            board: board(random),
             ..State::reset()
         };
         state.r[usize::from(parts[1])] = ra;
         state.r[usize::from(parts[2])] = rb;
         let w = word(f, parts);
-        sides.change(|lent| put(lent, state.pc, w));
+        sides.change(|lent| put(lent, &state, w));
         for (call, counts) in calls(state).iter().zip(&mut *counts) {
             let answer = sides.run(call, &Lengths::right(1), || {
                 format!("SISA_SEED={}, word {w:#06x} at PC", seed())

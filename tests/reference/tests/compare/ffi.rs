@@ -15,6 +15,7 @@ pub struct State {
     pub pc: u16,
     pub n: u32,
     pub journaled: u64,
+    pub board: u8,
 }
 
 /// `SisaLoad`
@@ -134,6 +135,7 @@ pub struct Window {
 #[repr(C)]
 #[derive(Clone, Copy, Debug, PartialEq, Eq)]
 pub struct Saved {
+    pub state: State,
     pub refusal: u8,
     pub length: usize,
 }
@@ -195,6 +197,7 @@ extern "C" {
     fn sisa_load(
         file: *const u8,
         file_len: usize,
+        board: u8,
         program: *mut u8,
         program_len: usize,
         memory: *mut u8,
@@ -305,6 +308,7 @@ extern "C" {
         count: usize,
     ) -> Window;
     fn sisa_save(
+        state: State,
         program: *const u8,
         program_len: usize,
         memory: *const u8,
@@ -320,12 +324,13 @@ extern "C" {
     ) -> Assembly;
 }
 
-pub fn load(file: &[u8], lent: &mut Lent) -> Load {
+pub fn load(file: &[u8], board: u8, lent: &mut Lent) -> Load {
     // SAFETY: pointers and lengths are those of slices that don't overlap.
     unsafe {
         sisa_load(
             file.as_ptr(),
             file.len(),
+            board,
             lent.program.as_mut_ptr(),
             lent.program.len(),
             lent.memory.as_mut_ptr(),
@@ -489,10 +494,11 @@ pub fn window(program: &[u8], memory: &[u8], of_data: u8, start: usize, count: u
     }
 }
 
-pub fn save(program: &[u8], memory: &[u8], destination: &mut [u8]) -> Saved {
+pub fn save(state: State, program: &[u8], memory: &[u8], destination: &mut [u8]) -> Saved {
     // SAFETY: pointers and lengths are those of slices that don't overlap.
     unsafe {
         sisa_save(
+            state,
             program.as_ptr(),
             program.len(),
             memory.as_ptr(),

@@ -7,7 +7,8 @@ mod held;
 mod keys;
 mod words;
 
-use crate::make::one_of;
+use crate::ffi::Lent;
+use crate::make::{board, one_of};
 use crate::random::Random;
 use reference::machine::State;
 
@@ -57,7 +58,7 @@ fn endless_loop(random: &mut Random) -> Vec<u16> {
     words
 }
 
-/// Before such a loop.
+/// Before such a loop, on an older board.
 fn before_loop(random: &mut Random) -> State {
     let mut r = [0; 8].map(|_| random.value());
     r[6] = 0;
@@ -69,9 +70,20 @@ fn before_loop(random: &mut Random) -> State {
     }
 }
 
-/// Puts the words at address 0.
-fn put(program: &mut [u8], words: &[u16]) {
-    for (place, w) in program.chunks_mut(2).zip(words) {
-        place.copy_from_slice(&w.to_le_bytes());
+/// Before such a loop on any board; on the single-memory one its stores may change
+/// it.
+fn before_loop_on_any_board(random: &mut Random) -> State {
+    State {
+        board: board(random),
+        ..before_loop(random)
+    }
+}
+
+/// Puts the words at address 0 of both memories.
+fn put(lent: Lent, words: &[u16]) {
+    for memory in [lent.program, lent.memory] {
+        for (place, w) in memory.chunks_mut(2).zip(words) {
+            place.copy_from_slice(&w.to_le_bytes());
+        }
     }
 }

@@ -106,7 +106,9 @@ impl List {
         let after_load = matches!(self.sort, Sort::Kept | Sort::Journaled);
         // Without a load the memories are the case's random ones.
         if after_load && at == 0 {
-            return (Call::Load(Bytes(make::file(random))), Lengths::right(0));
+            let board = make::board(random);
+            let file = Bytes(make::file(random, board));
+            return (Call::Load(board, file), Lengths::right(0));
         }
         let load = self.sort == Sort::Loads || (self.stuck && random.below(3) == 0);
         let call = match (load, self.sort) {
@@ -149,10 +151,13 @@ impl List {
 
     fn load(&mut self) -> Call {
         let random = &mut self.random;
-        Call::Load(Bytes(match random.below(2) {
-            0 => make::file(random),
-            _ => make::damaged_file(random),
-        }))
+        let board = make::board(random);
+        let file = match random.below(4) {
+            0 => make::file(random, 0),
+            1 => make::file(random, board),
+            _ => make::damaged_file(random, board),
+        };
+        Call::Load(board, Bytes(file))
     }
 
     fn window(&mut self, lengths: &Lengths) -> Call {
@@ -167,10 +172,11 @@ impl List {
 
     fn save(&mut self, lengths: &Lengths) -> Call {
         let lent = self.twins.sides.reference.lend(lengths);
-        let length = make::saved_length(lent.program, lent.memory);
+        let length = make::saved_length(&self.kept, lent.program, lent.memory);
         let edges = [0, length - 1, length, length, length + 1, length + 300];
         let length = make::one_of(&mut self.random, &edges);
-        Call::Save(make::destination(&mut self.random, length))
+        let state = self.handed(0);
+        Call::Save(state, make::destination(&mut self.random, length))
     }
 
     fn run(&mut self, lengths: &Lengths) -> Call {
@@ -228,7 +234,7 @@ impl List {
     /// What the host keeps for the next call.
     fn keep(&mut self, call: Call, answer: Answer) {
         let (state, steps, stop) = match (call, answer) {
-            (Call::Load(file), Answer::Load(load)) if load.refusal == 0 => {
+            (Call::Load(_, file), Answer::Load(load)) if load.refusal == 0 => {
                 self.loaded = Some(file);
                 (load.state, 0, 0)
             }

@@ -4,6 +4,7 @@
 //! as a failure names it.
 
 mod assembly;
+mod boards;
 mod call;
 mod divisors;
 mod extension;
@@ -17,6 +18,7 @@ mod random;
 #[path = "../shared/registers.rs"]
 mod registers;
 mod saves;
+mod selves;
 mod sheets;
 mod steps;
 mod tally;

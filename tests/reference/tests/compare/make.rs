@@ -55,16 +55,35 @@ fn random_bytes(random: &mut Random, count: u64) -> Vec<u8> {
     (0..count).map(|_| random.word() as u8).collect()
 }
 
-/// A file that loads: both parts in either order with gaps, or the data part
-/// anywhere.
-pub fn file(random: &mut Random) -> Vec<u8> {
-    let words = program(random);
+/// Makes some words an ST or STB near the address that R0 holds, so near 0 while it
+/// is 0.
+fn add_stores(random: &mut Random, words: &mut [u16]) {
+    let last = words.len().saturating_sub(2);
+    for word in &mut words[..last] {
+        if random.below(6) == 0 {
+            let opcode = one_of(random, &[0x4000, 0x6000]);
+            *word = opcode + 64 * random.below(8) as u16 + random.below(64) as u16;
+        }
+    }
+}
+
+/// A file that loads for the board: both parts in either order with gaps, or the
+/// data part anywhere.
+pub fn file(random: &mut Random, board: u8) -> Vec<u8> {
+    let mut words = program(random);
+    if board != 0 {
+        add_stores(random, &mut words);
+    }
     let bytes: Vec<u8> = words.iter().flat_map(|w| w.to_le_bytes()).collect();
-    let count = match random.below(8) {
+    let most = match board {
         0 => 65_536,
-        1 => random.below(65_537),
+        _ => 65_536 - bytes.len() as u64,
+    };
+    let count = match random.below(8) {
+        0 => most,
+        1 => random.below(most + 1),
         2 => 0,
-        _ => random.below(300),
+        _ => random.below(300.min(most + 1)),
     };
     let data = random_bytes(random, count);
     let mut file = vec![0; 16];
@@ -90,8 +109,8 @@ pub fn file(random: &mut Random) -> Vec<u8> {
 }
 
 /// A file that mostly doesn't load: cut, or a header's number changed.
-pub fn damaged_file(random: &mut Random) -> Vec<u8> {
-    let mut file = file(random);
+pub fn damaged_file(random: &mut Random, board: u8) -> Vec<u8> {
+    let mut file = file(random, board);
     for _ in 0..1 + random.below(2) {
         match random.below(4) {
             0 => file.truncate(random.below(20) as usize),
@@ -156,11 +175,11 @@ pub fn great_budget(random: &mut Random, n: u32) -> u32 {
     one_of(random, &[greatest, greatest.saturating_add(1), u32::MAX])
 }
 
-/// The state with registers, PC or n changed; n often so that the budget just
+/// The state with registers, PC, n or board changed; n often so that the budget just
 /// fits or just doesn't.
 pub fn altered(random: &mut Random, kept: State, budget: u32) -> State {
     let mut state = kept;
-    match random.below(8) {
+    match random.below(9) {
         0 => state.pc = random.word() | 1,
         1 => state.pc = random.word() & 0xFFFE,
         2 => state.pc = one_of(random, &[0, 2, 0xFFFC, 0xFFFE, 0xFFFF]),
@@ -176,6 +195,7 @@ pub fn altered(random: &mut Random, kept: State, budget: u32) -> State {
                 ],
             );
         }
+        6 => state.board = board(random),
         _ => state.r = state.r.map(|_| random.value()),
     }
     state
@@ -271,8 +291,13 @@ pub fn window_number(random: &mut Random, program: usize, memory: usize) -> usiz
 
 /// The length of the file that these memories are saved as; 16 where they
 /// aren't memories.
-pub fn saved_length(program: &[u8], memory: &[u8]) -> usize {
-    save(program, memory, &mut [0; 131_088]).unwrap_or(16)
+pub fn saved_length(state: &State, program: &[u8], memory: &[u8]) -> usize {
+    save(state, program, memory, &mut [0; 131_088]).unwrap_or(16)
+}
+
+/// The number of a board: that with two memories, or the single-memory one.
+pub fn board(random: &mut Random) -> u8 {
+    one_of(random, &[0, 0, 0, 1, 1, 2, 255])
 }
 
 /// A destination of this length, with its guards.

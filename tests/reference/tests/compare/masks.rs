@@ -10,8 +10,9 @@ use reference::machine::State;
 
 /// The library's step of the word by this call: the state that it leaves, and
 /// the rest of its reply.
-fn step(world: &mut World, w: u16, pc: u16, call: &Call) -> (ffi::State, ffi::Answer) {
-    put(world.lend(&Lengths::right(0)), pc, w);
+fn step(world: &mut World, w: u16, call: &Call) -> (ffi::State, ffi::Answer) {
+    let state = call.state().expect("a step");
+    put(world.lend(&Lengths::right(0)), &state, w);
     match of_library(call, world, &Lengths::right(1)) {
         Answer::Run(run) => (run.state, run.without_state()),
         Answer::HostStep(state, answer) => (state, answer),
@@ -33,9 +34,9 @@ fn registers_outside_the_masks_of_every_word() {
             let state = random_state(&mut random, w);
             let others = [0; 8].map(|_| random.value());
             let r = merged(masks.reads, state.r, others);
-            let (left, answer) = step(&mut world, w, state.pc, &calls(state)[export]);
+            let (left, answer) = step(&mut world, w, &calls(state)[export]);
             let call = &calls(State { r, ..state })[export];
-            let (found, other_answer) = step(&mut second, w, state.pc, call);
+            let (found, other_answer) = step(&mut second, w, call);
             let at = format!("SISA_SEED={seed}, word {w:#06x}, {state:?}, then {call:?}");
             // A zero divisor is stopped before the step.
             let writes = if answer.steps == 0 { 0 } else { masks.writes };

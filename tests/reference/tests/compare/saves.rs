@@ -1,10 +1,12 @@
 //! Saves of memories of every shape, loaded back.
 
 use crate::call::{Answer, Bytes, Call, Sides};
-use crate::make::{destination, one_of, saved_length};
+use crate::make::{board, destination, one_of, saved_length};
 use crate::random::Random;
+use crate::steps::random_state;
 use crate::world::{Lengths, World, GUARD};
 use crate::{random_of, seed};
+use reference::machine::State;
 
 const CASES: u64 = 1_000;
 
@@ -28,6 +30,8 @@ fn shaped_memory(random: &mut Random) -> Vec<u8> {
 struct Saves {
     random: Random,
     sides: Sides,
+    /// What the saves are handed.
+    state: State,
     /// Accepted, refused with 1, refused with 9.
     counts: [u64; 3],
 }
@@ -35,7 +39,7 @@ struct Saves {
 impl Saves {
     /// Saves into so many bytes: the file, where the save is accepted.
     fn save(&mut self, length: usize, lengths: &Lengths) -> Result<Option<Bytes>, String> {
-        let call = Call::Save(destination(&mut self.random, length));
+        let call = Call::Save(self.state, destination(&mut self.random, length));
         let describe = |difference| format!("into {length} bytes, lent {lengths:?}: {difference}");
         let (saved, left) = match self.sides.call(&call, lengths).map_err(describe)? {
             Answer::Save(saved, left) => (saved, left),
@@ -50,7 +54,8 @@ impl Saves {
         Ok((saved.refusal == 0).then_some(Bytes(file)))
     }
 
-    /// The file loads as both memories, with the ports reset.
+    /// The file loads for its board as both memories, or as the data memory alone,
+    /// with the ports reset.
     fn load_back(&mut self, file: Bytes, program: &[u8], memory: &[u8]) -> Result<(), String> {
         self.sides.change(|lent| {
             lent.program.fill(0xEE);
@@ -59,9 +64,14 @@ impl Saves {
             lent.outputs.fill(0xEEEE);
         });
         let right = Lengths::right(0);
-        self.sides.call(&Call::Load(file), &right)?;
+        self.sides
+            .call(&Call::Load(self.state.board, file), &right)?;
         let lent = self.sides.reference.lend(&right);
-        if lent.program != program || lent.memory != memory {
+        let program_is = match self.state.board {
+            0 => lent.program == program,
+            _ => lent.program.iter().all(|&byte| byte == 0),
+        };
+        if !program_is || lent.memory != memory {
             return Err("loaded back, the memories are others".to_string());
         }
         if lent.inputs.iter().chain(&*lent.outputs).any(|&x| x != 0) {
@@ -89,11 +99,13 @@ impl Saves {
     fn case(&mut self) -> Result<(), String> {
         let program = shaped_memory(&mut self.random);
         let memory = shaped_memory(&mut self.random);
+        self.state = random_state(&mut self.random, 0);
+        self.state.board = board(&mut self.random);
         self.sides.change(|lent| {
             lent.program.copy_from_slice(&program);
             lent.memory.copy_from_slice(&memory);
         });
-        let length = saved_length(&program, &memory);
+        let length = saved_length(&self.state, &program, &memory);
         let right = Lengths::right(0);
         self.save(0, &right)?;
         self.save(length - 1, &right)?;
@@ -117,6 +129,7 @@ fn saves_of_memories_of_every_shape() {
     let mut saves = Saves {
         random,
         sides,
+        state: State::reset(),
         counts: [0; 3],
     };
     for case in 0..CASES {

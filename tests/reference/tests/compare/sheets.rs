@@ -89,6 +89,7 @@ fn short_runs(random: &mut Random) -> Vec<ffi::Answer> {
         let state = State {
             r: [0; 8].map(|_| random.value()),
             pc: random.word() & 0xFFFE | u16::from(at.is_multiple_of(4)),
+            board: (at % 2) as u8,
             ..State::reset()
         };
         let budget = random.below(40) as u32;

@@ -2,11 +2,11 @@
 
 use crate::call::{Call, Sides};
 use crate::ffi::{self, Lent};
-use crate::make::one_of;
+use crate::make::{board, one_of};
 use crate::random::Random;
 use crate::world::{Lengths, World};
 use crate::{random_of, seed};
-use reference::machine::State;
+use reference::machine::{Memories, State};
 use reference::run::Engine;
 
 /// A state to step the word from. Ra+SE(N6), a sum or address of opcodes 2 to
@@ -24,6 +24,7 @@ pub fn random_state(random: &mut Random, w: u16) -> State {
         pc: one_of(random, &[even, even, 0, 0xFFFE]),
         n: random.below(u32::MAX.into()) as u32,
         journaled: random.below(9),
+        board: board(random),
     }
 }
 
@@ -63,10 +64,15 @@ pub fn calls(state: State) -> [Call; 3] {
     ]
 }
 
-/// Puts the word at PC, and at input 0 what a read of the key clears.
-pub fn put(lent: Lent, pc: u16, w: u16) {
-    let at = usize::from(pc);
-    lent.program[at..at + 2].copy_from_slice(&w.to_le_bytes());
+/// Puts the word at PC of the memory that the board fetches from, and at input 0
+/// what a read of the key clears.
+pub fn put(lent: Lent, state: &State, w: u16) {
+    let at = usize::from(state.pc);
+    let memory = match state.memories() {
+        Memories::Two => lent.program,
+        Memories::Single => lent.memory,
+    };
+    memory[at..at + 2].copy_from_slice(&w.to_le_bytes());
     lent.inputs[0] = w | 1;
 }
 
@@ -80,7 +86,7 @@ fn one_step_of_every_word() {
         for export in 0..3 {
             let state = random_state(&mut random, w);
             let call = &calls(state)[export];
-            sides.change(|lent| put(lent, state.pc, w));
+            sides.change(|lent| put(lent, &state, w));
             let answer = sides.run(call, &Lengths::right(1), || {
                 format!("SISA_SEED={seed}, word {w:#06x} at PC")
             });

@@ -2,6 +2,7 @@
 
 use crate::call::{Answer, Call};
 use crate::ffi::Usage;
+use reference::machine::Memories;
 use reference::run::Engine;
 use std::collections::BTreeMap;
 use std::fmt;
@@ -16,6 +17,8 @@ pub struct Tally {
     full: u64,
     gone_back: u64,
     fallen: u64,
+    /// Steps on the single-memory board.
+    single: u64,
     /// By export and outcome.
     outcomes: BTreeMap<(&'static str, String), u64>,
     /// The sums of all runs' counts, by export.
@@ -30,7 +33,7 @@ fn all(usage: &Usage) -> impl Iterator<Item = &u64> {
 impl Tally {
     pub fn count(&mut self, call: &Call, answer: &Answer) {
         let export = match call {
-            Call::Load(_) => "load",
+            Call::Load(..) => "load",
             Call::Set(..) => "set",
             Call::Run(Engine::Rules, ..) => "rules",
             Call::Run(Engine::Table(_), ..) => "table",
@@ -39,7 +42,7 @@ impl Tally {
             Call::HostStep(_) => "host",
             Call::Back(..) => "back",
             Call::Window(..) => "window",
-            Call::Save(_) => "save",
+            Call::Save(..) => "save",
             Call::Assemble(_) => "assemble",
         };
         let mut outcome = match answer.refusal() {
@@ -51,6 +54,10 @@ impl Tally {
             self.steps += u64::from(run.steps);
             self.ticks += run.ticks;
             self.entries += run.entries;
+            self.single += match call.state().map(|state| state.memories()) {
+                Some(Memories::Single) => run.steps.into(),
+                _ => 0,
+            };
             let counts = self.counts.entry(export).or_insert([0; 46]);
             for (sum, count) in counts.iter_mut().zip(all(&run.usage)) {
                 *sum += count;
@@ -84,6 +91,7 @@ impl Tally {
         assert!(self.steps >= 10_000_000, "{} steps", self.steps);
         let times = 3 * self.steps..4 * self.steps;
         assert!(times.contains(&self.ticks), "{} ticks", self.ticks);
+        assert!(self.single >= 1_000_000, "{} on D", self.single);
         assert!(self.full >= 1_000, "{} full journals", self.full);
         assert!(self.gone_back >= 100_000, "{} back", self.gone_back);
         assert!(self.fallen >= 1_000, "{} fallen", self.fallen);
@@ -102,6 +110,7 @@ impl Tally {
             "refused 2",
             "refused 3",
             "refused 4",
+            "refused 15",
         ];
         let of_assemble = [
             "accepted",
@@ -151,6 +160,7 @@ impl fmt::Display for Tally {
     fn fmt(&self, f: &mut fmt::Formatter) -> fmt::Result {
         let (calls, steps, ticks) = (self.calls, self.steps, self.ticks);
         write!(f, "{calls} calls, {steps} steps of {ticks} ticks")?;
+        write!(f, ", {} on the single-memory board", self.single)?;
         write!(f, ", {} log entries", self.entries)?;
         let (full, gone_back, fallen) = (self.full, self.gone_back, self.fallen);
         write!(f, ", {full} full journals")?;

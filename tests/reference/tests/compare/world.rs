@@ -59,8 +59,9 @@ impl World {
             program: (0..bytes / 2)
                 .flat_map(|_| program_word(random).to_le_bytes())
                 .collect(),
+            // Words too, for a board that fetches from here.
             memory: (0..bytes / 2)
-                .flat_map(|_| random.word().to_le_bytes())
+                .flat_map(|_| program_word(random).to_le_bytes())
                 .collect(),
             inputs: (0..words).map(|_| random.value()).collect(),
             outputs: (0..words).map(|_| random.value()).collect(),

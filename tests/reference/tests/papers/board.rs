@@ -3,7 +3,7 @@
 use crate::random::Random;
 use reference::back::{step_back, Back};
 use reference::control::{Table, TABLE};
-use reference::machine::{Lent, Places, State, Stepped, MEMORY, PORTS};
+use reference::machine::{Lent, Memories, Places, State, Stepped, MEMORY, PORTS};
 use reference::run::{host_step, run, run_by_rules, run_by_table, Reply, Returned};
 
 pub use reference::run::Engine;
@@ -106,15 +106,37 @@ impl Board {
         board
     }
 
+    /// The single-memory board with this one's program in D, and bytes in P that it
+    /// never reads.
+    pub fn on_single_memory(mut self) -> Board {
+        self.d = self.p;
+        self.p = (0..MEMORY).map(|at| (at % 251) as u8).collect();
+        self.s.board = 1;
+        self
+    }
+
+    /// The memory that instructions are fetched from.
+    fn fetch_memory(&mut self) -> &mut [u8] {
+        match self.s.memories() {
+            Memories::Two => &mut self.p,
+            Memories::Single => &mut self.d,
+        }
+    }
+
     pub fn put(&mut self, pc: u16, w: u16) {
-        self.p[usize::from(pc)] = w.to_le_bytes()[0];
-        self.p[usize::from(pc.wrapping_add(1))] = w.to_le_bytes()[1];
+        let [low, high] = w.to_le_bytes();
+        self.fetch_memory()[usize::from(pc)] = low;
+        self.fetch_memory()[usize::from(pc.wrapping_add(1))] = high;
     }
 
     /// The word at PC.
     pub fn word(&self) -> u16 {
         let at = usize::from(self.s.pc);
-        u16::from_le_bytes([self.p[at], self.p[at + 1]])
+        let memory = match self.s.memories() {
+            Memories::Two => &self.p,
+            Memories::Single => &self.d,
+        };
+        u16::from_le_bytes([memory[at], memory[at + 1]])
     }
 
     /// One step of the engine; None if no step is possible.

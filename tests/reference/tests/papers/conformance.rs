@@ -2,6 +2,7 @@
 //! lively.
 
 mod backs;
+mod boards;
 mod keys;
 mod sheets;
 
@@ -178,8 +179,8 @@ const OF_RUNS: [&str; 7] = ["1", "5", "6", "0 0", "0 1", "0 2", "0 3"];
 #[test]
 fn every_refusal_and_stop_reason_occurs() {
     let lines = lines();
-    assert_eq!(count(&lines, "load"), 64 + 16);
-    occur(&lines, "load *", &["0", "1", "2", "3", "4"]);
+    assert_eq!(count(&lines, "load"), 64 + 16 + 9);
+    occur(&lines, "load *", &["0", "1", "2", "3", "4", "15"]);
     occur(&lines, "set * *", &["0", "1"]);
     occur(&lines, "run rules * *", &OF_RUNS);
     occur(&lines, "run table * *", &OF_RUNS);
@@ -190,8 +191,9 @@ fn every_refusal_and_stop_reason_occurs() {
         let start = format!("instruction * * {assigned} * * * * * * *");
         occur(&lines, &start, &["0", "7"]);
     }
-    // By s, in every case whose load was accepted.
-    let accepted = count(&lines, "load * 0") - 16;
+    // By s, in every case whose load was accepted, but for those of keys and the
+    // three long files.
+    let accepted = count(&lines, "load * 0") - 16 - 2;
     assert_eq!(count(&lines, "save"), 4 * accepted);
     for ending in ["0 0", "1 0", "2 9 0", "3 1 0"] {
         assert_eq!(count(&lines, &format!("save * {ending}")), accepted);

@@ -55,14 +55,18 @@ fn one_step_of_every_word() {
     assert!(rules == table);
 }
 
-/// Random runs by the rules, and by the table and on the board that `other`
-/// makes of the rules' board. They must agree in all but the program.
-fn compare_runs(seed: u64, other: impl Fn(&mut Random, &Board) -> (Table, Board)) {
+/// Random runs by the rules on what `board` makes of a board, and by the table and
+/// on the board that `other` makes of that. They must agree in all but the program.
+fn compare_runs(
+    seed: u64,
+    board: fn(Board) -> Board,
+    other: impl Fn(&mut Random, &Board) -> (Table, Board),
+) {
     let mut random = Random::new(seed);
     let mut stops = [0; 4];
     let mut total = 0;
     for _ in 0..300 {
-        let mut ours = Board::random(&mut random);
+        let mut ours = board(Board::random(&mut random));
         let (table, mut theirs) = other(&mut random, &ours);
         let places = random.below(40) as usize;
         let budget = random.below(2_000) as u32;
@@ -83,7 +87,17 @@ fn compare_runs(seed: u64, other: impl Fn(&mut Random, &Board) -> (Table, Board)
 
 #[test]
 fn random_runs() {
-    compare_runs(0xC010_0123, |_, board| (TABLE, board.clone()));
+    compare_runs(
+        0xC010_0123,
+        |board| board,
+        |_, board| (TABLE, board.clone()),
+    );
+}
+
+#[test]
+fn random_runs_on_the_single_memory_board() {
+    let single = Board::on_single_memory;
+    compare_runs(0xC010_0124, single, |_, board| (TABLE, board.clone()));
 }
 
 /// The opcodes 0 to 15 in any order.
@@ -95,7 +109,7 @@ fn random_order(random: &mut Random) -> [u16; 16] {
 
 #[test]
 fn a_reordered_table_runs_reordered_words_alike() {
-    compare_runs(0x0DE2, |random, board| {
+    let recoding = |random: &mut Random, board: &Board| {
         let order = random_order(random);
         let mut table = [0; 32];
         for (k, &place) in order.iter().enumerate() {
@@ -107,7 +121,8 @@ fn a_reordered_table_runs_reordered_words_alike() {
             *high = 16 * order[usize::from(*high / 16)] as u8 + *high % 16;
         }
         (table, recoded)
-    });
+    };
+    compare_runs(0x0DE2, |board| board, recoding);
 }
 
 /// One call of a list.
@@ -207,7 +222,10 @@ fn library(
 fn random_lists_of_calls() {
     let mut random = Random::new(0x1157);
     for _ in 0..12 {
-        let start = Board::random(&mut random);
+        let mut start = Board::random(&mut random);
+        if random.below(2) == 0 {
+            start = start.on_single_memory();
+        }
         let mut machine = start.clone();
         let mut l = Vec::new();
         // By the rules, by the table, and by either as it falls.

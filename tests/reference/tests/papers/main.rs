@@ -4,6 +4,7 @@
 mod assembly;
 mod backs;
 mod board;
+mod boards;
 mod conformance;
 mod divisors;
 mod engines;

@@ -3,7 +3,7 @@
 use crate::board::{bytes_of, file, Board, Engine, ENGINES};
 use crate::random::Random;
 use reference::load::load;
-use reference::machine::State;
+use reference::machine::{Memories, State};
 use reference::run::{host_step, Reply};
 use reference::set::set;
 use reference::window::{window, Memory};
@@ -15,10 +15,16 @@ pub fn noisy() -> Board {
 
 /// The load's answer on a noisy board, which a refusal must leave as it was.
 pub fn answer(bytes: &[u8]) -> Result<Board, u8> {
+    answer_for(Memories::Two, bytes)
+}
+
+/// The same for this board.
+pub fn answer_for(memories: Memories, bytes: &[u8]) -> Result<Board, u8> {
     let mut board = noisy();
     let before = board.clone();
     match load(
         bytes,
+        memories,
         &mut board.p,
         &mut board.d,
         &mut board.i,
@@ -51,6 +57,7 @@ fn a_load_copies_the_parts_and_zeroes_the_rest() {
         pc: 0,
         n: 0,
         journaled: 0,
+        board: 0,
     };
     assert_eq!(loaded.s, reset);
 }
@@ -131,6 +138,7 @@ fn load_1_before_all_others() {
                 let before = board.clone();
                 let answer = load(
                     bytes,
+                    Memories::Two,
                     &mut board.p,
                     &mut board.d,
                     &mut board.i,

@@ -3,13 +3,14 @@
 use crate::board::{bytes_of, file, Board};
 use crate::random::Random;
 use crate::refusals::{answer, lengths, noisy};
+use reference::machine::State;
 use reference::save::save;
 
 /// The file that the board's memories are saved as. The rest of the
 /// destination must be as it was.
-fn saved(board: &Board) -> Vec<u8> {
+pub fn saved(board: &Board) -> Vec<u8> {
     let mut destination = vec![0xEE; 140_000];
-    let length = save(&board.p, &board.d, &mut destination).unwrap();
+    let length = save(&board.s, &board.p, &board.d, &mut destination).unwrap();
     assert!(destination[length..].iter().all(|&byte| byte == 0xEE));
     destination.truncate(length);
     destination
@@ -89,7 +90,7 @@ fn save_9_destination_shorter_than_the_file() {
     assert_eq!(file.len(), 23);
     for length in 0..30 {
         let mut destination = vec![0xEE; length];
-        let answer = save(&board.p, &board.d, &mut destination);
+        let answer = save(&board.s, &board.p, &board.d, &mut destination);
         if length < 23 {
             assert_eq!(answer, Err(9));
             assert_eq!(destination, vec![0xEE; length]);
@@ -113,7 +114,8 @@ fn save_1_before_9() {
             let memory = vec![7; length];
             for (p, d) in [(&memory, &vec![7; 65_536]), (&vec![7; 65_536], &memory)] {
                 let mut destination = vec![0xEE; places];
-                assert_eq!(save(p, d, &mut destination), expected);
+                let answer = save(&State::reset(), p, d, &mut destination);
+                assert_eq!(answer, expected);
                 let kept = destination.iter().all(|&byte| byte == 0xEE);
                 assert_eq!(kept, expected.is_err());
             }

@@ -30,6 +30,9 @@ fn reads_key(w: u16) -> bool {
 impl Trail {
     fn new(mut random: Random) -> Trail {
         let mut board = Board::random(&mut random);
+        if random.below(2) == 0 {
+            board = board.on_single_memory();
+        }
         board.s.n += 1_000;
         Trail {
             random,

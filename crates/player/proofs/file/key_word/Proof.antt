@@ -1,25 +1,17 @@
--- By the place, and by the number that decides it.
+-- By `loop_word`, of the word that the number makes.
 -- Assumes nothing.
 use borrow.Author.Needs.{needs}
-use borrow.Author.Tests.{lt-ltb, le-ltb, eq-eqb, ne-eqb}
-use Rattle.player.specs.File.{keyWord}
 use Rattle.player.proofs.file.key_word.Statement.{statement}
 use Rattle.player.proofs.file.key_word.Tie as tie
 
 pub key-word-spec : {M : Type 1} → statement M
-unfolding keyWord
 key-word-spec =
     tie.close
     (tie.spec
-    (λ c. rw (le-ltb _ _ (c .before .if1 .taken), eq-eqb _ _ (c .if2 .taken)))
-    (λ c. rw (le-ltb _ _ (c .before .if1 .taken), ne-eqb _ _ (c .if2 .left)))
-    (λ c. search needs)
-    (λ c κs. search needs)
-    (λ c κs. search needs)
-    (λ c. rw (lt-ltb _ _ (c .before .before .before .if1 .left), ← c .before .before .number .ensures, ne-eqb _ _ (c .before .if3 .taken)) (c .any-word .ensures))
     (λ c. search needs)
     (λ c κs. search needs)
     (λ c. search needs)
     (λ c. search needs)
     (λ c. search needs)
-    (λ c. rw (lt-ltb _ _ (c .before .before .before .if1 .left), ← c .before .before .number .ensures, eq-eqb _ _ (c .before .if3 .left), ← c .number2 .ensures)))
+    (λ c κs. search needs)
+    (λ c. rw (← c .before .number .ensures) (c .loop-word .ensures)))

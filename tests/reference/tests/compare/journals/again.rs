@@ -1,6 +1,6 @@
 //! There, back and forward again, journals of more than 2,048 places too.
 
-use super::{before_loop, endless_loop, put};
+use super::{before_loop_on_any_board, endless_loop, put};
 use crate::call::{plain_state, Answer, Call};
 use crate::ffi;
 use crate::make::{great_budget, one_of, port};
@@ -43,11 +43,11 @@ impl There {
     /// Fits `twins` with another loop and journal.
     fn new(mut random: Random, mut twins: Twins, case: u64) -> There {
         let words = endless_loop(&mut random);
-        twins.change(|lent| put(lent.program, &words));
+        twins.change(|lent| put(lent, &words));
         let any = random.below(JOURNAL as u64 + 1) as usize;
         let places = [0, 1, 5, 300, 2_048, 2_049, 5_000, JOURNAL, JOURNAL, any];
         There {
-            state: before_loop(&mut random),
+            state: before_loop_on_any_board(&mut random),
             lengths: Lengths {
                 journal: places[case as usize % places.len()],
                 ..Lengths::right(LOG)

@@ -4,7 +4,7 @@
 use super::{before_loop, endless_loop, put};
 use crate::call::{header_state, of_library, plain_state, Answer, Call};
 use crate::ffi::Back;
-use crate::make::one_of;
+use crate::make::{board, one_of};
 use crate::random::Random;
 use crate::world::{touched, Lengths, World, LOG};
 use crate::{random_of, seed};
@@ -29,7 +29,7 @@ fn fill(random: &mut Random, world: &mut World, places: usize) {
         return journal.fill_with(|| random.next());
     }
     let words = endless_loop(random);
-    put(world.lend(&Lengths::right(0)).program, &words);
+    put(world.lend(&Lengths::right(0)), &words);
     let call = Call::Journaled(Engine::Rules, before_loop(random), places as u32);
     of_library(&call, world, &lengths);
     let (_, journal) = world.lend_with_journal(&lengths);
@@ -62,6 +62,7 @@ fn check(state: State, k: u64, places: usize, back: &Back) -> u64 {
     assert_eq!(back.state.journaled, state.journaled - k);
     assert!(back.entries <= k);
     assert!(changed(&state.r, &back.state.r) <= k);
+    assert_eq!(back.state.board, state.board);
     k
 }
 
@@ -96,6 +97,7 @@ fn journals_of_any_numbers() {
         state.journaled = one_of(&mut random, &[places as u64, few, few, places as u64 + 1]);
         state.n = one_of(&mut random, &[state.n, state.n, few as u32]);
         state.pc = one_of(&mut random, &[0, 2, 0xFFFE, 0x1234, 0x1235]);
+        state.board = board(&mut random);
         let k = one_of(
             &mut random,
             &[0, 1, few, state.journaled, state.journaled + 1],

@@ -16,7 +16,7 @@ use reference::run::Engine;
 fn stepped(random: &mut Random, steps: u32) -> (Twins, State) {
     let mut twins = Twins::new(World::random(random));
     let words = endless_loop(random);
-    twins.change(|lent| put(lent.program, &words));
+    twins.change(|lent| put(lent, &words));
     let lengths = Lengths {
         journal: JOURNAL,
         ..Lengths::right(LOG)

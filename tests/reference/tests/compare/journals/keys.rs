@@ -48,7 +48,7 @@ struct Keys {
 impl Keys {
     fn new(mut random: Random, mut twins: Twins) -> Keys {
         let words = key_loop(&mut random);
-        twins.change(|lent| put(lent.program, &words));
+        twins.change(|lent| put(lent, &words));
         Keys {
             state: before_loop(&mut random),
             status: twins.sides.reference.lend(&Lengths::right(0)).inputs[0],

@@ -23,7 +23,7 @@ fn one_step_of_every_word_and_back() {
             n: random.below(1 << 31) as u32 + 1,
             ..random_state(&mut random, w)
         };
-        twins.change(|lent| put(lent, before.pc, w));
+        twins.change(|lent| put(lent, &before, w));
         let call = Call::Journaled(Engine::Rules, before, 1);
         let Answer::Run(run) = twins.answer(&call, &lengths, at) else {
             panic!("{}", at())

@@ -147,8 +147,10 @@ fn twelve_calls_after_each_second_load() {
     let lines = lines();
     let (mut backs, mut gone, mut cases) = (0, 0, 0);
     for at in (0..lines.len()).filter(|&at| lines[at].starts_with("again ")) {
-        // Two more saves come first.
-        let (more, steps) = follow(&lines[at + 3..at + 15], case_of(&lines[at]), 1);
+        // Two more saves come first, and from case 80 on lines of the board.
+        let c = case_of(&lines[at]);
+        let first = at + if c < 80 { 3 } else { 6 };
+        let (more, steps) = follow(&lines[first..first + 12], c, 1);
         (backs, gone, cases) = (backs + more, gone + steps, cases + 1);
     }
     assert_eq!(cases, count(&lines, "again"));
@@ -158,9 +160,10 @@ fn twelve_calls_after_each_second_load() {
 #[test]
 fn twenty_four_calls_with_keys() {
     let lines = lines();
-    let first = lines.len() - 16 * 25;
+    let first = lines.iter().position(|line| line.starts_with("load 64 "));
+    let first = first.expect("the first case of keys");
     let (mut backs, mut gone) = (0, 0);
-    for (c, case) in (64..).zip(lines[first..].chunks(25)) {
+    for (c, case) in (64..80).zip(lines[first..].chunks(25)) {
         assert!(case[0].starts_with(&format!("load {c} 0 ")), "{}", case[0]);
         let (more, steps) = follow(&case[1..], c, 2);
         (backs, gone) = (backs + more, gone + steps);

@@ -2,19 +2,23 @@
 -- Assumes nothing.
 use Prim.Native.Nat.{ℕ, suc, _+_, _-_, _*_, _/_, _%_, _≤_, _<_}
 use mathlib.Core.Path.{_≡_, refl, sym, ap, _∙_}
-use mathlib.Core.Bool.{and-false}
+use mathlib.Core.Bool.{true, false, and-false}
 use mathlib.Core.List.{List, _++_}
 use mathlib.Core.Logic.{_⊎_, inl, inr, ⊎-elim, _↔_}
 use native.Mathlib.Decide.{ℕ-discrete, decLe}
-use native.Mathlib.Nat.{le-refl, div-add-mod', div-div-eq-div-mul, mod-eq-of-lt}
+use native.Mathlib.Nat.{le-refl, zero-add, div-add-mod', div-div-eq-div-mul, mod-eq-of-lt}
 use native.Mathlib.Omega.{arith}
 use lib.ListN.{length, getD, take, drop, replicate, length-append, length-drop, length-replicate, getD-replicate, take-append-drop}
 use lib.Seq.{ext-getD, getD-drop, take-at, drop-at, drop-drop, take-take, length-take-le}
 use borrow.Author.Tests.{eq-eqb, ne-eqb, le-leb, lt-leb}
 use Rattle.refusal.specs.Refusals.{accepted}
-use Rattle.machine.specs.Machine.{reset, wordAt}
-use Rattle.image.specs.Image.{W, programOffset, C, dataOffset, memoryOf, loadReply, loadLeft}
-use Rattle.save.specs.Saved.{kept, wordsKept, bytesKept, savedFile, SaveReply, saved, save-refused, SaveGiven, saveReply, saveLeftBy, saveLeft}
+use Rattle.word.proofs.Tests.{either}
+use Rattle.machine.specs.declared.State.{State}
+use Rattle.machine.specs.declared.Board.{Board}
+use Rattle.machine.specs.declared.Board.the-variants.{TwoMemories, SingleMemory}
+use Rattle.machine.specs.Machine.{reset, resetOn, isSingle, wordAt}
+use Rattle.image.specs.Image.{W, programOffset, C, dataOffset, partOf, memoryOf, singleMemoryOf, loadedP, loadedD, boardHolds, loadReply, loadLeft}
+use Rattle.save.specs.Saved.{kept, wordsKept, wordsSaved, bytesKept, fileOf, savedFile, SaveReply, saved, save-refused, SaveGiven, saveReply, saveLeftBy, saveLeft}
 use Rattle.image.proofs.Fits.{no-refusal}
 use Rattle.image.proofs.Left.{left-by, accepted-left}
 use Rattle.save.proofs.Kept.{Cut, cut, least, words-kept}
@@ -27,17 +31,21 @@ words-within P = omega (arith, cut (λ k. wordAt P (2 * k)) (length P / 2) .with
 bytes-within : (D : List ℕ) → bytesKept D ≤ length D
 bytes-within D = cut (λ k. getD D k 0) (length D) .within
 
-pub file-length : (P D : List ℕ) → length (savedFile P D) ≡ 16 + 2 * wordsKept P + bytesKept D
+-- the words saved, by the board
+saved-within : (s : State) (P : List ℕ) → 2 * wordsSaved s P ≤ length P
+saved-within s P = either (λ w. 2 * w ≤ length P) (isSingle s) (omega arith) (words-within P)
+
+pub file-length : (s : State) (P D : List ℕ) → length (savedFile s P D) ≡ 16 + 2 * wordsSaved s P + bytesKept D
 unfolding savedFile
-file-length P D =
-    let p = length-take-le (2 * wordsKept P) P (words-within P) in
+file-length s P D =
+    let p = length-take-le (2 * wordsSaved s P) P (saved-within s P) in
     let d = length-take-le (bytesKept D) D (bytes-within D) in
     simp (length-append, p, d) (omega arith)
 
-pub file-at-most : (P D : List ℕ) → length P ≡ 65536 → length D ≡ 65536 → length (savedFile P D) ≤ 131088
-file-at-most P D p d = omega (arith, file-length P D, words-within P, bytes-within D)
+pub file-at-most : (s : State) (P D : List ℕ) → length P ≡ 65536 → length D ≡ 65536 → length (savedFile s P D) ≤ 131088
+file-at-most s P D p d = omega (arith, file-length s P D, saved-within s P, bytes-within D)
 
--- ---- Loading it gives back both memories
+-- ---- Loading it gives back both memories, on the single-memory board data memory alone
 
 -- a number of the header, from its bytes
 digits : (v a b c r s t : ℕ) → a * 256 + r ≡ v → b * 256 + s ≡ a → c * 256 + t ≡ b → r + 256 * s + 65536 * t + 16777216 * c ≡ v
@@ -62,62 +70,87 @@ module _ (l : List ℕ) (n size : ℕ) (e : length l ≡ size) (h : bytesKept l 
       let zeros : drop n l ≡ replicate (size - n) 0 = ext-getD 0 _ _ (simp (length-drop, length-replicate, e)) zero-at in
       rw (← zeros) (take-append-drop n l)
 
-module _ (P D : List ℕ) (p : length P ≡ 65536) (d : length D ≡ 65536) where
-  words-small : wordsKept P ≤ 32768
-  words-small = omega (arith, words-within P)
+-- the file of the first w words of P
+abbrev file : ℕ → List ℕ → List ℕ → List ℕ
+file w P D = fileOf w (bytesKept D) P D
+
+module _ (w : ℕ) (P D : List ℕ) (within : 2 * w ≤ length P) (p : length P ≡ 65536) (d : length D ≡ 65536) where
+  words-small : w ≤ 32768
+  words-small = omega arith
 
   bytes-small : bytesKept D ≤ 65536
   bytes-small = omega (arith, bytes-within D)
 
-  words : W (savedFile P D) ≡ wordsKept P
-  unfolding savedFile
+  words : W (file w P D) ≡ w
   words = number-back _ (omega (arith, words-small))
 
-  offset : programOffset (savedFile P D) ≡ 16
-  unfolding savedFile
-  offset = refl
-
-  bytes : C (savedFile P D) ≡ bytesKept D
-  unfolding savedFile
+  bytes : C (file w P D) ≡ bytesKept D
   bytes = number-back _ (omega (arith, bytes-small))
 
-  bytes-offset : dataOffset (savedFile P D) ≡ 16 + 2 * wordsKept P
-  unfolding savedFile
+  bytes-offset : dataOffset (file w P D) ≡ 16 + 2 * w
   bytes-offset = number-back _ (omega (arith, words-small))
 
-  after-header : drop 16 (savedFile P D) ≡ take (2 * wordsKept P) P ++ take (bytesKept D) D
-  unfolding savedFile
-  after-header = refl
+  part : length (take (2 * w) P) ≡ 2 * w
+  part = length-take-le _ _ within
 
-  program : memoryOf (savedFile P D) (programOffset (savedFile P D)) (2 * W (savedFile P D)) ≡ P
-  program =
-      rw (words, offset, after-header, take-at _ _ _ (length-take-le _ _ (words-within P)))
-      (rest-zero P _ 65536 p (omega (arith, words-kept P p refl)) (words-within P))
+  program-part : partOf (file w P D) (programOffset (file w P D)) (2 * W (file w P D)) ≡ take (2 * w) P
+  program-part = rw words (take-at (take (2 * w) P) _ _ part)
 
-  contents : memoryOf (savedFile P D) (dataOffset (savedFile P D)) (C (savedFile P D)) ≡ D
-  contents =
-      rw (bytes, bytes-offset, ← drop-drop, after-header, drop-at _ _ _ (length-take-le _ _ (words-within P)), take-take _ _ _ (le-refl _))
-      (rest-zero D _ 65536 d (le-refl _) (bytes-within D))
+  data-part : partOf (file w P D) (dataOffset (file w P D)) (C (file w P D)) ≡ take (bytesKept D) D
+  data-part = rw (bytes, bytes-offset, ← drop-drop) (rw (drop-at (take (2 * w) P) _ _ part) (take-take (bytesKept D) (bytesKept D) D (le-refl _)))
 
   -- whatever the memories and ports that it is loaded to held
-  module _ (P′ D′ I′ O′ : List ℕ) (p′ : length P′ ≡ 65536) (d′ : length D′ ≡ 65536) (i′ : length I′ ≡ 256) (o′ : length O′ ≡ 256) where
-    accepts : accepted ≡ loadReply (record { file = savedFile P D; P = P′; D = D′; I = I′; O = O′ })
+  module _ (board : Board) (held : boardHolds board (file w P D) ≡ true) (P′ D′ I′ O′ : List ℕ) (p′ : length P′ ≡ 65536) (d′ : length D′ ≡ 65536) (i′ : length I′ ≡ 256) (o′ : length O′ ≡ 256) where
+    accepts : accepted ≡ loadReply (record { file = file w P D; board = board; P = P′; D = D′; I = I′; O = O′ })
     accepts =
-        let size = file-length P D in
-        no-refusal (record { file = savedFile P D; P = P′; D = D′; I = I′; O = O′ })
+        let size : length (file w P D) ≡ 16 + 2 * w + bytesKept D = simp (length-append, part, length-take-le (bytesKept D) D (bytes-within D)) (omega arith) in
+        no-refusal (record { file = file w P D; board = board; P = P′; D = D′; I = I′; O = O′ })
         (simp (eq-eqb _ _ p′, eq-eqb _ _ d′, eq-eqb _ _ i′, eq-eqb _ _ o′))
-        (omega arith)
+        (omega (arith, size))
         (rw words words-small)
         (rw bytes bytes-small)
-        (rw offset (le-refl _))
-        (rw (offset, words) (omega arith))
+        (le-refl _)
+        (rw words (omega (arith, size)))
         (rw bytes-offset (omega arith))
-        (rw (bytes-offset, bytes) (omega arith))
+        (rw (bytes-offset, bytes) (omega (arith, size)))
+        held
 
+    loads : loadLeft (record { file = file w P D; board = board; P = P′; D = D′; I = I′; O = O′ })
+        ≡ record { reply = accepted; state = resetOn board; P = loadedP board (file w P D); D = loadedD board (file w P D); I = replicate 256 0; O = replicate 256 0 }
+    loads = sym (left-by _ accepts (accepted-left (file w P D) board refl refl refl refl refl))
+
+module _ (s : State) (P D : List ℕ) (p : length P ≡ 65536) (d : length D ≡ 65536) where
+  data-back : take (bytesKept D) D ++ replicate (65536 - bytesKept D) 0 ≡ D
+  data-back = rest-zero D _ 65536 d (le-refl _) (bytes-within D)
+
+  module _ (P′ D′ I′ O′ : List ℕ) (p′ : length P′ ≡ 65536) (d′ : length D′ ≡ 65536) (i′ : length I′ ≡ 256) (o′ : length O′ ≡ 256) where
     pub loads-back :
-        loadLeft (record { file = savedFile P D; P = P′; D = D′; I = I′; O = O′ })
+        isSingle s ≡ false
+        → loadLeft (record { file = savedFile s P D; board = TwoMemories; P = P′; D = D′; I = I′; O = O′ })
         ≡ record { reply = accepted; state = reset; P = P; D = D; I = replicate 256 0; O = replicate 256 0 }
-    loads-back = sym (left-by _ accepts (accepted-left (savedFile P D) refl (sym program) (sym contents) refl refl))
+    unfolding savedFile
+    loads-back e =
+        let w = wordsKept P in
+        let program : memoryOf (file w P D) (programOffset (file w P D)) (2 * W (file w P D)) ≡ P =
+        rw (program-part w P D (words-within P) p d, words w P D (words-within P) p d) (rest-zero P _ 65536 p (omega (arith, words-kept P p refl)) (words-within P)) in
+        let contents : memoryOf (file w P D) (dataOffset (file w P D)) (C (file w P D)) ≡ D =
+        rw (data-part w P D (words-within P) p d, bytes w P D (words-within P) p d) data-back in
+        rw e (loads w P D (words-within P) p d TwoMemories refl P′ D′ I′ O′ p′ d′ i′ o′)
+        ∙ (λ i. record { reply = accepted; state = reset; P = program i; D = contents i; I = replicate 256 0; O = replicate 256 0 })
+
+    pub loads-back-single :
+        isSingle s ≡ true
+        → loadLeft (record { file = savedFile s P D; board = SingleMemory; P = P′; D = D′; I = I′; O = O′ })
+        ≡ record { reply = accepted; state = resetOn SingleMemory; P = replicate 65536 0; D = D; I = replicate 256 0; O = replicate 256 0 }
+    unfolding savedFile
+    loads-back-single e =
+        let within : 2 * 0 ≤ length P = omega arith in
+        let held : boardHolds SingleMemory (file 0 P D) ≡ true =
+        rw (words 0 P D within p d, bytes 0 P D within p d) (le-leb (0 + bytesKept D) 65536 (omega (arith, bytes-within D))) in
+        let contents : singleMemoryOf (file 0 P D) ≡ D =
+        (λ i. program-part 0 P D within p d i ++ data-part 0 P D within p d i ++ replicate (65536 - (2 * words 0 P D within p d i + bytes 0 P D within p d i)) 0) ∙ rw zero-add data-back in
+        rw e (loads 0 P D within p d SingleMemory held P′ D′ I′ O′ p′ d′ i′ o′)
+        ∙ ap (λ (E : List ℕ). record { reply = accepted; state = resetOn SingleMemory; P = replicate 65536 0; D = E; I = replicate 256 0; O = replicate 256 0 }) contents
 
 -- ---- What is kept ends with no zero, and is the least that leaves only zeros after it
 
@@ -150,7 +183,7 @@ abbrev pub RightLengths : SaveGiven → Type 0
 RightLengths g = (length (g .P) ≡ 65536) × (length (g .D) ≡ 65536)
 
 abbrev size : SaveGiven → ℕ
-size g = length (savedFile (g .P) (g .D))
+size g = length (savedFile (g .state) (g .P) (g .D))
 
 -- what the tests find, and the reply to it
 pub data Found (g : SaveGiven) : SaveReply → Type 0 where
@@ -220,6 +253,6 @@ module _ (g : SaveGiven) where
   no-other k e = ⊎-elim (λ w. inl (w .0)) (λ w. inr (w .0)) (why e)
 
   -- where refused, nothing lent has changed
-  pub nothing-changes : (k : ℕ) → saveLeft g .reply ≡ save-refused k → saveLeft g ≡ record { reply = save-refused k; P = g .P; D = g .D; destination = g .destination }
+  pub nothing-changes : (k : ℕ) → saveLeft g .reply ≡ save-refused k → saveLeft g ≡ record { reply = save-refused k; state = g .state; P = g .P; D = g .D; destination = g .destination }
   unfolding saveLeft
   nothing-changes k e = ap (λ r. saveLeftBy r g) (sym (reply-of (saveReply g)) ∙ e)
