@@ -21,6 +21,10 @@ static SisaBack back_accepted(SisaState state, uint8_t *restrict memory, uint16_
         case BYTE: memory[where] = (uint8_t)held; break;
         case OUTPUT: outputs[where & 255] = held; fallen++; break;
         case KEY: r[entry >> 56 & 7] = held; inputs[0] = where; break;
+        case ENABLED: state.enabled = (uint8_t)held; break;
+        case TAKEN:
+            state.pending |= (uint8_t)(1 << (entry >> 56 & 7));
+            state.return_address = held; state.enabled = (uint8_t)where; state.line = (uint8_t)(where >> 8); break;
         default: break;
         }
     }

@@ -1,6 +1,7 @@
 /* The engines of libsisa.a beside a plain C interpreter (plain.c) and a faster one (flat.c), and its save beside plain C
    (save.c), in one process. All count what a run uses, but for the plain interpreter compiled a second time (uncounted.c). Runs
-   with a journal (journaled.c, journaled_flat.c) and steps back (back.c) are beside those of C too.
+   with a journal (journaled.c, journaled_flat.c) and steps back (back.c) are beside those of C too. All test for a line to be taken
+   at every step; none is pending in a timed run, and a run that takes lines is compared beforehand.
 
    Time is the CPU time of this process, so that being scheduled out does not count. All engines are lent the same
    buffers, which are made anew before each timed run (memory and inputs as the workload says, outputs and log zero), so
@@ -181,7 +182,8 @@ static void keep_as_expected(void)
 static int same_state(const SisaState *x, const SisaState *y)
 {
     return memcmp(x->r, y->r, sizeof x->r) == 0 && x->pc == y->pc && x->n == y->n && x->journaled == y->journaled
-        && x->board == y->board;
+        && x->board == y->board && x->enabled == y->enabled && x->pending == y->pending && x->line == y->line
+        && x->return_address == y->return_address;
 }
 
 static int same_reply(const SisaRun *x, const SisaRun *y)
@@ -214,14 +216,14 @@ static void check_run(int engine)
     exit(1);
 }
 
-/* Runs, each from a reset state, over buffers cleared before the first; the seconds that one took. */
+/* Runs, each from the workload's state, over buffers cleared before the first; the seconds that one took. */
 static double timed_runs(int engine)
 {
     SisaRun reply = { .refusal = 0 };
     clear(repeat.budget / STEPS_PER_OUT + 1);
     double start = now();
     for (int i = 0; i < repeat.calls; i++)
-        reply = run(engine, reset, repeat.budget);
+        reply = run(engine, load.start, repeat.budget);
     double end = now();
     lent.reply = reply;
     if (lent.reply.stop != 0 || lent.reply.steps != repeat.budget) {
@@ -262,7 +264,7 @@ static int late_addresses(void)
     static uint8_t visited[MEMORY_BYTES];
     int count = 0;
     clear(STEPS / STEPS_PER_OUT + 1);
-    SisaState state = run(C, reset, STEPS - LATE_STEPS).state;
+    SisaState state = run(C, load.start, STEPS - LATE_STEPS).state;
     for (int i = 0; i < LATE_STEPS; i++) {
         count += !visited[state.pc];
         visited[state.pc] = 1;
@@ -275,7 +277,7 @@ static int late_addresses(void)
    took. Each fills the log from place 0; the reply kept has the entries of all. */
 static double timed_chain(int engine, int keeps)
 {
-    SisaState held = reset;
+    SisaState held = load.start;
     uint64_t entries = 0;
     clear(repeat.budget / STEPS_PER_OUT + 1);
     if (keeps)
@@ -296,7 +298,7 @@ static double timed_chain(int engine, int keeps)
 /* Host steps, which change the state that the host holds. */
 static double timed_host_steps(void)
 {
-    SisaState held = reset;
+    SisaState held = load.start;
     uint64_t entries = 0;
     clear(1);
     double start = now();
@@ -361,7 +363,7 @@ static double timed_form(int kind)
 static void check_back(int engine)
 {
     static const uint16_t outputs[PORTS];
-    if (lent.reply.refusal == 0 && same_state(&lent.reply.state, &reset) && lent.reply.entries == expected.reply.entries
+    if (lent.reply.refusal == 0 && same_state(&lent.reply.state, &load.start) && lent.reply.entries == expected.reply.entries
         && memcmp(lent.memory, load.memory, sizeof lent.memory) == 0
         && memcmp(lent.inputs, load.inputs, sizeof lent.inputs) == 0 && memcmp(lent.outputs, outputs, sizeof outputs) == 0)
         return;
@@ -506,6 +508,27 @@ static void (*const workloads[])(Workload *) = { alu_loop, loads_and_stores, mix
 
 enum { WORKLOADS = sizeof workloads / sizeof *workloads };
 
+/* A run that takes lines, by all engines, with a journal and back, then in calls with budget 1. */
+static void check_lines(void)
+{
+    double times[KEEPERS * FORMS][ROUNDS];
+    lines(&load);
+    repeat.budget = LINE_STEPS;
+    repeat.calls = 1;
+    timed_form(C * FORMS + WITHOUT);
+    keep_as_expected();
+    if (expected.reply.usage.taken != LINES) {
+        fprintf(stderr, "%s: C took %u of %d\n", load.name, (unsigned)expected.reply.usage.taken, LINES);
+        exit(1);
+    }
+    in_rounds(times, KEEPERS * FORMS, FORMS, 1, timed_form, check_form);
+    repeat.budget = 1;
+    repeat.calls = LINE_STEPS;
+    timed_calls(C);
+    keep_as_expected();
+    in_rounds(times, CALLED, 1, 1, timed_calls, check_run);
+}
+
 /* The first table, and what counting costs C. */
 static void print_steps(void)
 {
@@ -596,6 +619,7 @@ int main(int argc, char **argv)
         run_all_counted();
         return 0;
     }
+    check_lines();
     if (strcmp(what, "calls") == 0) {
         mix(&load);
         print_call_costs();

@@ -3,7 +3,7 @@
 
 #include <string.h>
 
-/* What the switch goes by: the opcode, and f, which tells the instructions of opcodes 0, 1 and 11 apart. */
+/* What the switch goes by: the opcode, and f, which tells the instructions of opcodes 0, 1, 11 and 12 apart. */
 #define CASE(opcode, f) ((opcode) << 3 | (f))
 #define ANY_F(opcode) CASE(opcode, 0) ... CASE(opcode, 7)
 
@@ -28,6 +28,10 @@ static SisaRun run_accepted(SisaState state, const uint8_t *restrict program, ui
     budget = allowed(budget, state.journaled, journal_len);
     memcpy(r, state.r, sizeof r);
     while (steps < budget) {
+        if (TAKES_LINE) {
+            TAKE_LINE();
+            continue;
+        }
         uint16_t w = load_word(program, pc), next = (uint16_t)(pc + 2), target;
         switch (CASE(w >> 12, w & 7)) {
         case CASE(0, 0): PUT_REGISTER(D, r[A] & r[B]); COUNT(AND, A, B, D); break;
@@ -69,6 +73,10 @@ static SisaRun run_accepted(SisaState state, const uint8_t *restrict program, ui
         case CASE(11, 5):
             if (r[B] == 0) { stop = 3; goto stopped; }
             PUT_REGISTER(D, r[A] / r[B]); COUNT(DIVU, A, B, D); break;
+        case CASE(12, 0): PUT_ENABLED(1); COUNT(EI, NONE, NONE, NONE); break;
+        case CASE(12, 1): PUT_ENABLED(0); COUNT(DI, NONE, NONE, NONE); break;
+        case CASE(12, 2): PUT_ENABLED(1); next = state.return_address; COUNT(RETI, NONE, NONE, NONE); break;
+        case CASE(12, 3): PUT_REGISTER(D, state.line); COUNT(GETIID, NONE, NONE, D); break;
         default: stop = 1; goto stopped;
         }
         pc = next;

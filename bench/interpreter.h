@@ -47,7 +47,7 @@ static inline uint16_t divide_signed(uint16_t a, uint16_t b) { return (uint16_t)
 /* Kinds by their number. */
 enum {
     AND, OR, XOR, NOT, ADD, SUB, SHA, SHL, CMPLT, CMPLE, CMPEQ, CMPLTU, CMPLEU, ADDI, LD, ST, LDB, STB, JALR, BZ, BNZ, MOVI,
-    MOVHI, IN, OUT, MUL, MULH, MULHU, DIV, DIVU,
+    MOVHI, IN, OUT, MUL, MULH, MULHU, DIV, DIVU, EI, DI, RETI, GETIID,
 };
 
 /* No register. */
@@ -79,8 +79,9 @@ static inline uint64_t ticks_of(uint32_t steps, const SisaUsage *usage)
     return COUNTING ? 3 * (uint64_t)steps + kinds[LD] + kinds[ST] + kinds[LDB] + kinds[STB] : 0;
 }
 
-/* What a step overwrites. KEY is a register and input 0, the register's number 8 bits above it. */
-enum { NOTHING, REGISTER, WORD, BYTE, OUTPUT, KEY };
+/* What a step overwrites. KEY is a register and input 0, the register's number 8 bits above it. TAKEN is the return address, the
+   enable flag and, 8 bits above that, the line number; the line taken is 8 bits above TAKEN. */
+enum { NOTHING, REGISTER, WORD, BYTE, OUTPUT, KEY, ENABLED, TAKEN };
 
 /* An entry of the journal, from the low bits on: PC before the step, what was held, where, and which of these held it. */
 static inline uint64_t entry_of(uint16_t pc, uint16_t held, uint16_t where, unsigned what)
@@ -102,6 +103,15 @@ static inline uint64_t entry_of(uint16_t pc, uint16_t held, uint16_t where, unsi
 #define KEEP(held, where, what) (void)journal
 #endif
 
+/* What taking a line changes, but for PC. */
+static inline void take(SisaState *state, unsigned line, uint16_t pc)
+{
+    state->pending &= (uint8_t)~(1u << line);
+    state->line = (uint8_t)line;
+    state->return_address = pc;
+    state->enabled = 0;
+}
+
 /* What a step of run_accepted writes, its entry kept first. */
 #define PUT_NOTHING() KEEP(0, 0, NOTHING)
 #define PUT_REGISTER(k, v) (KEEP(r[k], k, REGISTER), r[k] = (uint16_t)(v))
@@ -110,6 +120,14 @@ static inline uint64_t entry_of(uint16_t pc, uint16_t held, uint16_t where, unsi
 #define PUT_WORD(at, v) (KEEP(load_word(memory, at), (at) & 0xFFFE, WORD), store_word(memory, at, v))
 #define PUT_BYTE(at, v) (KEEP(memory[at], at, BYTE), memory[at] = (uint8_t)(v))
 #define PUT_OUTPUT(port, v) (KEEP(outputs[port], port, OUTPUT), outputs[port] = (v))
+#define PUT_ENABLED(v) (KEEP(state.enabled, 0, ENABLED), state.enabled = (v))
+#define PUT_TAKEN(k) \
+    (KEEP(state.return_address, (uint16_t)(state.enabled | state.line << 8), TAKEN | (k) << 8), take(&state, k, pc))
+
+/* Before a step's fetch: where lines are enabled and one is pending, the lowest is taken, which is a step. */
+#define TAKES_LINE __builtin_expect(state.enabled != 0 && state.pending != 0, 0)
+#define TAKE_LINE() \
+    (PUT_TAKEN((unsigned)__builtin_ctz(state.pending)), usage.taken += COUNTING, pc = 0x0100, steps++)
 
 /* The steps that a run may take: a full journal counts as a used budget. */
 static inline uint32_t allowed(uint32_t budget, uint64_t journaled, size_t journal_len)
@@ -124,7 +142,7 @@ static inline uint8_t refusal_of_lent(const SisaState *state, size_t program_len
 {
     if (program_len != MEMORY_BYTES || memory_len != MEMORY_BYTES || inputs_len != PORTS || outputs_len != PORTS)
         return 1;
-    return state->pc % 2 != 0 ? 5 : 0;
+    return (state->pc | state->return_address) % 2 != 0 ? 5 : 0;
 }
 
 /* The refusal of a run, 0 where it is accepted. */

@@ -1,5 +1,5 @@
 /* The interpreter that the engines are measured against: a switch on the opcode, for opcodes 0, 1 and 11 one on f, the
-   registers in a local array, each word fetched from the program's bytes. */
+   registers in a local array, each word fetched from the program's bytes, and lines taken before that. */
 #include "interpreter.h"
 
 #include <string.h>
@@ -60,6 +60,10 @@ static SisaRun run_accepted(SisaState state, const uint8_t *restrict program, ui
     budget = allowed(budget, state.journaled, journal_len);
     memcpy(r, state.r, sizeof r);
     while (steps < budget) {
+        if (TAKES_LINE) {
+            TAKE_LINE();
+            continue;
+        }
         uint16_t w = load_word(program, pc), next = (uint16_t)(pc + 2);
         unsigned a = w >> 9 & 7, b = w >> 6 & 7, d = w >> 3 & 7, f = w & 7, e = w >> 8 & 1;
         int x;
@@ -88,6 +92,11 @@ static SisaRun run_accepted(SisaState state, const uint8_t *restrict program, ui
         case 11:
             if ((x = multiply(f, r[a], r[b])) < 0) { stop = (uint8_t)-x; goto stopped; }
             PUT_REGISTER(d, x); count(&usage, MUL + f - (f > 3), a, b, d); break;
+        case 12:
+            if (f > 3) { stop = 1; goto stopped; }
+            if (f == 3) { PUT_REGISTER(d, state.line); count(&usage, GETIID, NONE, NONE, d); break; }
+            PUT_ENABLED(f != 1); if (f == 2) next = state.return_address;
+            count(&usage, EI + f, NONE, NONE, NONE); break;
         default: stop = 1; goto stopped;
         }
         pc = next;

@@ -32,6 +32,10 @@
 #define MULHU(d, a, b) R3(11, 2, d, a, b)
 #define DIV(d, a, b) R3(11, 4, d, a, b)
 #define DIVU(d, a, b) R3(11, 5, d, a, b)
+#define EI R3(12, 0, 0, 0, 0)
+#define DI R3(12, 1, 0, 0, 0)
+#define RETI R3(12, 2, 0, 0, 0)
+#define GETIID(d) R3(12, 3, d, 0, 0)
 
 /* Marsaglia's xorshift; the state is never 0. */
 static uint32_t next_random(uint32_t *x)
@@ -48,10 +52,11 @@ static void put_word(uint8_t *program, size_t place, uint16_t w)
     program[2 * place + 1] = (uint8_t)(w >> 8);
 }
 
-/* A program of these words, zeros after them, random data bytes and inputs. */
+/* A program of these words, zeros after them, random data bytes and inputs, a reset state. */
 static void make(Workload *load, const char *name, const uint16_t *words, size_t count, uint32_t seed)
 {
     load->name = name;
+    load->start = (SisaState){ .pc = 0 };
     memset(load->program, 0, MEMORY_BYTES);
     for (size_t i = 0; i < count; i++)
         put_word(load->program, i, words[i]);
@@ -145,4 +150,15 @@ void random_program(Workload *load, uint32_t seed)
         unsigned kind = random_kind(&seed);
         put_word(load->program, i, word_of(kind, (uint16_t)(next_random(&seed) >> 16)));
     }
+}
+
+void lines(Workload *load)
+{
+    static const uint16_t words[] = {
+        MOVI(3, 1),
+        EI, ADDI(4, 4, 1), DI, ADDI(4, 4, 2), BNZ(3, -5),
+        /* 0x0100 */ [128] = GETIID(1), ADD(2, 2, 1), RETI,
+    };
+    make(load, "lines", words, sizeof words / sizeof *words, 4);
+    load->start.pending = (1 << LINES) - 1;
 }

@@ -5,10 +5,11 @@
 
 enum { STEPS_PER_OUT = 16 };
 
-/* What a measured run starts from, beside a reset state and outputs of 0. None of the programs ends by itself, and none
-   does an OUT more often than once in STEPS_PER_OUT steps. */
+/* What a run starts from, beside outputs of 0. None of the programs ends by itself, and none does an OUT more often than
+   once in STEPS_PER_OUT steps. The state is a reset one, but for the lines that are pending. */
 typedef struct {
     const char *name;
+    SisaState start;
     uint8_t program[MEMORY_BYTES];
     uint8_t memory[MEMORY_BYTES];
     uint16_t inputs[PORTS];
@@ -31,5 +32,9 @@ void mix_with_products(Workload *load);
    number but for JALR, which is 64 times rarer, and branches go forward: a program without these two limits soon stays in
    a short loop. There is no word of opcode 11: a random divisor is soon 0, which would end the run. */
 void random_program(Workload *load, uint32_t seed);
+
+/* EI, DI, GETIID and RETI, all eight lines pending at the start: the first LINE_STEPS steps take them all. */
+enum { LINES = 8, LINE_STEPS = 100 };
+void lines(Workload *load);
 
 #endif

@@ -1,17 +1,18 @@
 /* A host in C: loads a trim, sets three inputs, runs it, shows the corrections, saves both memories and loads them again;
    then takes the first steps one by one, steps back from the end of a run and goes forward again; presses the key for a second
-   trim, if one is named; runs a third, which changes its own code, on the single-memory board, if one is named; and shows the
-   usage sheet of it all.
+   trim, if one is named; runs a third, which changes its own code, on the single-memory board, if one is named; turns a knob for
+   a fourth, if one is named; and shows the usage sheet of it all.
 
        gcc -O2 -Iinclude examples/host.c target/staticlib/libsisa.a -o target/host_c
-       target/host_c examples/gain.trim examples/key.trim examples/fanout.trim */
+       target/host_c examples/gain.trim examples/key.trim examples/fanout.trim examples/knob.trim */
 #include "sisa.h"
 
 #include <stdio.h>
 #include <string.h>
 
-enum { MEMORY_BYTES = 65536, PORTS = 256, LOG_PLACES = 64, BUDGET = 1000, HOST_STEPS = 5, BACK_STEPS = 5, KINDS = 30 };
+enum { MEMORY_BYTES = 65536, PORTS = 256, LOG_PLACES = 64, BUDGET = 1000, HOST_STEPS = 5, BACK_STEPS = 5, KINDS = 34 };
 enum { TWO_MEMORIES = 0, SINGLE_MEMORY = 1 };
+enum { KNOB = 3, KNOB_PORT = 16, WAIT_STEPS = 10 };
 
 static uint8_t file[16 + 2 * MEMORY_BYTES], program[MEMORY_BYTES], memory[MEMORY_BYTES];
 static uint16_t inputs[PORTS], outputs[PORTS];
@@ -20,7 +21,8 @@ static SisaSheet sheet; /* all zero: the empty sheet */
 
 static const char *const kinds[KINDS] = {
     "AND", "OR", "XOR", "NOT", "ADD", "SUB", "SHA", "SHL", "CMPLT", "CMPLE", "CMPEQ", "CMPLTU", "CMPLEU", "ADDI", "LD", "ST", "LDB",
-    "STB", "JALR", "BZ", "BNZ", "MOVI", "MOVHI", "IN", "OUT", "MUL", "MULH", "MULHU", "DIV", "DIVU",
+    "STB", "JALR", "BZ", "BNZ", "MOVI", "MOVHI", "IN", "OUT", "MUL", "MULH", "MULHU", "DIV", "DIVU", "EI", "DI", "RETI",
+    "GETIID",
 };
 
 static void print_state(const char *title, const SisaState *state)
@@ -226,21 +228,66 @@ static int change_code(const char *path)
     return 1;
 }
 
-/* The kinds that were done, and the registers. */
+static void print_lines(const char *title, const SisaState *state)
+{
+    printf("%s: enabled %u, pending %02X, line %u, return address %04X\n", title, state->enabled, state->pending, state->line,
+           state->return_address);
+}
+
+/* The knob's input has its position, and its line is raised. Returns 0 where that is refused. */
+static int turn_knob(SisaState *state)
+{
+    sisa_set_input(inputs, PORTS, KNOB_PORT, 700);
+    SisaRaised raised = sisa_raise(*state, KNOB);
+    *state = raised.state;
+    return !refused(raised.refusal);
+}
+
+/* Runs a trim that waits for a knob, turns it, and goes on: the line is taken before the next instruction, and the trim's handler
+   reads the knob. Taking the steps back gives the line its bit again. Returns 0 where a call is refused. */
+static int wait_for_knob(const char *path)
+{
+    SisaState state;
+    if (!load(path, TWO_MEMORIES, &state))
+        return 0;
+    SisaRun run = run_with_journal(state, WAIT_STEPS);
+    if (!show_run("run by the table, with a journal", &run))
+        return 0;
+    print_lines("waiting for a knob", &run.state);
+    if (!turn_knob(&run.state))
+        return 0;
+    print_lines("knob turned", &run.state);
+    run = run_with_journal(run.state, BUDGET);
+    if (!show_run("run by the table, with a journal", &run))
+        return 0;
+    print_lines("line taken", &run.state);
+    if (!step_back(&run.state, run.steps))
+        return 0;
+    print_lines("line given back", &run.state);
+    return 1;
+}
+
+static void print_steps(const char *what, uint64_t steps)
+{
+    if (steps != 0)
+        printf("%-6s %6llu steps\n", what, (unsigned long long)steps);
+}
+
+/* The kinds that were done, the lines taken, and the registers. */
 static void print_sheet(void)
 {
     printf("sheet of %u runs\n", sheet.runs);
     for (int k = 0; k < KINDS; k++)
-        if (sheet.kinds[k] != 0)
-            printf("%-6s %6llu steps\n", kinds[k], (unsigned long long)sheet.kinds[k]);
+        print_steps(kinds[k], sheet.kinds[k]);
+    print_steps("taken", sheet.taken);
     for (int j = 0; j < 8; j++)
         printf("R%d     %6llu reads %6llu writes\n", j, (unsigned long long)sheet.reads[j], (unsigned long long)sheet.writes[j]);
 }
 
 int main(int argc, char **argv)
 {
-    if (argc < 2 || argc > 4) {
-        fprintf(stderr, "usage: %s FILE.trim [KEY.trim [FANOUT.trim]]\n", argv[0]);
+    if (argc < 2 || argc > 5) {
+        fprintf(stderr, "usage: %s FILE.trim [KEY.trim [FANOUT.trim [KNOB.trim]]]\n", argv[0]);
         return 2;
     }
     SisaState reset;
@@ -254,7 +301,8 @@ int main(int argc, char **argv)
     set_level();
     step_by_step(reset);
     set_level();
-    if (!back_and_forward(reset) || (argc > 2 && !press_key(argv[2])) || (argc > 3 && !change_code(argv[3])))
+    if (!back_and_forward(reset) || (argc > 2 && !press_key(argv[2])) || (argc > 3 && !change_code(argv[3]))
+        || (argc > 4 && !wait_for_knob(argv[4])))
         return 1;
     print_sheet();
     return 0;

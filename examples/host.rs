@@ -1,10 +1,11 @@
 //! A host in Rust: loads a trim, sets three inputs, runs it, shows the corrections, saves both memories and loads them
 //! again; then takes the first steps one by one, steps back from the end of a run and goes forward again; presses the
 //! key for a second trim, if one is named; runs a third, which changes its own code, on the single-memory board, if one
-//! is named; and shows the usage sheet of it all. It prints what host.c prints.
+//! is named; turns a knob for a fourth, if one is named; and shows the usage sheet of it all. It prints what host.c
+//! prints.
 //!
 //!     rustc --edition 2021 -O examples/host.rs -L target/staticlib -l static=sisa -o target/host_rs
-//!     target/host_rs examples/gain.trim examples/key.trim examples/fanout.trim
+//!     target/host_rs examples/gain.trim examples/key.trim examples/fanout.trim examples/knob.trim
 
 use std::process::ExitCode;
 
@@ -18,6 +19,10 @@ mod ffi {
         pub n: u32,
         pub journaled: u64,
         pub board: u8,
+        pub enabled: u8,
+        pub pending: u8,
+        pub line: u8,
+        pub return_address: u16,
     }
 
     #[repr(C)]
@@ -36,19 +41,30 @@ mod ffi {
     #[repr(C)]
     #[derive(Clone, Copy)]
     pub struct Usage {
-        pub kinds: [u64; 30],
+        pub kinds: [u64; 34],
+        pub taken: u64,
         pub reads: [u64; 8],
         pub writes: [u64; 8],
     }
 
-    /// All zero is the empty sheet.
     #[repr(C)]
-    #[derive(Clone, Copy, Default)]
+    #[derive(Clone, Copy)]
     pub struct Sheet {
-        pub kinds: [u64; 30],
+        pub kinds: [u64; 34],
+        pub taken: u64,
         pub reads: [u64; 8],
         pub writes: [u64; 8],
         pub runs: u16,
+    }
+
+    impl Sheet {
+        pub const EMPTY: Sheet = Sheet {
+            kinds: [0; 34],
+            taken: 0,
+            reads: [0; 8],
+            writes: [0; 8],
+            runs: 0,
+        };
     }
 
     #[repr(C)]
@@ -85,6 +101,12 @@ mod ffi {
         pub entries: u64,
     }
 
+    #[repr(C)]
+    pub struct Raised {
+        pub state: State,
+        pub refusal: u8,
+    }
+
     #[rustfmt::skip]
     unsafe extern "C" {
         pub fn sisa_load(
@@ -97,6 +119,7 @@ mod ffi {
             destination: *mut u8, destination_len: usize,
         ) -> Saved;
         pub fn sisa_set_input(inputs: *mut u16, inputs_len: usize, port: u8, value: u16) -> u8;
+        pub fn sisa_raise(state: State, line: u8) -> Raised;
         pub fn sisa_run_by_rules(
             state: State, program: *const u8, program_len: usize, memory: *mut u8, memory_len: usize,
             inputs: *mut u16, inputs_len: usize, outputs: *mut u16, outputs_len: usize,
@@ -131,6 +154,9 @@ const BACK_STEPS: u32 = 5;
 /// The boards, by their numbers.
 const TWO_MEMORIES: u8 = 0;
 const SINGLE_MEMORY: u8 = 1;
+const KNOB: u8 = 3;
+const KNOB_PORT: u8 = 16;
+const WAIT_STEPS: u32 = 10;
 /// No file that a save writes is longer.
 const FILE_BYTES: usize = 16 + 2 * MEMORY_BYTES;
 
@@ -148,9 +174,10 @@ struct Report {
 }
 
 #[rustfmt::skip]
-const KINDS: [&str; 30] = [
+const KINDS: [&str; 34] = [
     "AND", "OR", "XOR", "NOT", "ADD", "SUB", "SHA", "SHL", "CMPLT", "CMPLE", "CMPEQ", "CMPLTU", "CMPLEU", "ADDI", "LD", "ST", "LDB",
-    "STB", "JALR", "BZ", "BNZ", "MOVI", "MOVHI", "IN", "OUT", "MUL", "MULH", "MULHU", "DIV", "DIVU",
+    "STB", "JALR", "BZ", "BNZ", "MOVI", "MOVHI", "IN", "OUT", "MUL", "MULH", "MULHU", "DIV", "DIVU", "EI", "DI", "RETI",
+    "GETIID",
 ];
 
 /// Adds what an accepted run returned.
@@ -161,11 +188,15 @@ fn feed(sheet: &mut Sheet, report: &Report) -> Result<(), Refusal> {
     accepted(fed.refusal, ())
 }
 
-/// The kinds that were done, and the registers.
+/// The kinds that were done, the lines taken, and the registers.
 fn print_sheet(sheet: &Sheet) {
     println!("sheet of {} runs", sheet.runs);
-    for (kind, steps) in KINDS.iter().zip(sheet.kinds).filter(|row| row.1 != 0) {
-        println!("{kind:<6} {steps:>6} steps");
+    let rows = KINDS
+        .iter()
+        .zip(sheet.kinds)
+        .chain([(&"taken", sheet.taken)]);
+    for (what, steps) in rows.filter(|row| row.1 != 0) {
+        println!("{what:<6} {steps:>6} steps");
     }
     for (j, (reads, writes)) in sheet.reads.iter().zip(sheet.writes).enumerate() {
         println!("R{j}     {reads:>6} reads {writes:>6} writes");
@@ -247,6 +278,13 @@ impl Machine {
             ffi::sisa_set_input(self.inputs.as_mut_ptr(), self.inputs.len(), port, value)
         };
         accepted(refusal, ())
+    }
+
+    fn raise(&mut self, line: u8) -> Result<(), Refusal> {
+        // SAFETY: the function takes its arguments by value.
+        let reply = unsafe { ffi::sisa_raise(self.state, line) };
+        self.state = reply.state;
+        accepted(reply.refusal, ())
     }
 
     fn run_by_rules(&mut self, budget: u32, log: &mut [u64]) -> Result<Report, Refusal> {
@@ -510,17 +548,53 @@ impl Host {
         println!("{title}: the word at 0008 is {word:04X}");
     }
 
+    /// Runs a trim that waits for a knob, turns it, and goes on: the line is taken before the next instruction, and the
+    /// trim's handler reads the knob. Taking the steps back gives the line its bit again.
+    fn wait_for_knob(&mut self, file: &[u8]) -> Result<(), Refusal> {
+        self.machine = Machine::load(file, TWO_MEMORIES)?;
+        let mut journal = [0; BUDGET as usize];
+        let run = self.run_with_journal(WAIT_STEPS, &mut journal)?;
+        self.show_run("run by the table, with a journal", &run)?;
+        self.print_lines("waiting for a knob");
+        self.turn_knob()?;
+        self.print_lines("knob turned");
+        let run = self.run_with_journal(BUDGET, &mut journal)?;
+        self.show_run("run by the table, with a journal", &run)?;
+        self.print_lines("line taken");
+        self.step_back(&journal, run.steps)?;
+        self.print_lines("line given back");
+        Ok(())
+    }
+
+    /// The knob's input has its position, and its line is raised.
+    fn turn_knob(&mut self) -> Result<(), Refusal> {
+        self.machine.set_input(KNOB_PORT, 700)?;
+        self.machine.raise(KNOB)
+    }
+
+    fn print_lines(&self, title: &str) {
+        let State {
+            enabled,
+            pending,
+            line,
+            return_address,
+            ..
+        } = self.machine.state;
+        println!("{title}: enabled {enabled}, pending {pending:02X}, line {line}, return address {return_address:04X}");
+    }
+
     fn run_with_journal(&mut self, budget: u32, journal: &mut [u64]) -> Result<Report, Refusal> {
         self.machine
             .run_by_table_with_journal(budget, &mut self.log, journal)
     }
 }
 
-fn host(file: &[u8], key: Option<&[u8]>, fanout: Option<&[u8]>) -> Result<(), Refusal> {
+/// With up to three more files: for the key, for the single-memory board, for the knob.
+fn host(file: &[u8], more: &[Vec<u8>]) -> Result<(), Refusal> {
     let mut host = Host {
         machine: Machine::load(file, TWO_MEMORIES)?,
         log: [0; 64],
-        sheet: Sheet::default(),
+        sheet: Sheet::EMPTY,
     };
     let reset = host.machine.state;
     host.set_knobs()?;
@@ -534,11 +608,14 @@ fn host(file: &[u8], key: Option<&[u8]>, fanout: Option<&[u8]>) -> Result<(), Re
     host.machine.state = reset;
     host.set_level()?;
     host.back_and_forward()?;
-    if let Some(key) = key {
+    if let Some(key) = more.first() {
         host.press_key(key)?;
     }
-    if let Some(fanout) = fanout {
+    if let Some(fanout) = more.get(1) {
         host.change_code(fanout)?;
+    }
+    if let Some(knob) = more.get(2) {
+        host.wait_for_knob(knob)?;
     }
     print_sheet(&host.sheet);
     Ok(())
@@ -546,16 +623,14 @@ fn host(file: &[u8], key: Option<&[u8]>, fanout: Option<&[u8]>) -> Result<(), Re
 
 fn main() -> ExitCode {
     let files: Result<Vec<_>, _> = std::env::args().skip(1).map(std::fs::read).collect();
-    let (file, key, fanout) = match files.as_deref() {
-        Ok([file]) => (file, None, None),
-        Ok([file, key]) => (file, Some(key.as_slice()), None),
-        Ok([file, key, fanout]) => (file, Some(key.as_slice()), Some(fanout.as_slice())),
+    let (file, more) = match files.as_deref() {
+        Ok([file, more @ ..]) if more.len() < 4 => (file, more),
         _ => {
-            eprintln!("usage: host_rs FILE.trim [KEY.trim [FANOUT.trim]]");
+            eprintln!("usage: host_rs FILE.trim [KEY.trim [FANOUT.trim [KNOB.trim]]]");
             return ExitCode::from(2);
         }
     };
-    match host(file, key, fanout) {
+    match host(file, more) {
         Ok(()) => ExitCode::SUCCESS,
         Err(Refusal(number)) => {
             println!("refused: {number}");

@@ -22,13 +22,20 @@ extern "C" {
 
 /* R0 to R7, PC, n, the count of steps done, and `journaled`, the count of journal entries: how many of the last steps runs
    kept a journal of. It is 0 from a load, and from an accepted run without a journal. Then `board`: 0 the one with two
-   memories, any other number the single-memory one. It is 0 or 1 from a load, and all other calls leave it as it is. */
+   memories, any other number the single-memory one. It is 0 or 1 from a load, and all other calls leave it as it is. Then the
+   interrupts: lines are taken where `enabled` is not 0; bit k of `pending` says that line k waits; `line` and `return_address`
+   are the number of the line taken last and PC before it. They are 0 from a load. PC and the return address are even; a state
+   where one of them is odd is refused with 5. */
 typedef struct {
     uint16_t r[8];
     uint16_t pc;
     uint32_t n;
     uint64_t journaled;
     uint8_t board;
+    uint8_t enabled;
+    uint8_t pending;
+    uint8_t line;
+    uint16_t return_address;
 } SisaState;
 
 /* What a load replies. The state is the reset one of the board loaded for, and all 0 where the load is refused. */
@@ -52,10 +59,11 @@ typedef struct {
     uint32_t words;
 } SisaAssembly;
 
-/* The counts of a run: steps by kind, in the kinds' order, and how many steps read and wrote each register, a register once a
-   step. All are 0 where the run is refused. */
+/* The counts of a run: steps by kind, in the kinds' order, steps that took a line, and how many steps read and wrote each
+   register, a register once a step. Kinds and lines taken sum to the steps. All are 0 where the run is refused. */
 typedef struct {
-    uint64_t kinds[30];
+    uint64_t kinds[34];
+    uint64_t taken;
     uint64_t reads[8];
     uint64_t writes[8];
 } SisaUsage;
@@ -63,7 +71,8 @@ typedef struct {
 /* A usage sheet for a show: the counts of the accepted runs that were fed to it, modulo 2^64, and how many they were. All zero is
    the empty sheet. */
 typedef struct {
-    uint64_t kinds[30];
+    uint64_t kinds[34];
+    uint64_t taken;
     uint64_t reads[8];
     uint64_t writes[8];
     uint16_t runs;
@@ -106,8 +115,14 @@ typedef struct {
     uint64_t entries;
 } SisaBack;
 
+/* What raising a line replies: the state, as handed where it is refused. */
+typedef struct {
+    SisaState state;
+    uint8_t refusal;
+} SisaRaised;
+
 /* An instruction: its kind, 0 to 24 in the reference sheet's order (AND 0, .. OUT 24), then 25 MUL, 26 MULH, 27 MULHU, 28 DIV,
-   29 DIVU; and its parts; or assigned 0. Beside it
+   29 DIVU, 30 EI, 31 DI, 32 RETI, 33 GETIID; and its parts; or assigned 0. Beside it
    which registers it touches, bit k for Rk: those whose value it uses, and the one that it writes, if any; both are 0 where
    the word is unassigned. */
 typedef struct {
@@ -162,10 +177,15 @@ SisaAssembly sisa_assemble(const uint8_t *text, size_t text_len, uint8_t *progra
 /* The input at a port becomes the value. Replies 0 or the refusal. */
 uint8_t sisa_set_input(uint16_t *inputs, size_t inputs_len, uint8_t port, uint16_t value);
 
+/* Raises one of the lines 0 to 7: its bit of `pending` is set, set or not before. A line over 7 is refused with 16, and the state
+   is as handed. */
+SisaRaised sisa_raise(SisaState state, uint8_t line);
+
 /* A run of at most `budget` steps by the rules, on the board that the state names. An entry of the log is n before the step
    times 16,777,216, plus the port times 65,536, plus the value. Places of the log after the entries written keep their content.
    Input 0 is a key's status and input 1 its data: IN from port 1 also sets input 0 to 0, so that a press is read only one time.
-   A run changes no other input. */
+   A run changes no other input. Where lines are enabled and one is pending, the lowest is taken before the next fetch, which is a
+   step of its own: PC is kept in `return_address`, the line's number in `line`, its bit and `enabled` become 0 and PC 0x0100. */
 SisaRun sisa_run_by_rules(SisaState state,
                           const uint8_t *program, size_t program_len,
                           uint8_t *memory, size_t memory_len,
@@ -207,7 +227,9 @@ SisaRun sisa_run_by_table_with_journal(SisaState state,
 /* Goes back k steps. Given state, memory, outputs and journal as the counted steps left them, registers, PC, n, data and outputs
    become those of k steps earlier, and `journaled` is less by k. Inputs stay as set, but input 0 becomes what it held before the
    earliest IN from port 1 that is taken back, where there is one, even if it was set since. Program and journal stay as they are;
-   running k steps again with the inputs of the first time writes the same log entries. A usage sheet is not taken back.
+   running k steps again with the inputs of the first time, and no line raised since, writes the same log entries. A usage sheet is
+   not taken back. `enabled`, `line` and `return_address` become those of k steps earlier, a line taken among them is pending again,
+   and lines raised since stay pending.
    A journal holds as many steps as the lesser of `journaled` and n, or none where it is shorter than `journaled`; where these are
    fewer than k, the call is refused with 14. So an accepted run without a journal, be it a host step or of budget 0, ends what can
    be stepped back. The journal may hold any numbers; others than runs wrote may leave PC odd, so that the next call is refused
@@ -235,7 +257,7 @@ SisaFed sisa_feed(SisaSheet sheet, uint8_t run_refusal, SisaUsage usage);
 /* The instruction that a word is, and the registers that it reads and writes. */
 SisaInstruction sisa_read(uint16_t word);
 
-/* The word of an instruction. A kind over 29, a part out of range and an unused part that is not 0 are refused with 7. */
+/* The word of an instruction. A kind over 33, a part out of range and an unused part that is not 0 are refused with 7. */
 SisaWord sisa_write(uint8_t kind, uint8_t a, uint8_t b, uint8_t d, int16_t n);
 
 /* The bytes start .. start + count of the data memory (of_data not 0) or of the program (of_data 0); the empty part

@@ -1,13 +1,13 @@
 -- Going back k steps by a journal (02, L7): what the call is given, refuses, replies and leaves.
 use mathlib.Core.Path.{_≡_}
 use mathlib.Core.List.{List, []}
-use Prim.Native.Nat.{ℕ, zero, suc, _+_, _-_, _%_, min}
-use lib.Dec.{eqb, leb}
+use Prim.Native.Nat.{ℕ, zero, suc, _+_, _-_, min}
+use lib.Dec.{leb}
 use lib.ListN.{length, getD}
 use Rattle.refusal.specs.Refusals.{refusalNumber, Verdict, accepted, refused}
 use Rattle.word.specs.Word.{pick, flag}
 use Rattle.machine.specs.declared.State.{State}
-use Rattle.machine.specs.Machine.{Machine, putJournaled, onState}
+use Rattle.machine.specs.Machine.{Machine, evenPlaces, putJournaled, onState}
 use Rattle.machine.specs.Lengths.{lengthsFit}
 use Rattle.machine.specs.Slices.{Slice, before, after}
 use Rattle.journal.specs.Journal.{undo, isOutput}
@@ -50,11 +50,11 @@ pub record BackLeft : Type 0 where
 abbrev pub stepsHeld : State → List ℕ → ℕ
 stepsHeld s journal = pick (leb (s .journaled) (length journal)) (min (s .journaled) (s .n)) 0
 
--- 1: the lengths. 5: PC odd. 14: the journal holds fewer than k steps.
+-- 1: the lengths. 5: PC or the return address odd. 14: the journal holds fewer than k steps.
 unfoldable pub backVerdict : BackGiven → Verdict
 backVerdict g =
     pick (lengthsFit (g .P) (g .D) (g .I) (g .O))
-    (pick (eqb (g .state .pc % 2) 0) (pick (leb (g .k) (stepsHeld (g .state) (g .journal))) accepted (refused 14)) (refused 5))
+    (pick (evenPlaces (g .state)) (pick (leb (g .k) (stepsHeld (g .state) (g .journal))) accepted (refused 14)) (refused 5))
     (refused 1)
 
 -- ---- What is left
@@ -73,8 +73,8 @@ unfoldable pub fallen : ℕ → ℕ → List ℕ → ℕ
 fallen zero count journal = 0
 fallen (suc k) count journal = flag (isOutput (getD journal (count - 1) 0)) + fallen k (count - 1) journal
 
--- Going back k steps takes k off that count and restores registers, PC, n, data and outputs. Inputs stay as set, but for input 0 where a
--- read of the key is undone (02, L8).
+-- Going back k steps takes k off that count and restores registers, PC, n, data and outputs, and enable flag, line number and return address
+-- (02, L12). Inputs stay as set, but for input 0 where a read of the key is undone (02, L8); lines stay pending, and a line taken is again.
 abbrev pub machineBack : BackGiven → Machine
 machineBack g =
     let count = g .state .journaled in

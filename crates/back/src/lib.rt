@@ -81,7 +81,7 @@ pub fn step_back(
             reply: Going::Refused(Refusal::LentLength),
         };
     }
-    if state.pc % 2 != 0 {
+    if !state.is_even() {
         return Backed {
             state,
             reply: Going::Refused(Refusal::OddPc),

@@ -2,17 +2,18 @@
 -- are the same (Shift.antt and OtherProgram.antt say which machines those are). And a run keeps whatever each step keeps.
 -- Assumes nothing.
 use mathlib.Core.Path.{_≡_, refl, ap, _∙_}
-use mathlib.Core.Bool.{Bool, true, false}
+use mathlib.Core.Bool.{Bool, true, false, not, _&&_}
 use mathlib.Core.List.{List, [], _∷_, map}
 use Prim.Native.Nat.{ℕ, zero, suc}
+use Rattle.word.specs.Word.{pick, flag}
 use Rattle.word.proofs.Tables.{Each}
-use Rattle.machine.specs.Machine.{Machine}
+use Rattle.machine.specs.Machine.{Machine, takesLine}
 use Rattle.machine.specs.Step.{fetched, Next, cannot, to}
 use Rattle.machine.specs.Run.{Stepper, Outcome, noPlace, runFrom, traceFrom}
 use Rattle.machine.proofs.Runs.{run-none, run-cannot, run-full, run-on, trace-none, trace-cannot, trace-full, trace-on}
 use Rattle.journal.specs.Journal.{entryOf}
 use Rattle.isa.specs.Masks.{masksOf}
-use Rattle.usage.specs.Usage.{wordIs, counted, usageOf, ticksOf}
+use Rattle.usage.specs.Usage.{wordIs, counted, tookLines, usageOf, ticksOf}
 use Rattle.run.specs.Runs.{Journal, no-journal, lent-journal, placed, keptIn}
 
 abbrev pub mapNext : (Machine → Machine) → Next → Next
@@ -22,8 +23,9 @@ mapNext f (to next) = to (f next)
 abbrev pub mapOutcome : (Machine → Machine) → Outcome → Outcome
 mapOutcome f z = record { reason = z .reason; after = f (z .after) }
 
--- f m does the same instruction as m next, and its journal entry is the same
+-- f m takes a line or does the same instruction next as m, and its journal entry is the same
 pub record Seen (f : Machine → Machine) (m : Machine) : Type 0 where
+  pub takes : takesLine (f m .state) ≡ takesLine (m .state)
   pub word : fetched (f m) ≡ fetched m
   pub entry : entryOf (f m) ≡ entryOf m
 
@@ -84,12 +86,16 @@ module _ (f : Machine → Machine) where
   pub usage-alike : (ms : List Machine) → Each (Seen f) ms → usageOf (map f ms) ≡ usageOf ms
   unfolding usageOf
   usage-alike [] s = refl
-  usage-alike (m ∷ ms) s = λ i. let w = s .0 .word i in counted (wordIs w) (masksOf w) (usage-alike ms (s .1) i)
+  usage-alike (m ∷ ms) s =
+      λ i.
+      let w = s .0 .word i in
+      let t = s .0 .takes i in
+      tookLines (flag t) (counted (λ j. not t && wordIs w j) (pick t (record { reads = 0; writes = 0 }) (masksOf w)) (usage-alike ms (s .1) i))
 
   pub ticks-alike : (ms : List Machine) → Each (Seen f) ms → ticksOf (map f ms) ≡ ticksOf ms
   unfolding ticksOf
   ticks-alike [] s = refl
-  ticks-alike (m ∷ ms) s = rw (s .0 .word, ticks-alike ms (s .1))
+  ticks-alike (m ∷ ms) s = rw (s .0 .takes, s .0 .word, ticks-alike ms (s .1))
 
   entries-alike : (ms : List Machine) → Each (Seen f) ms → map entryOf (map f ms) ≡ map entryOf ms
   entries-alike [] s = refl

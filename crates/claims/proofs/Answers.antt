@@ -5,7 +5,7 @@ use mathlib.Core.List.{List, [], _∷_}
 use Prim.Native.Nat.{ℕ}
 use lib.ListN.{getD}
 use Rattle.refusal.specs.declared.Refusal.{Refusal}
-use Rattle.refusal.specs.declared.Refusal.the-variants.{LentLength, ShortFile, LargePart, PartOutside, OddPc, StepCount, InstructionPart, LongFile, ShortDestination, TextLine, TextName, TextValue, FullSheet, ShortJournal, SmallBoard}
+use Rattle.refusal.specs.declared.Refusal.the-variants.{LentLength, ShortFile, LargePart, PartOutside, OddPc, StepCount, InstructionPart, LongFile, ShortDestination, TextLine, TextName, TextValue, FullSheet, ShortJournal, SmallBoard, LineNumber}
 use Rattle.refusal.specs.Refusals.{refusalNumber, Verdict, accepted, refused}
 use Rattle.kinds.specs.declared.Kind.the-variants.{And}
 use Rattle.isa.specs.declared.Reading.{Reading}
@@ -15,7 +15,9 @@ use Rattle.isa.specs.declared.Writing.{Writing}
 use Rattle.isa.specs.declared.Writing.the-variants.{Word, Refused}
 use Rattle.panel.specs.declared.Setting.{Setting}
 use Rattle.panel.specs.declared.Setting.the-variants.{Done, Refused as SetRefused}
-use Rattle.panel.specs.Calls.{shownSetting}
+use Rattle.panel.specs.declared.Raising.{Raising}
+use Rattle.panel.specs.declared.Raising.the-variants.{Done as RaiseDone, Refused as RaiseRefused}
+use Rattle.panel.specs.Calls.{shownSetting, shownRaising}
 use Rattle.image.specs.declared.Loading.{Loading}
 use Rattle.image.specs.declared.Loading.the-variants.{Accepted, Refused as LoadRefused}
 use Rattle.image.specs.Image.{shownLoading}
@@ -46,7 +48,7 @@ undone f g h x y e = sym (h x) ∙ ap g e ∙ h y
 
 -- the refusal of a number
 abbrev refusal-at : ℕ → Refusal
-refusal-at n = getD (LentLength ∷ LentLength ∷ ShortFile ∷ LargePart ∷ PartOutside ∷ OddPc ∷ StepCount ∷ InstructionPart ∷ LongFile ∷ ShortDestination ∷ TextLine ∷ TextName ∷ TextValue ∷ FullSheet ∷ ShortJournal ∷ SmallBoard ∷ []) n LentLength
+refusal-at n = getD (LentLength ∷ LentLength ∷ ShortFile ∷ LargePart ∷ PartOutside ∷ OddPc ∷ StepCount ∷ InstructionPart ∷ LongFile ∷ ShortDestination ∷ TextLine ∷ TextName ∷ TextValue ∷ FullSheet ∷ ShortJournal ∷ SmallBoard ∷ LineNumber ∷ []) n LentLength
 
 refusal-back : (x : Refusal) → refusal-at (refusalNumber x) ≡ x
 refusal-back LentLength = refl
@@ -64,6 +66,7 @@ refusal-back TextValue = refl
 refusal-back FullSheet = refl
 refusal-back ShortJournal = refl
 refusal-back SmallBoard = refl
+refusal-back LineNumber = refl
 
 reading-of : Read → Reading
 reading-of (instruction i) = ReadInstruction i
@@ -104,6 +107,11 @@ setting-back : (x : Setting) → verdict-of Done SetRefused (shownSetting x) ≡
 unfolding verdict-of
 setting-back Done = refl
 setting-back (SetRefused r) = ap SetRefused (refusal-back r)
+
+raising-back : (x : Raising) → verdict-of RaiseDone RaiseRefused (shownRaising x) ≡ x
+unfolding verdict-of
+raising-back RaiseDone = refl
+raising-back (RaiseRefused r) = ap RaiseRefused (refusal-back r)
 
 feeding-back : (x : Feeding) → verdict-of Taken FeedRefused (shownFeeding x) ≡ x
 unfolding verdict-of
@@ -157,6 +165,7 @@ answers =
       saving = undone shownSaving saving-of saving-back;
       assembly = undone shownAssembly assembly-of assembly-back;
       setting = undone shownSetting (verdict-of Done SetRefused) setting-back;
+      raising = undone shownRaising (verdict-of RaiseDone RaiseRefused) raising-back;
       answer = undone shownAnswer answer-of answer-back;
       going = undone shownGoing going-of going-back;
       feeding = undone shownFeeding (verdict-of Taken FeedRefused) feeding-back;

@@ -21,7 +21,7 @@ use Rattle.isa.specs.Instructions.{Read, instruction, unassigned, readOf, Write
 use Rattle.isa.specs.Masks.{Masks, Decoding, masksOf}
 use Rattle.isa.proofs.Every.{listed}
 use Rattle.machine.specs.Run.{Stepper}
-use Rattle.panel.specs.Calls.{SetGiven, setLeft}
+use Rattle.panel.specs.Calls.{SetGiven, setLeft, raiseLeft}
 use Rattle.machine.specs.declared.State.{State}
 use Rattle.image.specs.Image.{LoadGiven, loadLeft}
 use Rattle.save.specs.Saved.{SaveReply, saved, save-refused, SaveGiven, saveLeft}
@@ -34,10 +34,10 @@ use Rattle.sheet.specs.declared.Sheet.{Sheet}
 use Rattle.sheet.specs.Sheet.{feedBy, wasAccepted, feedLeft}
 use Rattle.replies.specs.declared.SisaAnswer.{SisaAnswer}
 use Rattle.replies.specs.declared.SisaWord.{SisaWord}
-use Rattle.replies.specs.Sisa.{verdictNumber, sisaLoadLeft, sisaSaved, sisaSaveLeft, sisaAssembly, sisaAssembleLeft, sisaSetLeft, SisaRunLeft, runInNumbers, sisaRunLeft, HostLent, HostStepMeets, backInNumbers, sisaBackLeft, instructionInNumbers, sisaWord, sisaWrite, sisaFeed}
+use Rattle.replies.specs.Sisa.{verdictNumber, sisaLoadLeft, sisaSaved, sisaSaveLeft, sisaAssembly, sisaAssembleLeft, sisaSetLeft, sisaRaise, SisaRunLeft, runInNumbers, sisaRunLeft, HostLent, HostStepMeets, backInNumbers, sisaBackLeft, instructionInNumbers, sisaWord, sisaWrite, sisaFeed}
 use Rattle.claims.specs.HostSteps.{stepGiven, replyOf}
 use Rattle.claims_words.specs.Instructions.{cleared}
-use Rattle.claims.specs.CReplies.{verdictOf, LoadReplies, savedOf, SaveReplies, assemblyOf, AssembleReplies, SetReplies, answerOf, runOf, RunReplies, stepLeft, backOf, BackReplies, FeedReplies, sisaRead, instructionOf, readingOf, ReadReplies, sisaWriteOf, writtenOf, WriteReplies, CReplies}
+use Rattle.claims.specs.CReplies.{verdictOf, LoadReplies, savedOf, SaveReplies, assemblyOf, AssembleReplies, SetReplies, RaiseReplies, answerOf, runOf, RunReplies, stepLeft, backOf, BackReplies, FeedReplies, sisaRead, instructionOf, readingOf, ReadReplies, sisaWriteOf, writtenOf, WriteReplies, CReplies}
 use Rattle.claims_texts.proofs.Assembly.{refused-not-0}
 use Rattle.claims.proofs.Feeding.{turned}
 use Rattle.claims_words.proofs.Instructions.{instructions}
@@ -71,6 +71,13 @@ setting g =
     let l = setLeft g in
     let b = verdict-back (l .reply) (λ k e z. omega (arith, refusals .setting g .no-other k e)) in
     record { gives-back = ap (λ (x : Verdict). record { reply = x; I = l .I }) (b .0); refusal-0 = b .1 }
+
+raise : (s : State) (line : ℕ) → RaiseReplies s line
+unfolding sisaRaise
+raise s line =
+    let l = raiseLeft s line in
+    let b = verdict-back (l .reply) (λ k e z. omega (arith, refusals .raise s line .no-other k e)) in
+    record { gives-back = ap (λ (x : Verdict). record { reply = x; state = l .state }) (b .0); refusal-0 = b .1 }
 
 -- ---- Saving
 
@@ -203,8 +210,8 @@ read w =
 write-is : (i : Instruction) → sisaWriteOf i ≡ sisaWord (writeOf i)
 unfolding sisaWrite
 write-is i =
-    let few : kindNumber (i .kind) ≤ 29 = omega (arith, listed (i .kind) .0) in
-    rw (le-leb (kindNumber (i .kind)) 29 few)
+    let few : kindNumber (i .kind) ≤ 33 = omega (arith, listed (i .kind) .0) in
+    rw (le-leb (kindNumber (i .kind)) 33 few)
     (ap (λ (k : Kind). sisaWord (writeOf (record { kind = k; a = i .a; b = i .b; d = i .d; n = i .n }))) (listed (i .kind) .1))
 
 word-back : (x : WriteReply) → Not0 write-refused x
@@ -219,7 +226,7 @@ write i =
 
 no-kind : (kind a b d : ℕ) (n : ℤ) → length kinds ≤ kind → sisaWrite kind a b d n ≡ record { refusal = 7; word = 0 }
 unfolding sisaWrite
-no-kind kind a b d n h = rw (lt-leb kind 29 (omega arith))
+no-kind kind a b d n h = rw (lt-leb kind 33 (omega arith))
 
 read-then-written : (w : ℕ) → w < 65536 → sisaRead w .assigned ≡ 1
     → sisaWrite (sisaRead w .kind) (sisaRead w .a) (sisaRead w .b) (sisaRead w .d) (sisaRead w .n) ≡ record { refusal = 0; word = cleared (getD kinds (sisaRead w .kind) And) w }
@@ -242,6 +249,7 @@ c-replies =
       save = save;
       assemble = assemble;
       setting = setting;
+      raise = raise;
       run = run;
       host-step = host-step;
       back = back;

@@ -1,7 +1,7 @@
 -- The counts of an accepted run are those of the steps that it reports: induction on the budget.
 -- Assumes nothing.
 use mathlib.Core.Path.{_≡_, refl, sym, _∙_, ap, subst}
-use mathlib.Core.Bool.{Bool, true, false}
+use mathlib.Core.Bool.{Bool, true, false, not, _&&_}
 use mathlib.Core.List.{List, [], _∷_}
 use Prim.Native.Nat.{ℕ, zero, suc, _+_, _≤_, _<_}
 use native.Mathlib.Omega.{arith}
@@ -9,7 +9,7 @@ use borrow.Author.Tests.{eqb-true, eqb-false, ne-eqb}
 use lib.Dec.{eqb}
 use lib.ListN.{length, getD, replicate, length-replicate}
 use Rattle.word.specs.Fields.{opcode, e-of, f-of}
-use Rattle.word.specs.Word.{flag}
+use Rattle.word.specs.Word.{pick, flag}
 use Rattle.word.proofs.Tests.{clash}
 use Rattle.kinds.specs.declared.Kind.{Kind}
 use Rattle.kinds.specs.Kinds.{kindNumber, kindCount}
@@ -17,15 +17,16 @@ use Rattle.isa.specs.declared.rows.Entry.{Entry}
 use Rattle.isa.specs.declared.rows.Entry.the-variants.{Unassigned, Assigned}
 use Rattle.isa.specs.Sheet.{kindAt}
 use Rattle.isa.specs.Instructions.{readAs, readOf}
-use Rattle.isa.specs.Masks.{Masks, inMask}
+use Rattle.isa.specs.Masks.{Masks, inMask, masksOf}
 use Rattle.isa.proofs.Every.{listed}
-use Rattle.machine.specs.Machine.{Machine}
+use Rattle.machine.specs.Machine.{Machine, takesLine}
 use Rattle.machine.specs.Step.{Next, cannot, to, fetched, step}
 use Rattle.machine.specs.Run.{byRules, Outcome, noPlace, unless, runFrom, traceFrom}
 use Rattle.control.proofs.Laws.{lawful-rules}
 use Rattle.usage.specs.declared.Usage.{Usage}
-use Rattle.usage.specs.Usage.{isKind, doesKind, masksAt, addedFrom, counted, unused, usageOf, plusCounts, plusUsage}
+use Rattle.usage.specs.Usage.{isKind, wordIs, addedFrom, counted, tookLines, stepCounted, unused, usageOf, plusCounts, plusUsage}
 use Rattle.claims.specs.Usage.{total}
+use Rattle.claims_sheet.specs.Rules.{FetchesNow}
 use Rattle.claims_sheet.proofs.Rules.{rules}
 
 -- ---- Lists of counts
@@ -77,6 +78,12 @@ added-at k test [] j = omega arith
 added-at k test (x ∷ xs) zero = omega (arith, at-most-1 (test k))
 added-at k test (x ∷ xs) (suc j) = added-at (suc k) test xs j
 
+-- where the test holds of none, it adds nothing
+added-none : (k : ℕ) (xs : List ℕ) → total (addedFrom k (λ j. false) xs) ≡ total xs
+unfolding addedFrom total
+added-none k [] = refl
+added-none k (x ∷ xs) = omega (arith, added-none (suc k) xs)
+
 -- where the test is that of one number, it adds 1 if that is the number of a place
 added-past : (c k : ℕ) (xs : List ℕ) → c < k → total (addedFrom k (eqb c) xs) ≡ total xs
 unfolding addedFrom total
@@ -97,7 +104,7 @@ added-one c k (x ∷ xs) h l = go (eqb c k) refl (λ h. added-one c (suc k) xs h
 -- the counts of n steps
 pub record Counts (u : Usage) (n : ℕ) : Type 0 where
   pub kinds : length (u .kinds) ≡ kindCount
-  pub sum : total (u .kinds) ≡ n
+  pub sum : total (u .kinds) + u .taken ≡ n
   pub reads : Within (u .reads) 8 n
   pub writes : Within (u .writes) 8 n
 
@@ -131,7 +138,8 @@ counts-plus u v k l a b =
 added-within : (test : ℕ → Bool) (xs : List ℕ) (n k : ℕ) → Within xs n k → Within (addedFrom 0 test xs) n (k + 1)
 added-within test xs n k w = record { long = added-long 0 test xs ∙ w .long; at = λ j. omega (arith, added-at 0 test xs j, w .at j) }
 
-counts-step : (k : Kind) (masks : Masks) (u : Usage) (n : ℕ) → Counts u n → Counts (counted (isKind (Assigned k)) masks u) (n + 1)
+-- an instruction of a kind done,
+counts-step : (k : Kind) (masks : Masks) (u : Usage) (n : ℕ) → Counts u n → Counts (tookLines 0 (counted (isKind (Assigned k)) masks u)) (n + 1)
 counts-step k masks u n c =
     record {
       kinds = added-long 0 (eqb (kindNumber k)) (u .kinds) ∙ c .kinds;
@@ -140,17 +148,27 @@ counts-step k masks u n c =
       writes = added-within (inMask (masks .writes)) (u .writes) 8 n (c .writes);
     }
 
+-- or a line taken
+counts-taking : (masks : Masks) (u : Usage) (n : ℕ) → Counts u n → Counts (tookLines 1 (counted (λ j. false) masks u)) (n + 1)
+counts-taking masks u n c =
+    record {
+      kinds = added-long 0 (λ j. false) (u .kinds) ∙ c .kinds;
+      sum = omega (arith, added-none 0 (u .kinds), c .sum);
+      reads = added-within (inMask (masks .reads)) (u .reads) 8 n (c .reads);
+      writes = added-within (inMask (masks .writes)) (u .writes) 8 n (c .writes);
+    }
+
 -- ---- The trace
 
--- where the machine steps, its word has a kind
-assigned : (m next : Machine) → step m ≡ to next → (k : Kind) × (kindAt (opcode (fetched m)) (e-of (fetched m)) (f-of (fetched m)) ≡ Assigned k)
+-- where the machine fetches and steps, its word has a kind
+assigned : (m next : Machine) → FetchesNow m → step m ≡ to next → (k : Kind) × (kindAt (opcode (fetched m)) (e-of (fetched m)) (f-of (fetched m)) ≡ Assigned k)
 unfolding readOf
-assigned m next s = go (kindAt (opcode (fetched m)) (e-of (fetched m)) (f-of (fetched m))) refl
+assigned m next fetches s = go (kindAt (opcode (fetched m)) (e-of (fetched m)) (f-of (fetched m))) refl
   where
     go : (x : Entry) → kindAt (opcode (fetched m)) (e-of (fetched m)) (f-of (fetched m)) ≡ x → (k : Kind) × (kindAt (opcode (fetched m)) (e-of (fetched m)) (f-of (fetched m)) ≡ Assigned k)
     go (Assigned k) e = (k, e)
     go Unassigned e =
-        let stops = rules .unassigned-stops (fetched m) (ap (λ x. readAs x (fetched m)) e) m refl in
+        let stops = rules .unassigned-stops (fetched m) (ap (λ x. readAs x (fetched m)) e) m fetches refl in
         clash (cc)
 
 -- from m, a run that ends with z and has the counts u
@@ -165,15 +183,24 @@ goes full (cannot q) e = e
 goes true (to next) e = clash (cc)
 goes false (to next) e = e
 
-later : (budget : ℕ) (m next : Machine) (z : Outcome) (u : Usage) → step m ≡ to next → Traced budget next z u → Traced (suc budget) m z (counted (doesKind m) (masksAt m) u)
+later : (budget : ℕ) (m next : Machine) (z : Outcome) (u : Usage) → step m ≡ to next → Traced budget next z u → Traced (suc budget) m z (stepCounted m u)
 later budget m next z u s t =
-    let k = assigned m next s in
     record {
       steps = t .steps + 1;
       few = omega (arith, t .few);
       grew = omega (arith, t .grew, lawful-rules .counts m next s);
-      counts = subst (λ (x : Entry). Counts (counted (isKind x) (masksAt m) u) (t .steps + 1)) (sym (k .1)) (counts-step (k .0) (masksAt m) u (t .steps) (t .counts));
+      counts = by-line (takesLine (m .state)) refl;
     }
+  where
+    by-line : (b : Bool) → takesLine (m .state) ≡ b
+        → Counts
+        (tookLines (flag b) (counted (λ j. not b && wordIs (fetched m) j) (pick b (record { reads = 0; writes = 0 }) (masksOf (fetched m))) u))
+        (t .steps + 1)
+    by-line true e = counts-taking (record { reads = 0; writes = 0 }) u (t .steps) (t .counts)
+    by-line false e =
+        let masks = masksOf (fetched m) in
+        let k = assigned m next e s in
+        subst (λ (x : Entry). Counts (tookLines 0 (counted (isKind x) masks u)) (t .steps + 1)) (sym (k .1)) (counts-step (k .0) masks u (t .steps) (t .counts))
 
 pub traced : (budget full : ℕ) (m : Machine) → Traced budget m (runFrom byRules budget full m) (usageOf (traceFrom byRules budget full m))
 unfolding runFrom traceFrom usageOf

@@ -69,6 +69,9 @@ turned false s u k e = clash (cc)
 
 -- ---- Any order
 
+sum-swap : (x y z : ℕ) → ((x + y) % 2 ^ 64 + z) % 2 ^ 64 ≡ ((x + z) % 2 ^ 64 + y) % 2 ^ 64
+sum-swap x y z = mod-add-mod (x + y) (2 ^ 64) z ∙ ap (λ (k : ℕ). k % 2 ^ 64) (omega arith) ∙ sym (mod-add-mod (x + z) (2 ^ 64) y)
+
 sums-swap : (xs ys zs : List ℕ) → sums (sums xs ys) zs ≡ sums (sums xs zs) ys
 unfolding sums
 sums-swap [] ys zs = refl
@@ -76,13 +79,13 @@ sums-swap (x ∷ xs) [] [] = refl
 sums-swap (x ∷ xs) [] (z ∷ zs) = refl
 sums-swap (x ∷ xs) (y ∷ ys) [] = refl
 sums-swap (x ∷ xs) (y ∷ ys) (z ∷ zs) =
-    let here : ((x + y) % 2 ^ 64 + z) % 2 ^ 64 ≡ ((x + z) % 2 ^ 64 + y) % 2 ^ 64 = mod-add-mod (x + y) (2 ^ 64) z ∙ ap (λ (k : ℕ). k % 2 ^ 64) (omega arith) ∙ sym (mod-add-mod (x + z) (2 ^ 64) y) in
-    λ i. here i ∷ sums-swap xs ys zs i
+    λ i. sum-swap x y z i ∷ sums-swap xs ys zs i
 
 swap : (a b : Bool) (s : Sheet) (u v : Usage) → nextBy b (nextBy a s u) v ≡ nextBy a (nextBy b s v) u
 swap true true s u v =
     λ i. record {
       kinds = sums-swap (s .kinds) (u .kinds) (v .kinds) i;
+      taken = sum-swap (s .taken) (u .taken) (v .taken) i;
       reads = sums-swap (s .reads) (u .reads) (v .reads) i;
       writes = sums-swap (s .writes) (u .writes) (v .writes) i;
       runs = s .runs + 1 + 1;

@@ -1,4 +1,4 @@
--- On the single-memory board a step fetches its word from D and nothing else of it looks at P: so with another program memory a run by any
+-- On the single-memory board a step fetches its word from D and nothing else of it looks at P, nor does taking a line: so with another program memory a run by any
 -- table goes alike (Alike.antt), and one by the rules, whose steps are the table's. A step taken back looks neither at P nor at the board.
 -- Assumes nothing.
 use mathlib.Core.Path.{_≡_, refl, sym, ap, subst, _∙_}
@@ -9,11 +9,11 @@ use lib.Dec.{eqb, leb}
 use lib.ListN.{length, getD}
 use Rattle.word.specs.Fields.{N8}
 use Rattle.word.specs.Word.{pick}
-use Rattle.machine.specs.Machine.{Machine, isSingle, putPC, putN, putBoard, count, onState, putD, onInputs, putO}
-use Rattle.machine.specs.Step.{PC, Ra, Rb, fetched, cannot, to}
+use Rattle.machine.specs.Machine.{Machine, isSingle, takesLine, putPC, putN, putBoard, count, onState, putD, onInputs, putO}
+use Rattle.machine.specs.Step.{PC, Ra, Rb, fetched, cannot, to, taking}
 use Rattle.machine.specs.Run.{byRules, noPlace}
-use Rattle.journal.specs.Journal.{Overwritten, nothing, register, data-word, data-byte, output-word, key-read, pcIn, entryWith, overwritten, entryOf, overwrittenIn, putBack, undo}
-use Rattle.control.specs.Control.{unit, result, inputsAfter, next, writesPort, storedData, stored, written, performed, assigned, zeroDivisor, controlStep, controlIn, byControl, table}
+use Rattle.journal.specs.Journal.{Overwritten, nothing, register, data-word, data-byte, output-word, key-read, enable-flag, line-taken, byTaking, pcIn, entryWith, overwritten, entryOf, overwrittenIn, putBack, undo}
+use Rattle.control.specs.Control.{unit, result, inputsAfter, next, writesPort, storedData, stored, written, performed, assigned, zeroDivisor, byInterrupt, interrupted, interruptAssigned, controlStep, controlIn, byControl, table}
 use Rattle.control.proofs.Agreement.{same-stepper}
 use Rattle.control.proofs.Laws.{lawful-control}
 use Rattle.back.specs.Backs.{undone}
@@ -55,28 +55,45 @@ module _ (P : List ℕ) where
       ap (λ (z : Machine). onState (λ s. written c w v (putPC (next c w x (PC m)) (count s))) (onInputs (inputsAfter c w) z)) (stores c w x (Rb w m) u m)
 
   controls : (c w : ℕ) (m : Machine) → controlStep c w (putP P m) ≡ mapNext (putP P) (controlStep c w m)
-  unfolding controlStep
-  controls c w m = by-tests (assigned c w) (zeroDivisor c w (Rb w m))
+  unfolding controlStep interrupted
+  controls c w m = by-tests (byInterrupt c) (interruptAssigned c w) (assigned c w) (zeroDivisor c w (Rb w m))
     where
-      by-tests : (t z : Bool)
-          → pick t (pick z (cannot 3) (to (performed c w (putP P m)))) (cannot 1)
-          ≡ mapNext (putP P) (pick t (pick z (cannot 3) (to (performed c w m))) (cannot 1))
-      by-tests true true = refl
-      by-tests true false = ap to (performs c w m)
-      by-tests false z = refl
+      by-tests : (b i t z : Bool)
+          → pick b (pick i (to (interrupted c w (putP P m))) (cannot 1)) (pick t (pick z (cannot 3) (to (performed c w (putP P m)))) (cannot 1))
+          ≡ mapNext (putP P) (pick b (pick i (to (interrupted c w m)) (cannot 1)) (pick t (pick z (cannot 3) (to (performed c w m))) (cannot 1)))
+      by-tests true true t z = refl
+      by-tests true false t z = refl
+      by-tests false i true true = refl
+      by-tests false i true false = ap to (performs c w m)
+      by-tests false i false z = refl
+
+  -- a line is taken, or the word fetched is done
+  steps-alike : (words : List ℕ) (m : Machine) → Single m → byControl words .steps (putP P m) ≡ mapNext (putP P) (byControl words .steps m)
+  steps-alike words m h = by-line (takesLine (m .state))
+    where
+      by-line : (t : Bool)
+          → pick t (taking (putP P m)) (controlStep (controlIn words (fetched (putP P m))) (fetched (putP P m)) (putP P m))
+          ≡ mapNext (putP P) (pick t (taking m) (controlStep (controlIn words (fetched m)) (fetched m) m))
+      by-line true = refl
+      by-line false = ap (λ w. controlStep (controlIn words w) w (putP P m)) (fetches m h) ∙ controls (controlIn words (fetched m)) (fetched m) m
 
   -- ---- A run
 
   sees : (m : Machine) → Single m → Seen (putP P) m
   unfolding entryOf overwritten
-  sees m h = record { word = fetches m h; entry = ap (λ w. entryWith (PC m) (overwritten w m)) (fetches m h) }
+  sees m h =
+      record {
+        takes = refl;
+        word = fetches m h;
+        entry = ap (λ w. entryWith (PC m) (pick (takesLine (m .state)) (byTaking (m .state)) (overwritten w m))) (fetches m h);
+      }
 
   pub by-any-table : (words : List ℕ) → Maps (byControl words) (putP P) (λ full. full) Single
   unfolding noPlace
   by-any-table words =
       record {
-        steps = λ m h. ap (λ w. controlStep (controlIn words w) w (putP P m)) (fetches m h) ∙ controls (controlIn words (fetched m)) (fetched m) m;
-        places = λ full m h. ap (λ w. writesPort (controlIn words w) && leb full (length (m .L))) (fetches m h);
+        steps = steps-alike words;
+        places = λ full m h. ap (λ w. (not (takesLine (m .state)) && writesPort (controlIn words w)) && leb full (length (m .L))) (fetches m h);
         seen = sees;
         keeps = λ m next e h. ap (λ u. not (eqb (u .1) 0)) (lawful-control words .leaves m next e) ∙ h;
       }
@@ -102,6 +119,8 @@ undo-on b P x m = ap (onState (λ s. putPC (pcIn x) (putN (s .n - 1) s))) (go (o
     go (data-byte k v) = refl
     go (output-word k v) = refl
     go (key-read k v s) = refl
+    go (enable-flag v) = refl
+    go (line-taken k e j v) = refl
 
 undone-on : (b : ℕ) (P : List ℕ) (k count : ℕ) (journal : List ℕ) (m : Machine)
     → undone k count journal (onBoard b P m) ≡ onBoard b P (undone k count journal m)

@@ -6,23 +6,25 @@ use mathlib.Core.Logic.{_⊎_, inl, inr, ⊎-elim, _↔_}
 use mathlib.Core.List.{List}
 use Prim.Native.Nat.{ℕ, _+_, _*_, _%_, _<_, min}
 use native.Mathlib.Omega.{arith}
-use borrow.Author.Tests.{leb-true, leb-false}
-use lib.Dec.{leb}
+use borrow.Author.Tests.{leb-true, leb-false, ltb-false, le-ltb}
+use lib.Dec.{leb, ltb}
 use lib.ListN.{length, set}
 use Rattle.refusal.specs.Refusals.{Verdict, accepted, refused}
 use Rattle.word.specs.Word.{pick}
 use Rattle.word.proofs.Tests.{clash, never}
+use Rattle.machine.specs.declared.State.{State}
 use Rattle.machine.specs.declared.Board.{Board}
 use Rattle.machine.specs.declared.Board.the-variants.{TwoMemories, SingleMemory}
+use Rattle.machine.specs.Machine.{evenPlaces, withLine, putPending}
 use Rattle.machine.specs.Run.{Stepper}
 use Rattle.machine.specs.Lengths.{lengthsFit}
-use Rattle.panel.specs.Calls.{SetGiven, SetLeft, setLeft}
+use Rattle.panel.specs.Calls.{SetGiven, SetLeft, setLeft, RaiseLeft, raiseLeft}
 use Rattle.image.specs.Image.{W, programOffset, C, dataOffset, boardHolds, LoadGiven, fileReply, loadReply, loadLeftBy, loadLeft}
 use Rattle.usage.specs.Usage.{unused}
 use Rattle.run.specs.Runs.{Given, stopped, run-refused, verdict, verdictOn, runLeftBy, runLeft, countedBy, countedLeft}
 use Rattle.run.proofs.Uncounted.{uncounted}
 use Rattle.back.specs.Backs.{BackGiven, gone-back, back-refused, stepsHeld, backVerdict, backLeftBy, backLeft}
-use Rattle.claims.specs.Refusals.{Lengths, ShortJournal, LoadRefusals, SetRefusals, RunRefusals, BackRefusals, Refusals}
+use Rattle.claims.specs.Refusals.{Lengths, OddPlace, ShortJournal, LoadRefusals, SetRefusals, RaiseRefusals, RunRefusals, BackRefusals, Refusals}
 use Rattle.claims_words.proofs.Decides.{Fails, fails-eq, fails-le, fails-and, decides-eq, decides-stable}
 use Rattle.claims.proofs.Chains.{Reply, Tests, last, _then_, at, number, none, one-of}
 
@@ -41,6 +43,9 @@ lengths : (P D I O : List ℕ) → Fails (lengthsFit P D I O) (Lengths P D I O)
 lengths P D I O =
     simp and-assoc
     (fails-and (fails-eq (length P) 65536) (fails-and (fails-eq (length D) 65536) (fails-and (fails-eq (length I) 256) (fails-eq (length O) 256))))
+
+places : (s : State) → Fails (evenPlaces s) (OddPlace s)
+places s = fails-and (fails-eq (s .pc % 2) 0) (fails-eq (s .«return_address» % 2) 0)
 
 -- ---- Load
 
@@ -119,6 +124,40 @@ module _ (g : SetGiven) where
         nothing-changes = λ k e. one-of set-replies set-tests k e .1;
       }
 
+-- ---- Raise
+
+module _ (s : State) (line : ℕ) where
+  raise-replies : Reply RaiseLeft
+  raise-replies =
+      record {
+        accepted = record { reply = accepted; state = putPending (withLine line (s .pending)) s };
+        refused = λ k. record { reply = refused k; state = s };
+        Accepts = λ l. l .reply ≡ accepted;
+        Gives = λ l k. l .reply ≡ refused k;
+        accepts = refl;
+        gives = λ k. refl;
+        no-number = λ k e. clash (cc);
+        one-number = λ j k e. cc;
+        not-both = λ k e. clash (cc);
+      }
+
+  over-7 : Fails (ltb line 8) (7 < line)
+  over-7 = (λ e. omega (arith, ltb-false line 8 e), λ h. le-ltb line 8 (omega arith))
+
+  raise-tests : Tests
+  raise-tests = last (at 16 over-7)
+
+  raise : RaiseRefusals s line
+  unfolding raiseLeft raise-replies raise-tests
+  raise =
+      record {
+        number-16 = number raise-replies raise-tests 0 16 refl;
+        accepts = let h = none raise-replies raise-tests in
+            (λ e. let n : 7 < line → ⊥ = h .0 e in omega arith, λ l. h .1 (λ (n : 7 < line). omega arith));
+        no-other = λ k e. one-of raise-replies raise-tests k e .0;
+        nothing-changes = λ k e. one-of raise-replies raise-tests k e .1;
+      }
+
 -- ---- Runs
 
 module _ (v : Stepper) (g : Given) where
@@ -139,7 +178,7 @@ module _ (v : Stepper) (g : Given) where
   run-tests : Tests
   run-tests =
       at 1 (lengths (g .P) (g .D) (g .I) (g .O))
-      then at 5 (fails-eq (g .state .pc % 2) 0)
+      then at 5 (places (g .state))
       then last (at 6 (fails-le (g .state .n + g .budget) 4294967295))
 
   no-counts : (x : Verdict) (k : ℕ) → runLeftBy v x g .reply ≡ run-refused k → countedBy v x g .usage ≡ unused
@@ -203,7 +242,7 @@ module _ (g : BackGiven) where
       (λ e. b .0 (a .0 e), λ s. a .1 (b .1 s))
 
   back-tests : Tests
-  back-tests = at 1 (lengths (g .P) (g .D) (g .I) (g .O)) then at 5 (fails-eq (g .state .pc % 2) 0) then last (at 14 short)
+  back-tests = at 1 (lengths (g .P) (g .D) (g .I) (g .O)) then at 5 (places (g .state)) then last (at 14 short)
 
   back : BackRefusals g
   unfolding backLeft backVerdict back-replies back-tests
@@ -218,4 +257,4 @@ module _ (g : BackGiven) where
       }
 
 pub refusals : Refusals
-refusals = record { load = load; setting = setting; run = run; back = back }
+refusals = record { load = load; setting = setting; raise = raise; run = run; back = back }

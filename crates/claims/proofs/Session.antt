@@ -43,7 +43,7 @@ unfolding loaded
 loaded-fits g e =
     let fit = fits g (sym e) in
     let l = loaded-lengths (g .file) (g .board) (fit .file) (fit .holds) in
-    (λ i. (l .0 i, l .1 i, 256, 256), refl)
+    (λ i. (l .0 i, l .1 i, 256, 256), (refl, refl))
 
 -- it left the machine that 01 loads from the file, of that board
 pub accepted-load : (g : LoadGiven) (l : LoadLeft) → l ≡ loadLeft g → l .reply ≡ accepted → (loadReply g ≡ accepted) × (machineOn (hostOf l) [] ≡ loaded (g .file) (g .board))

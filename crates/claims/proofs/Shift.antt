@@ -42,7 +42,7 @@ module _ (l : List ℕ) where
 
   seen-shift : (m : Machine) → Seen (shift l) m
   unfolding entryOf overwritten fetched
-  seen-shift m = record { word = refl; entry = refl }
+  seen-shift m = record { takes = refl; word = refl; entry = refl }
 
   maps-shift : Maps byRules (shift l) (λ full. length l + full) (λ m. Unit {0})
   maps-shift =

@@ -2,13 +2,14 @@
 -- computes.
 -- Assumes nothing.
 use mathlib.Core.Path.{_≡_, refl, sym, ap, subst, _∙_}
-use mathlib.Core.Bool.{Bool, true, false, _||_}
+use mathlib.Core.Bool.{Bool, true, false, not, _||_, _&&_}
 use mathlib.Core.List.{List, [], _∷_}
 use Prim.Native.Nat.{ℕ, _*_, _≤_}
 use native.Mathlib.Omega.{arith}
 use lib.Dec.{T, eqb, eqb→eq}
 use lib.ListN.{length, replicate}
 use Rattle.refusal.specs.Refusals.{Verdict, accepted, refused}
+use Rattle.word.specs.Fields.{opcode, e-of, f-of}
 use Rattle.word.specs.Word.{pick, SE}
 use Rattle.word.proofs.Computed.{both, both-split}
 use Rattle.word.proofs.Tests.{clash}
@@ -16,7 +17,7 @@ use Rattle.kinds.specs.declared.Kind.the-variants.{Ld, St, Ldb, Stb}
 use Rattle.isa.specs.declared.rows.Entry.{Entry}
 use Rattle.isa.specs.declared.rows.Entry.the-variants.{Assigned}
 use Rattle.isa.specs.Sheet.{kindAt}
-use Rattle.machine.specs.Machine.{Machine, reset}
+use Rattle.machine.specs.Machine.{Machine, takesLine, reset}
 use Rattle.machine.specs.Step.{addi, ld, choice, fetched, step}
 use Rattle.machine.specs.Run.{byRules, noPlace, runFrom, traceFrom}
 use Rattle.usage.specs.Usage.{isKind, does, ticksAt, ticksOf}
@@ -33,6 +34,19 @@ use Rattle.claims.proofs.Together.{both as by-either}
 abbrev ticksIn : Entry → ℕ
 ticksIn e = pick (isKind e 14 || isKind e 15 || isKind e 16 || isKind e 17) 4 3
 
+-- of what m does next, where t tells whether it takes a line
+abbrev ticksBy : Bool → Machine → ℕ
+ticksBy t m =
+    let w = fetched m in
+    let e = kindAt (opcode w) (e-of w) (f-of w) in
+    pick ((not t && isKind e 14) || (not t && isKind e 15) || (not t && isKind e 16) || (not t && isKind e 17)) 4 3
+
+fetching : (m : Machine) (t : Bool) → t ≡ false → ticksBy t m ≡ ticksIn (kindAt (opcode (fetched m)) (e-of (fetched m)) (f-of (fetched m)))
+fetching m t e = ap (λ b. ticksBy b m) e
+
+taking : (m : Machine) (t : Bool) → t ≡ true → ticksBy t m ≡ 3
+taking m t e = ap (λ b. ticksBy b m) e
+
 tests : List Row → Bool
 tests [] = true
 tests (x ∷ xs) = both (eqb (ticksIn (Assigned (x .kind))) (x .ticks)) (tests xs)
@@ -42,7 +56,7 @@ unfolding tests
 each [] t = tt
 each (x ∷ xs) t =
     let (a, b) = both-split (eqb (ticksIn (Assigned (x .kind))) (x .ticks)) (tests xs) t in
-    (λ m e. ap ticksIn e ∙ eqb→eq _ _ a, each xs b)
+    (λ m f e. fetching m (takesLine (m .state)) f ∙ ap ticksIn e ∙ eqb→eq _ _ a, each xs b)
 
 tested : T (tests tickRows)
 unfolding tests
@@ -104,6 +118,7 @@ ticks =
     record {
       every-kind = refl;
       rows = each tickRows tested;
+      taking = λ m. taking m (takesLine (m .state));
       of-accepted = λ e g l met q s k r.
           let is = by-either e g l met in
           subst (Timed g s) (sym is) (by-verdict g (verdictOn g) q s k (ap (λ (x : CountedLeft). x .left .reply) (sym is) ∙ r));

@@ -6,18 +6,18 @@ use mathlib.Core.List.{List, [], _∷_, _++_, map, append-assoc, append-nil}
 use Prim.Native.Nat.{ℕ, _+_, _-_}
 use native.Mathlib.Omega.{arith}
 use native.Mathlib.Nat.{zero-add}
-use lib.Dec.{eqb}
+use lib.Dec.{eqb, ltb}
 use lib.ListN.{length, set, take, drop, length-append, length-map}
 use lib.Seq.{take-append-seam, drop-append-seam}
 use Rattle.refusal.specs.Refusals.{Verdict, accepted, refused}
 use Rattle.word.specs.Word.{pick}
-use Rattle.machine.specs.Machine.{Machine, putI, onState}
+use Rattle.machine.specs.Machine.{Machine, withLine, putPending, putI, onState}
 use Rattle.machine.specs.Run.{byRules, Outcome, runFrom, traceFrom}
 use Rattle.usage.specs.Usage.{usageOf, ticksOf}
-use Rattle.panel.specs.Calls.{SetLeft, setLeft}
+use Rattle.panel.specs.Calls.{SetLeft, setLeft, RaiseLeft, raiseLeft}
 use Rattle.control.proofs.Laws.{shift}
 use Rattle.run.specs.Runs.{Given, Left, stopped, verdictOn, countedIn, keptIn, leftOf, CountedLeft, countedBy, countedLeft, CountedMeets}
-use Rattle.claims.specs.Session.{Engine, by-rules, by-table, stepperOf, Lent, Call, runs, sets, Reply, of-run, of-set, Host, givenTo, afterRun, afterSet, CallMeets, a-run, a-setting, Calls, none, more, wrote, joined, allowedTo, started, outcome, taken, runBy, machineCall, machineCalls, saidBy, machineSays, machineReplies, machineOn}
+use Rattle.claims.specs.Session.{Engine, by-rules, by-table, stepperOf, Lent, Call, runs, sets, raises, Reply, of-run, of-set, of-raise, Host, givenTo, afterRun, afterSet, afterRaise, CallMeets, a-run, a-setting, a-raise, Calls, none, more, wrote, joined, allowedTo, started, outcome, taken, runBy, raised, machineCall, machineCalls, saidBy, machineSays, machineReplies, machineOn}
 use Rattle.claims_sheet.proofs.Agreement.{same-run}
 use Rattle.claims.proofs.Shift.{shiftOutcome, goes-alike, usage-shift, ticks-shift, kept-shift}
 
@@ -110,16 +110,30 @@ set-together :
 set-together h l port value true = (rw append-nil, refl)
 set-together h l port value false = (rw append-nil, refl)
 
+-- ---- A raising
+
+raise-together :
+    (h : Host) (l : List ℕ) (line : ℕ) (b : Bool)
+    → (let s = h .state in
+    let x : RaiseLeft = pick b (record { reply = accepted; state = putPending (withLine line (s .pending)) s }) (record { reply = refused 16; state = s }) in
+    (machineOn (afterRaise h x) (l ++ []) ≡ pick b (raised line (machineOn h l)) (machineOn h l))
+    × (of-raise (x .reply) ≡ of-raise (pick b accepted (refused 16))))
+raise-together h l line true = (rw append-nil, refl)
+raise-together h l line false = (rw append-nil, refl)
+
 -- ---- Lists
 
 does-together : {h h′ : Host} {c : Call} {r : Reply} → CallMeets h c r h′ → (l : List ℕ) → Together h l c r h′
-unfolding machineCall machineSays countedLeft setLeft
+unfolding machineCall machineSays countedLeft setLeft raiseLeft
 does-together (a-run h e lent x promise) l =
     subst (λ (y : CountedLeft). Together h l (runs e lent) (told y) (afterRun (y .left))) (sym (both e (givenTo h lent) x promise))
     (let t = run-together h l lent (verdictOn (givenTo h lent)) in record { held = t .0; says = t .1 })
 does-together (a-setting h port value x promise) l =
     subst (λ (y : SetLeft). Together h l (sets port value) (of-set (y .reply)) (afterSet h y)) (sym promise)
     (let t = set-together h l port value (eqb (length (h .I)) 256) in record { held = t .0; says = t .1 })
+does-together (a-raise h line x promise) l =
+    subst (λ (y : RaiseLeft). Together h l (raises line) (of-raise (y .reply)) (afterRaise h y)) (sym promise)
+    (let t = raise-together h l line (ltb line 8) in record { held = t .0; says = t .1 })
 
 -- from a machine whose L already holds l
 pub calls-together :

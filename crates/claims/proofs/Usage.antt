@@ -91,8 +91,10 @@ joins : (t : Bool) (u v : Usage) (k l n : ℕ) → (t ≡ false → u ≡ unused
 joins true u v k l n z a b h =
     let c = counts-plus u v k l a b in
     let runs : n + 1 ≡ 1 + n = omega arith in
+    let taken : (v .taken + u .taken) % 2 ^ 64 ≡ u .taken + v .taken = omega (arith, c .sum) in
     λ i. record {
       kinds = sums-plus (v .kinds) (u .kinds) (b .kinds ∙ sym (a .kinds)) (λ j. omega (arith, at-total (plusCounts (u .kinds) (v .kinds)) j, c .sum)) i;
+      taken = taken i;
       reads = sums-plus (v .reads) (u .reads) (b .reads .long ∙ sym (a .reads .long)) (λ j. omega (arith, c .reads .at j)) i;
       writes = sums-plus (v .writes) (u .writes) (b .writes .long ∙ sym (a .writes .long)) (λ j. omega (arith, c .writes .at j)) i;
       runs = runs i;
@@ -129,7 +131,7 @@ summed (more-step {rs} {fs} h after a e p) =
 
 -- the counts of a sheet that was fed
 fed-counts : {rs : List Run} {fs order : List Fed} {s : Sheet} → Returned rs fs → Reordered fs order → Feeds empty order s
-    → Counts (record { kinds = s .kinds; reads = s .reads; writes = s .writes }) (stepsOf order)
+    → Counts (record { kinds = s .kinds; taken = s .taken; reads = s .reads; writes = s .writes }) (stepsOf order)
 fed-counts {rs} {s = s} p q f =
     let few : acceptedOf rs ≤ 65535 = omega (arith, fed-few f (omega arith), any-taken q, summed p .taken) in
     let is : sheetOf (countsOf rs) (acceptedOf rs) ≡ s = sym (summed p .sheet few) ∙ any-into q empty ∙ fed-into f in

@@ -7,7 +7,7 @@ use Rattle.refusal.specs.Refusals.{refusalNumber}
 use Rattle.kinds.specs.declared.Kind.{Kind}
 use Rattle.isa.specs.declared.Writing.{Writing}
 use Rattle.panel.specs.declared.Setting.{Setting}
-use Rattle.panel.specs.Calls.{shownSetting}
+use Rattle.panel.specs.Calls.{shownSetting, shownRaising}
 use Rattle.image.specs.declared.Loading.{Loading}
 use Rattle.image.specs.Image.{shownLoading}
 use Rattle.save.specs.Saved.{shownSaving}
@@ -32,6 +32,7 @@ pub record Answers : Type 0 where
   pub saving : Injective shownSaving
   pub assembly : Injective shownAssembly
   pub setting : Injective shownSetting
+  pub raising : Injective shownRaising
   pub answer : Injective shownAnswer
   pub going : Injective shownGoing
   pub feeding : Injective shownFeeding

@@ -15,8 +15,9 @@ use Rattle.kinds.specs.Kinds.{kinds, kindNumber}
 use Rattle.isa.specs.declared.Instruction.{Instruction}
 use Rattle.isa.specs.Instructions.{Read, instruction, unassigned, readOf, WriteReply, word, write-refused, writeOf}
 use Rattle.isa.specs.Masks.{Decoding, decodingOf}
+use Rattle.machine.specs.declared.State.{State}
 use Rattle.machine.specs.Run.{Stepper}
-use Rattle.panel.specs.Calls.{SetGiven, SetLeft, setLeft}
+use Rattle.panel.specs.Calls.{SetGiven, SetLeft, setLeft, RaiseLeft, raiseLeft}
 use Rattle.image.specs.Image.{LoadGiven, LoadLeft, loadLeft}
 use Rattle.save.specs.Saved.{SaveReply, saved, save-refused, SaveGiven, SaveLeft, saveLeft}
 use Rattle.assembler.specs.Text.{Reply, words, text-refused, AssembleLeft, assembleLeft}
@@ -35,7 +36,8 @@ use Rattle.replies.specs.declared.SisaBack.{SisaBack}
 use Rattle.replies.specs.declared.SisaInstruction.{SisaInstruction}
 use Rattle.replies.specs.declared.SisaWord.{SisaWord}
 use Rattle.replies.specs.declared.SisaFed.{SisaFed}
-use Rattle.replies.specs.Sisa.{SisaLoadLeft, sisaLoadLeft, SisaSaveLeft, sisaSaveLeft, SisaAssembleLeft, sisaAssembleLeft, SisaSetLeft, sisaSetLeft, SisaRunLeft, sisaLeft, sisaRunLeft, HostLent, withState, HostStepMeets, SisaBackLeft, sisaBackLeft, sisaInstruction, sisaWrite, sisaFeed}
+use Rattle.replies.specs.declared.SisaRaised.{SisaRaised}
+use Rattle.replies.specs.Sisa.{SisaLoadLeft, sisaLoadLeft, SisaSaveLeft, sisaSaveLeft, SisaAssembleLeft, sisaAssembleLeft, SisaSetLeft, sisaSetLeft, sisaRaise, SisaRunLeft, sisaLeft, sisaRunLeft, HostLent, withState, HostStepMeets, SisaBackLeft, sisaBackLeft, sisaInstruction, sisaWrite, sisaFeed}
 use Rattle.claims.specs.HostSteps.{stepGiven, replyOf}
 use Rattle.claims_words.specs.Instructions.{cleared}
 use Rattle.claims.specs.Refusals.{Accepts, AcceptsBack}
@@ -88,6 +90,15 @@ setOf l = record { reply = verdictOf (l .refusal); I = l .I }
 pub record SetReplies (g : SetGiven) : Type 0 where
   pub gives-back : setOf (sisaSetLeft g) ≡ setLeft g
   pub refusal-0 : (sisaSetLeft g .refusal ≡ 0) ↔ (setLeft g .reply ≡ accepted)
+
+-- ---- sisa_raise
+
+abbrev pub raiseOf : SisaRaised → RaiseLeft
+raiseOf r = record { reply = verdictOf (r .refusal); state = r .state }
+
+pub record RaiseReplies (s : State) (line : ℕ) : Type 0 where
+  pub gives-back : raiseOf (sisaRaise s line) ≡ raiseLeft s line
+  pub refusal-0 : (sisaRaise s line .refusal ≡ 0) ↔ (raiseLeft s line .reply ≡ accepted)
 
 -- ---- sisa_run_by_rules, sisa_run_by_table, both with a journal, and sisa_host_step
 
@@ -182,6 +193,7 @@ pub record CReplies : Type 0 where
   pub save : (g : SaveGiven) → SaveReplies g
   pub assemble : (text program : List ℕ) → AssembleReplies text program
   pub setting : (g : SetGiven) → SetReplies g
+  pub raise : (s : State) (line : ℕ) → RaiseReplies s line
   pub run : (v : Stepper) (g : Given) → RunReplies v g (sisaRunLeft v g)
   -- a host step, known by its contract
   pub host-step :

@@ -10,7 +10,7 @@ use Rattle.refusal.specs.Refusals.{refusalNumber}
 use Rattle.machine.specs.declared.State.{State}
 use Rattle.machine.specs.Machine.{reset}
 use Rattle.machine.specs.Run.{Stepper, byRules}
-use Rattle.panel.specs.Calls.{SetLeft, shownSetting, setLeft, windowOf}
+use Rattle.panel.specs.Calls.{SetLeft, shownSetting, setLeft, RaiseLeft, shownRaising, raiseLeft, windowOf}
 use Rattle.isa.specs.Instructions.{shownWriting, writeOf}
 use Rattle.isa.specs.Masks.{shownDecoded, decodingOf}
 use Rattle.image.specs.Image.{LoadLeft, shownLoading, loadLeft}
@@ -34,6 +34,7 @@ use Rattle.machine.proofs.State.reset.Reads as state-reset
 use Rattle.isa.proofs.read.Reads as read
 use Rattle.isa.proofs.write.Reads as write
 use Rattle.panel.proofs.set_input.Reads as set-input
+use Rattle.panel.proofs.raise.Reads as raise
 use Rattle.panel.proofs.window.Reads as window
 use Rattle.image.proofs.load.Reads as load
 use Rattle.save.proofs.save.Reads as save
@@ -160,6 +161,12 @@ pub record Contracts : Type 1 where
       ↔ (_≡_ {A = SetLeft}
       (record { reply = shownSetting r; I = now (s .0) })
       (setLeft (record { I = now (a .0); port = a .1 .0 .0; value = a .1 .1 .0 })))
+  -- raise(state, line)
+  pub raise-asks : (κs : Lfts 0) (a : _) → raise.Asked κs a
+  pub raise :
+      (κs : Lfts 0) (a : _) (r : _) (s : _)
+      → raise.Learnt κs a r s
+      ↔ (_≡_ {A = RaiseLeft} (record { reply = shownRaising (r .reply); state = r .state }) (raiseLeft (a .0) (a .1 .0)))
   -- window(program, memory, of_data, start, count)
   pub window-asks : (κs : Lfts 1) (a : _) → window.Asked κs a
   pub window :

@@ -13,11 +13,12 @@ use Rattle.isa.specs.Masks.{decodingOf}
 use Rattle.control.specs.Control.{byTable}
 use Rattle.run.specs.Runs.{Journal}
 use Rattle.replies.specs.declared.SisaRun.{SisaRun}
-use Rattle.replies.specs.Sisa.{SisaLoadLeft, sisaLoadLeft, SisaSaveLeft, sisaSaveLeft, SisaAssembleLeft, sisaAssembleLeft, SisaSetLeft, sisaSetLeft, sisaLeft, SisaRunMeets, SisaBackLeft, sisaBackLeft, sisaInstruction, sisaWrite, sisaFeed, sisaWindow, chosen, bytesOf}
+use Rattle.replies.specs.Sisa.{SisaLoadLeft, sisaLoadLeft, SisaSaveLeft, sisaSaveLeft, SisaAssembleLeft, sisaAssembleLeft, SisaSetLeft, sisaSetLeft, sisaRaise, sisaLeft, SisaRunMeets, SisaBackLeft, sisaBackLeft, sisaInstruction, sisaWrite, sisaFeed, sisaWindow, chosen, bytesOf}
 use Rattle.sisa.proofs.sisa_load.Reads as load
 use Rattle.sisa.proofs.sisa_save.Reads as save
 use Rattle.sisa.proofs.sisa_assemble.Reads as assemble
 use Rattle.sisa.proofs.sisa_set_input.Reads as set-input
+use Rattle.sisa.proofs.sisa_raise.Reads as raise
 use Rattle.sisa.proofs.sisa_run_by_rules.Reads as run-by-rules
 use Rattle.sisa.proofs.sisa_run_by_table.Reads as run-by-table
 use Rattle.sisa.proofs.sisa_run_by_rules_with_journal.Reads as run-by-rules-with-journal
@@ -79,6 +80,9 @@ pub record Exports : Type 1 where
       (κs : Lfts 1) (a : _) (r : _) (s : _)
       → set-input.Learnt κs a r s
       ↔ (_≡_ {A = SisaSetLeft} (record { refusal = r; I = now (s .0) }) (sisaSetLeft (record { I = now (a .0); port = a .1 .0; value = a .1 .1 .0 })))
+  -- sisa_raise(state, line)
+  pub raise-asks : (κs : Lfts 0) (a : _) → raise.Asked κs a
+  pub raise : (κs : Lfts 0) (a : _) (r : _) (s : _) → raise.Learnt κs a r s ↔ (r ≡ sisaRaise (a .0) (a .1 .0))
   -- sisa_run_by_rules(state, program, memory, inputs, outputs, budget, log)
   pub run-by-rules-asks : (κs : Lfts 5) (a : _) → run-by-rules.Asked κs a
   pub run-by-rules : (κs : Lfts 5) (a : _) (r : _) (s : _) → run-by-rules.Learnt κs a r s ↔ RunSays noJournal byRules a r s

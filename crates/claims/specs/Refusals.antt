@@ -3,14 +3,14 @@
 use mathlib.Core.Path.{_≡_}
 use mathlib.Core.Logic.{_⊎_, _↔_}
 use mathlib.Core.List.{List}
-use Prim.Native.Nat.{ℕ, _+_, _*_, _%_, _<_}
+use Prim.Native.Nat.{ℕ, _+_, _*_, _%_, _<_, _≤_}
 use lib.ListN.{length}
 use Rattle.refusal.specs.Refusals.{accepted, refused}
 use Rattle.machine.specs.declared.State.{State}
 use Rattle.machine.specs.declared.Board.the-variants.{SingleMemory}
 use Rattle.machine.specs.Machine.{reset}
 use Rattle.machine.specs.Run.{Stepper}
-use Rattle.panel.specs.Calls.{SetGiven, SetLeft, setLeft}
+use Rattle.panel.specs.Calls.{SetGiven, SetLeft, setLeft, RaiseLeft, raiseLeft}
 use Rattle.image.specs.Image.{W, programOffset, C, dataOffset, LoadGiven, LoadLeft, loadLeft}
 use Rattle.usage.specs.Usage.{unused}
 use Rattle.run.specs.Runs.{Given, left, stopped, run-refused, runLeft, countedLeft}
@@ -41,9 +41,9 @@ PartOutside file =
 abbrev pub SmallBoard : LoadGiven → Type 0
 SmallBoard g = (g .board ≡ SingleMemory) × (65536 < 2 * W (g .file) + C (g .file))
 
--- 5: PC odd
-abbrev pub OddPC : State → Type 0
-OddPC s = s .pc % 2 ≡ 0 → ⊥
+-- 5: PC or the return address (02, L12) odd
+abbrev pub OddPlace : State → Type 0
+OddPlace s = (s .pc % 2 ≡ 0 → ⊥) ⊎ (s .«return_address» % 2 ≡ 0 → ⊥)
 
 -- 6: n plus budget over 4,294,967,295
 abbrev pub TooMany : Given → Type 0
@@ -95,6 +95,15 @@ pub record SetRefusals (g : SetGiven) : Type 0 where
   pub no-other : (k : ℕ) → setLeft g .reply ≡ refused k → k ≡ 1
   pub nothing-changes : (k : ℕ) → setLeft g .reply ≡ refused k → setLeft g ≡ record { reply = refused k; I = g .I }
 
+-- ---- Raise (02, L12): 16, line over 7
+
+pub record RaiseRefusals (s : State) (line : ℕ) : Type 0 where
+  pub number-16 : (raiseLeft s line .reply ≡ refused 16) ↔ (7 < line)
+  pub accepts : (raiseLeft s line .reply ≡ accepted) ↔ (line ≤ 7)
+  pub no-other : (k : ℕ) → raiseLeft s line .reply ≡ refused k → k ≡ 16
+  -- The state is as handed.
+  pub nothing-changes : (k : ℕ) → raiseLeft s line .reply ≡ refused k → raiseLeft s line ≡ record { reply = refused k; state = s }
+
 -- ---- Runs: 1, 5, 6, whatever the run goes by: the rules, the control table, or another table, with a journal or without.
 -- `run_by_control` promises `runLeft`; the other runs, which also count, promise `countedLeft`.
 
@@ -103,9 +112,9 @@ Accepts v g = (q : ℕ) × (s : ℕ) × (k : ℕ) × (runLeft v g .reply ≡ sto
 
 pub record RunRefusals (v : Stepper) (g : Given) : Type 0 where
   pub number-1 : (runLeft v g .reply ≡ run-refused 1) ↔ Lengths (g .P) (g .D) (g .I) (g .O)
-  pub number-5 : (runLeft v g .reply ≡ run-refused 5) ↔ ((Lengths (g .P) (g .D) (g .I) (g .O) → ⊥) × OddPC (g .state))
-  pub number-6 : (runLeft v g .reply ≡ run-refused 6) ↔ ((Lengths (g .P) (g .D) (g .I) (g .O) → ⊥) × (OddPC (g .state) → ⊥) × TooMany g)
-  pub accepts : Accepts v g ↔ ((Lengths (g .P) (g .D) (g .I) (g .O) → ⊥) × (OddPC (g .state) → ⊥) × (TooMany g → ⊥))
+  pub number-5 : (runLeft v g .reply ≡ run-refused 5) ↔ ((Lengths (g .P) (g .D) (g .I) (g .O) → ⊥) × OddPlace (g .state))
+  pub number-6 : (runLeft v g .reply ≡ run-refused 6) ↔ ((Lengths (g .P) (g .D) (g .I) (g .O) → ⊥) × (OddPlace (g .state) → ⊥) × TooMany g)
+  pub accepts : Accepts v g ↔ ((Lengths (g .P) (g .D) (g .I) (g .O) → ⊥) × (OddPlace (g .state) → ⊥) × (TooMany g → ⊥))
   pub no-other : (k : ℕ) → runLeft v g .reply ≡ run-refused k → (k ≡ 1) ⊎ (k ≡ 5) ⊎ (k ≡ 6)
   -- Nothing lent changes, and the state is as handed.
   pub nothing-changes :
@@ -122,11 +131,11 @@ AcceptsBack g = (entries : ℕ) × (backLeft g .reply ≡ gone-back entries)
 
 pub record BackRefusals (g : BackGiven) : Type 0 where
   pub number-1 : (backLeft g .reply ≡ back-refused 1) ↔ Lengths (g .P) (g .D) (g .I) (g .O)
-  pub number-5 : (backLeft g .reply ≡ back-refused 5) ↔ ((Lengths (g .P) (g .D) (g .I) (g .O) → ⊥) × OddPC (g .state))
+  pub number-5 : (backLeft g .reply ≡ back-refused 5) ↔ ((Lengths (g .P) (g .D) (g .I) (g .O) → ⊥) × OddPlace (g .state))
   pub number-14 :
       (backLeft g .reply ≡ back-refused 14)
-      ↔ ((Lengths (g .P) (g .D) (g .I) (g .O) → ⊥) × (OddPC (g .state) → ⊥) × ShortJournal g)
-  pub accepts : AcceptsBack g ↔ ((Lengths (g .P) (g .D) (g .I) (g .O) → ⊥) × (OddPC (g .state) → ⊥) × (ShortJournal g → ⊥))
+      ↔ ((Lengths (g .P) (g .D) (g .I) (g .O) → ⊥) × (OddPlace (g .state) → ⊥) × ShortJournal g)
+  pub accepts : AcceptsBack g ↔ ((Lengths (g .P) (g .D) (g .I) (g .O) → ⊥) × (OddPlace (g .state) → ⊥) × (ShortJournal g → ⊥))
   pub no-other : (k : ℕ) → backLeft g .reply ≡ back-refused k → (k ≡ 1) ⊎ (k ≡ 5) ⊎ (k ≡ 14)
   pub nothing-changes :
       (k : ℕ) → backLeft g .reply ≡ back-refused k
@@ -135,5 +144,6 @@ pub record BackRefusals (g : BackGiven) : Type 0 where
 pub record Refusals : Type 0 where
   pub load : (g : LoadGiven) → LoadRefusals g
   pub setting : (g : SetGiven) → SetRefusals g
+  pub raise : (s : State) (line : ℕ) → RaiseRefusals s line
   pub run : (v : Stepper) (g : Given) → RunRefusals v g
   pub back : (g : BackGiven) → BackRefusals g

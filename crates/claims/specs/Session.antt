@@ -3,17 +3,17 @@
 use mathlib.Core.Path.{_≡_}
 use mathlib.Core.List.{List, [], _∷_, _++_, map}
 use Prim.Native.Nat.{ℕ, _-_}
-use lib.Dec.{eqb}
+use lib.Dec.{eqb, ltb}
 use lib.ListN.{length, take, drop, replicate}
 use Rattle.refusal.specs.Refusals.{Verdict, accepted, refused}
 use Rattle.word.specs.Word.{pick}
 use Rattle.machine.specs.declared.State.{State}
 use Rattle.machine.specs.declared.Board.{Board}
-use Rattle.machine.specs.Machine.{Machine, putI, onState}
+use Rattle.machine.specs.Machine.{Machine, withLine, putPending, putI, onState}
 use Rattle.machine.specs.Run.{Stepper, byRules, Outcome, run, trace}
 use Rattle.usage.specs.declared.Usage.{Usage}
 use Rattle.usage.specs.Usage.{unused, usageOf, ticksOf}
-use Rattle.panel.specs.Calls.{SetGiven, SetLeft, setLeft}
+use Rattle.panel.specs.Calls.{SetGiven, SetLeft, setLeft, RaiseLeft, raiseLeft}
 use Rattle.image.specs.Image.{LoadGiven, LoadLeft, loaded, loadLeft}
 use Rattle.report.specs.Example.{exampleFile}
 use Rattle.control.specs.Control.{byTable}
@@ -35,19 +35,23 @@ pub record Lent : Type 0 where
   pub log : List ℕ
   pub journal : Journal
 
+-- a run, a setting of an input, a raising of a line (02, L12)
 pub data Call : Type 0 where
   runs : Engine → Lent → Call
   sets : ℕ → ℕ → Call
+  raises : ℕ → Call
 
--- what comes back: a run's reply, its counts, its ticks, the log and the journal as they were returned; a setting's reply
+-- what comes back: a run's reply, its counts, its ticks, the log and the journal as they were returned; a setting's reply; a raising's reply
 pub data Reply : Type 0 where
   of-run : RunReply → Usage → ℕ → List ℕ → Journal → Reply
   of-set : Verdict → Reply
+  of-raise : Verdict → Reply
 
--- Lists that are alike have the same settings, budgets, lent logs and lent journals: the engines are forgotten.
+-- Lists that are alike have the same settings, raisings, budgets, lent logs and lent journals: the engines are forgotten.
 abbrev pub plain : Call → Call
 plain (runs e lent) = runs by-rules lent
 plain (sets port value) = sets port value
+plain (raises line) = raises line
 
 abbrev pub Alike : List Call → List Call → Type 0
 Alike cs₁ cs₂ = map plain cs₁ ≡ map plain cs₂
@@ -76,6 +80,9 @@ afterRun l = record { state = l .state; P = l .P; D = l .D; I = l .I; O = l .O }
 abbrev pub afterSet : Host → SetLeft → Host
 afterSet h l = record { state = h .state; P = h .P; D = h .D; I = l .I; O = h .O }
 
+abbrev pub afterRaise : Host → RaiseLeft → Host
+afterRaise h l = record { state = l .state; P = h .P; D = h .D; I = h .I; O = h .O }
+
 -- one call, of which only its contract is known (the theorem `contracts` says that it is this relation)
 pub data CallMeets : Host → Call → Reply → Host → Type 0 where
   a-run :
@@ -84,6 +91,8 @@ pub data CallMeets : Host → Call → Reply → Host → Type 0 where
   a-setting :
       (h : Host) (port value : ℕ) (l : SetLeft) → l ≡ setLeft (record { I = h .I; port = port; value = value })
       → CallMeets h (sets port value) (of-set (l .reply)) (afterSet h l)
+  a-raise :
+      (h : Host) (line : ℕ) (l : RaiseLeft) → l ≡ raiseLeft (h .state) line → CallMeets h (raises line) (of-raise (l .reply)) (afterRaise h l)
 
 -- a list of calls, one after the other
 pub data Calls : Host → List Call → List Reply → Host → Type 0 where
@@ -97,6 +106,7 @@ abbrev pub wrote : Reply → List ℕ
 wrote (of-run (stopped q steps entries) u t log journal) = take entries log
 wrote (of-run (run-refused k) u t log journal) = []
 wrote (of-set r) = []
+wrote (of-raise r) = []
 
 unfoldable pub joined : List Reply → List ℕ
 joined [] = []
@@ -128,10 +138,15 @@ abbrev pub runBy : Verdict → Machine → Lent → Machine
 runBy accepted m lent = onState (countedIn (lent .journal) (length (taken m lent))) (outcome m lent .after)
 runBy (refused k) m lent = m
 
--- An accepted set is its Set.
+-- Raise: the line's bit is set, set or not before. Nothing else changes.
+abbrev pub raised : ℕ → Machine → Machine
+raised line m = onState (λ s. putPending (withLine line (s .pending)) s) m
+
+-- An accepted set is its Set, an accepted raise its Raise.
 unfoldable pub machineCall : Machine → Call → Machine
 machineCall m (runs e lent) = runBy (verdictOn (givenOf m lent)) m lent
 machineCall m (sets port value) = pick (eqb (length (m .I)) 256) (putI port value m) m
+machineCall m (raises line) = pick (ltb line 8) (raised line m) m
 
 unfoldable pub machineCalls : Machine → List Call → Machine
 machineCalls m [] = m
@@ -151,6 +166,7 @@ saidBy (refused k) m lent = of-run (run-refused k) unused 0 (lent .log) (lent .j
 unfoldable pub machineSays : Machine → Call → Reply
 machineSays m (runs e lent) = saidBy (verdictOn (givenOf m lent)) m lent
 machineSays m (sets port value) = of-set (pick (eqb (length (m .I)) 256) accepted (refused 1))
+machineSays m (raises line) = of-raise (pick (ltb line 8) accepted (refused 16))
 
 unfoldable pub machineReplies : Machine → List Call → List Reply
 machineReplies m [] = []
@@ -171,11 +187,13 @@ pub record Mirrors (file : List ℕ) (board : Board) (cs : List Call) (rs₁ rs�
   pub same-replies : rs₁ ≡ rs₂
   pub same-host : h₁ ≡ h₂
 
--- a refused run in a list is refused with 6, and no setting is refused
+-- a refused run in a list is refused with 6, a refused raising with 16, and no setting is refused
 abbrev pub Only6 : Reply → Type 0
 Only6 (of-run (stopped q s k) u t log journal) = Unit {0}
 Only6 (of-run (run-refused k) u t log journal) = k ≡ 6
 Only6 (of-set r) = r ≡ accepted
+Only6 (of-raise accepted) = Unit {0}
+Only6 (of-raise (refused k)) = k ≡ 16
 
 pub data All (Q : Reply → Type 0) : List Reply → Type 0 where
   nil : All Q []
@@ -194,7 +212,7 @@ pub record Session : Type 0 where
   pub load-exists :
       (board : Board)
       → loadLeft (record { file = exampleFile; board = board; P = replicate 65536 0; D = replicate 65536 0; I = replicate 256 0; O = replicate 256 0 }) .reply ≡ accepted
-  -- after an accepted load only refusal 6 can occur in a list
+  -- after an accepted load runs in a list are refused with 6 only, raisings with 16 only
   pub only-6 :
       (g : LoadGiven) (l : LoadLeft) → l ≡ loadLeft g → l .reply ≡ accepted
       → (cs : List Call) (rs : List Reply) (h : Host) → Calls (hostOf l) cs rs h → All Only6 rs

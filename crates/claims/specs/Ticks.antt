@@ -1,19 +1,21 @@
--- How long on the slower board (02, L9): the multicycle board takes 3 ticks an instruction, and 4 for LD, ST, LDB and STB. A run's ticks are
--- the sum of these over the steps that the plain machine took, and lie between 3 and 4 times the reported steps.
+-- How long on the slower board (02, L9): the multicycle board takes 3 ticks an instruction, and 4 for LD, ST, LDB and STB; taking a line (02,
+-- L12) takes 3. A run's ticks are the sum of these over the steps that the plain machine took, and lie between 3 and 4 times the reported steps.
 use mathlib.Core.Path.{_≡_}
+use mathlib.Core.Bool.{true}
 use mathlib.Core.List.{List, [], _∷_, map}
 use Prim.Native.Nat.{ℕ, _*_, _≤_}
 use Rattle.word.specs.Fields.{opcode, e-of, f-of}
 use Rattle.kinds.specs.declared.Kind.{Kind}
-use Rattle.kinds.specs.declared.Kind.the-variants.{And, Or, Xor, Not, Add, Sub, Sha, Shl, Cmplt, Cmple, Cmpeq, Cmpltu, Cmpleu, Addi, Ld, St, Ldb, Stb, Jalr, Bz, Bnz, Movi, Movhi, In, Out, Mul, Mulh, Mulhu, Div, Divu}
+use Rattle.kinds.specs.declared.Kind.the-variants.{And, Or, Xor, Not, Add, Sub, Sha, Shl, Cmplt, Cmple, Cmpeq, Cmpltu, Cmpleu, Addi, Ld, St, Ldb, Stb, Jalr, Bz, Bnz, Movi, Movhi, In, Out, Mul, Mulh, Mulhu, Div, Divu, Ei, Di, Reti, Getiid}
 use Rattle.kinds.specs.Kinds.{kinds}
 use Rattle.isa.specs.declared.rows.Entry.the-variants.{Assigned}
 use Rattle.isa.specs.Sheet.{kindAt}
-use Rattle.machine.specs.Machine.{Machine}
+use Rattle.machine.specs.Machine.{Machine, takesLine}
 use Rattle.machine.specs.Step.{fetched}
 use Rattle.machine.specs.Run.{byRules}
 use Rattle.usage.specs.Usage.{ticksAt, ticksOf}
 use Rattle.run.specs.Runs.{Given, stopped, run-refused, traceOn, CountedLeft, countedLeft, CountedMeets}
+use Rattle.claims_sheet.specs.Rules.{FetchesNow}
 use Rattle.claims.specs.Session.{Engine, stepperOf}
 
 -- ---- A step's ticks, by its kind
@@ -57,11 +59,15 @@ tickRows =
     ∷ row Mulhu 3
     ∷ row Div 3
     ∷ row Divu 3
+    ∷ row Ei 3
+    ∷ row Di 3
+    ∷ row Reti 3
+    ∷ row Getiid 3
     ∷ []
 
--- every machine whose word is of the kind takes these ticks
+-- every machine that fetches a word of the kind takes these ticks
 abbrev pub Holds : Row → Type 0
-Holds x = (m : Machine) → let w = fetched m in kindAt (opcode w) (e-of w) (f-of w) ≡ Assigned (x .kind) → ticksAt m ≡ x .ticks
+Holds x = (m : Machine) → FetchesNow m → let w = fetched m in kindAt (opcode w) (e-of w) (f-of w) ≡ Assigned (x .kind) → ticksAt m ≡ x .ticks
 
 abbrev pub Each : List Row → Type 0
 Each [] = Unit
@@ -91,6 +97,8 @@ pub record Ticks : Type 0 where
   -- each of the kinds has a row, in their order
   pub every-kind : map (λ (x : Row). x .kind) tickRows ≡ kinds
   pub rows : Each tickRows
+  -- whatever word stands at PC, taking a line takes 3
+  pub taking : (m : Machine) → takesLine (m .state) ≡ true → ticksAt m ≡ 3
   -- An accepted run, by either engine, of whatever it is given, a journal or none, known by its contract alone;
   pub of-accepted :
       (e : Engine) (g : Given) (l : CountedLeft) → CountedMeets (stepperOf e) g l

@@ -96,7 +96,7 @@ stepsOf (f ∷ fs) = stepsIn (f .reply) + stepsOf fs
 
 -- the sheet that has these counts
 abbrev pub sheetOf : Usage → ℕ → Sheet
-sheetOf u n = record { kinds = u .kinds; reads = u .reads; writes = u .writes; runs = n }
+sheetOf u n = record { kinds = u .kinds; taken = u .taken; reads = u .reads; writes = u .writes; runs = n }
 
 pub record Sheets : Type 0 where
   -- such returns exist for every list of runs
@@ -109,10 +109,11 @@ pub record Sheets : Type 0 where
       → Feeds empty order (sheetOf (countsOf rs) (acceptedOf rs))
   -- and no other sheet comes of it
   pub one-sheet : (s a b : Sheet) (fs : List Fed) → Feeds s fs a → Feeds s fs b → a ≡ b
-  -- Whatever sheet comes of feeding them to an empty one, its kind counts sum to the steps that the runs fed to it reported,
+  -- Whatever sheet comes of feeding them to an empty one, its kind counts and its lines taken (02, L12) sum to the steps that the runs fed to it
+  -- reported,
   pub kinds-sum :
       (rs : List Run) (fs order : List Fed) (s : Sheet) → Returned rs fs → Reordered fs order → Feeds empty order s
-      → total (s .kinds) ≡ stepsOf order
+      → total (s .kinds) + s .taken ≡ stepsOf order
   -- and it counts a register at most once a step.
   pub reads-at-most :
       (rs : List Run) (fs order : List Fed) (s : Sheet) (j : ℕ) → Returned rs fs → Reordered fs order → Feeds empty order s

@@ -10,17 +10,16 @@ use Rattle.machine.specs.Machine.{Machine}
 use Rattle.journal.specs.Journal.{butFor}
 use Rattle.run.specs.Runs.{Journal, stopped, CountedLeft}
 use Rattle.claims.specs.Session.{Host, of-run, machineOn, wrote}
-use Rattle.claims_back.specs.History.{heldAs}
-use Rattle.claims_back.specs.StepBack.{gained, Again, done, sets, runs, countIn}
+use Rattle.claims_back.specs.StepBack.{gained, fromOutside, Again, done, sets, runs, countIn}
 use Rattle.claims_back.proofs.Kept.{Kept, kept-parts}
-use Rattle.claims_back.proofs.Stretches.{gained-append, inputsAfter, inputs-append, chain-n, chain-first, chain-none, Parts, chain-parts}
-use Rattle.claims_back.proofs.Rerun.{Lending, without, with, Holds, own, reran}
+use Rattle.claims_back.proofs.Stretches.{gained-append, outsideAfter, heldWith, outside-append, chain-n, chain-first, chain-none, Parts, chain-parts}
+use Rattle.claims_back.proofs.Rerun.{outsideOn, Lending, without, with, Holds, own, reran}
 
 -- what the runs leave, of steps that lead to z
 pub record Led (j : Journal) (b : Host) (z : Machine) (ms : List Machine) (es : List ℕ) (j′ : Journal) (last : Host) : Type 0 where
   pub entries : es ≡ gained ms
-  pub there : machineOn last [] ≡ heldAs (last .state .journaled) (last .I) [] z
-  pub inputs : last .I ≡ inputsAfter (b .I) ms
+  pub there : machineOn last [] ≡ heldWith (last .state .journaled) (outsideOn last) [] z
+  pub outside : outsideOn last ≡ outsideAfter (outsideOn b) ms
   pub journal : j′ ≡ j
 
 -- A set comes before a step.
@@ -48,7 +47,7 @@ module _ {b : Host} {z m : Machine} (ms rest : List Machine) {xs : List ℕ} {p 
         places = omega (arith, f .places, length-append ms rest);
       }
 
-  onward : {b′ : Host} → machineOn b′ [] ≡ heldAs (b′ .state .journaled) (b′ .I) [] (parts .mid) → Holds b′ z (parts .mid) rest xs (p + length ms)
+  onward : {b′ : Host} → machineOn b′ [] ≡ heldWith (b′ .state .journaled) (outsideOn b′) [] (parts .mid) → Holds b′ z (parts .mid) rest xs (p + length ms)
   onward here =
       record {
         chain = parts .second;
@@ -72,28 +71,28 @@ wrote-is l es tail r e =
 
 pub run-again : {j j′ : Journal} {b last : Host} {ms : List Machine} {es : List ℕ} → Again j b ms es j′ last
     → {z m : Machine} {xs : List ℕ} {p : ℕ} → Holds b z m ms xs p → Lending xs p (b .state .journaled) j → Led j b z ms es j′ last
-unfolding gained inputsAfter
+unfolding gained outsideAfter
 run-again (done {b = b}) f lends =
     record {
       entries = refl;
-      there = f .here ∙ ap (heldAs (b .state .journaled) (b .I) []) (chain-none (f .chain));
-      inputs = refl;
+      there = f .here ∙ ap (heldWith (b .state .journaled) (outsideOn b) []) (chain-none (f .chain));
+      outside = refl;
       journal = refl;
     }
 run-again (sets port value l e a) f lends =
     let r = run-again a (set-holds (l .I) f) lends in
-    record { entries = r .entries; there = r .there; inputs = r .inputs; journal = r .journal }
+    record { entries = r .entries; there = r .there; outside = r .outside; journal = r .journal }
 run-again {j = j} {b = b} (runs {m = q} {ms = qs} {rest = rest} {es = es} e log l i again a) {xs = xs} {p = p} f lends =
     let ms = q ∷ qs in
     let (same, s) = chain-first (f .chain) in
-    let r = reran (stretch ms rest f) (i ∙ ap (λ x. x .I) (sym same)) log s e l lends again in
+    let r = reran (stretch ms rest f) (i ∙ ap fromOutside (sym same)) log s e l lends again in
     let count = ap (λ (x : Machine). x .state .journaled) (r .machine) in
-    let inputs = ap (λ (x : Machine). x .I) (r .machine) in
+    let outside = ap fromOutside (r .machine) in
     let lends′ = subst (Lending xs (p + length ms) (l .left .state .journaled)) (sym (r .journal)) (lends-on (length ms) count lends) in
     let z = run-again a (onward ms rest f (own (parts ms rest f .mid) (r .machine))) lends′ in
     record {
       entries = (λ k. wrote-is l (gained ms) _ (r .reply) (r .entries) k ++ z .entries k) ∙ sym (gained-append ms rest);
       there = z .there;
-      inputs = z .inputs ∙ ap (λ I. inputsAfter I rest) inputs ∙ sym (inputs-append (b .I) ms rest);
+      outside = z .outside ∙ ap (λ x. outsideAfter x rest) outside ∙ sym (outside-append (outsideOn b) ms rest);
       journal = z .journal ∙ r .journal;
     }

@@ -2,22 +2,23 @@
 -- Assumes nothing.
 use mathlib.Core.Path.{_≡_, refl, sym, ap, subst, _∙_}
 use mathlib.Core.List.{List, [], _++_, map, reverse, reverseAux-eq}
-use Prim.Native.Nat.{ℕ, _+_, _%_, _≤_}
+use Prim.Native.Nat.{ℕ, _+_, _≤_}
 use native.Mathlib.Omega.{arith}
-use borrow.Author.Tests.{eqb-true, leb-true}
-use lib.Dec.{eqb, leb}
+use borrow.Author.Tests.{leb-true}
+use lib.Dec.{leb}
 use lib.ListN.{length, length-append, length-reverse}
 use Rattle.refusal.specs.Refusals.{Verdict, accepted, refused}
 use Rattle.word.proofs.Tests.{clash, passed}
-use Rattle.machine.specs.Machine.{Machine}
+use Rattle.machine.specs.Machine.{Machine, evenPlaces}
 use Rattle.machine.specs.Lengths.{lengthsFit}
 use Rattle.machine.specs.Run.{byRules}
+use Rattle.machine.proofs.Runs.{Even, places-even}
 use Rattle.journal.specs.Journal.{entryOf}
 use Rattle.journal.specs.Ranges.{InRange}
 use Rattle.run.specs.Runs.{no-journal, lent-journal, Given, stopped, run-refused, verdict, verdictOn, allowed, machineAt, placed, traceOn, outcomeOn, acceptedLeft, CountedLeft, countedBy, countedLeft}
 use Rattle.claims.specs.Session.{Host, Lent, givenTo, afterRun, machineOn}
-use Rattle.claims_back.specs.History.{History, begins, held, Past, takenBy, taken}
-use Rattle.claims_back.proofs.Pasts.{held-sound, known}
+use Rattle.claims_back.specs.History.{History, Past, takenBy, taken}
+use Rattle.claims_back.proofs.Pasts.{held-sound, sound-begins, known, unraised}
 use Rattle.claims_back.proofs.Walks.{run-walks, walked}
 use Rattle.claims_back.proofs.Kept.{placed-history}
 
@@ -25,16 +26,16 @@ use Rattle.claims_back.proofs.Kept.{placed-history}
 
 -- what an accepted run's tests found
 record Passed (g : Given) : Type 0 where
-  even : g .state .pc % 2 ≡ 0
+  even : Even (g .state)
   few : g .state .n + g .budget ≤ 4294967295
 
 passes : (g : Given) → verdictOn g ≡ accepted → Passed g
 unfolding verdict
 passes g e =
     let lengths = passed (lengthsFit (g .P) (g .D) (g .I) (g .O)) (λ x. clash (cc)) e in
-    let even = passed (eqb (g .state .pc % 2) 0) (λ x. clash (cc)) (lengths .1) in
+    let even = passed (evenPlaces (g .state)) (λ x. clash (cc)) (lengths .1) in
     let few = passed (leb (g .state .n + g .budget) 4294967295) (λ x. clash (cc)) (even .1) in
-    record { even = eqb-true _ _ (even .0); few = leb-true _ _ (few .0) }
+    record { even = places-even (g .state) (even .0); few = leb-true _ _ (few .0) }
 
 same-journal : {h : Host} {xs ys : List ℕ} {ms : List Machine} → xs ≡ ys → Past h xs ms → Past h ys ms
 same-journal {h} {ms = ms} e p = subst (λ ys. Past h ys ms) e p
@@ -51,13 +52,13 @@ module _ (h : Host) (budget : ℕ) (log : List ℕ) where
         let after = outcomeOn byRules without .after in
         let w = walked walk in
         let found = passes without e in
-        let start = held-sound 0 [] (r .inputs) (record { in-range = r; even = found .even }) in
+        let start = held-sound 0 [] (r .pending) (r .inputs) (record { in-range = r; even = found .even }) in
         let s = w .sound start in
-        let now = held-sound (after .state .journaled) [] (s .in-range .inputs) s in
+        let now = held-sound (after .state .journaled) [] (s .in-range .pending) (s .in-range .inputs) s in
         record {
           counted = w .same-count;
           few = omega (arith, few, w .n-is, found .few);
-          history = begins (now .in-range) (now .even);
+          history = sound-begins now;
         }
 
     pub begun : (l : CountedLeft) → l ≡ countedLeft byRules without → (q s k : ℕ) → l .left .reply ≡ stopped q s k → (xs : List ℕ) → Past (afterRun (l .left)) xs []
@@ -92,7 +93,7 @@ module _ (h : Host) (budget : ℕ) (log : List ℕ) where
           few = omega (arith, few, w .n-is, passes with e .few);
           history =
               subst (History _ _) (reverseAux-eq t ms)
-              (held moved (after .state .journaled + length t) (after .I) [] (w .sound (k .sound) .in-range .inputs));
+              (unraised moved (after .state .journaled + length t) (after .I) [] (w .sound (k .sound) .in-range .inputs));
         }
 
     -- accepted or refused

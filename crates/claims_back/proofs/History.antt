@@ -1,34 +1,40 @@
 -- A history goes on by every call: by a run (Carried), by entries undone (Returned), and by inputs set.
 -- Assumes nothing.
 use mathlib.Core.Path.{_≡_, refl, sym, ap, subst, _∙_}
+use mathlib.Core.Bool.{Bool, true, false}
 use mathlib.Core.List.{List, [], _∷_, _++_}
-use Prim.Native.Nat.{ℕ, _-_, _%_, _<_, _≤_}
+use Prim.Native.Nat.{ℕ, _-_, _^_, _<_, _≤_}
 use native.Mathlib.Omega.{arith}
+use lib.Dec.{ltb}
+use lib.Pow.{pow-lt}
+use borrow.Author.Tests.{ltb-true}
 use lib.ListN.{length, getD, set, take, drop, replicate, length-drop, getD-replicate}
 use lib.Seq.{getD-take}
 use Rattle.refusal.specs.Refusals.{Verdict, accepted, refused}
+use Rattle.word.specs.Word.{pick}
 use Rattle.word.proofs.Tests.{clash}
 use Rattle.machine.specs.declared.Board.{Board}
-use Rattle.machine.specs.Machine.{Machine, reset, resetOn, putJournaled}
-use Rattle.machine.specs.Step.{PC, fetched, to, choice, stepBy, step}
+use Rattle.machine.specs.Machine.{Machine, evenPlaces, reset, resetOn, withLine, putPending, putJournaled}
+use Rattle.machine.specs.Step.{fetched, to, choice, stepBy, step}
 use Rattle.journal.specs.Journal.{keysBack, entryOf}
 use Rattle.journal.specs.Ranges.{Numbers, InRange}
 use Rattle.journal.proofs.Written.{numbers-set}
-use Rattle.panel.specs.Calls.{SetLeft, setLeft}
+use Rattle.panel.specs.Calls.{SetLeft, setLeft, RaiseLeft, raiseLeft}
 use Rattle.image.specs.Image.{loaded}
 use Rattle.control.proofs.Laws.{lawful-rules}
 use Rattle.run.specs.Runs.{Journal, no-journal, lent-journal, stopped, CountedLeft, CountedMeets}
 use Rattle.back.specs.Backs.{BackLeft, gone-back, back-refused, backVerdict, backLeftBy, backLeft}
 use Rattle.back.proofs.Undone.{undone-counts, undone-in-range}
 use Rattle.back.proofs.Left.{accepted-left}
-use Rattle.claims.specs.Session.{Engine, stepperOf, Lent, Host, hostOf, givenTo, afterRun, afterSet, machineOn}
+use Rattle.claims.specs.Session.{Engine, stepperOf, Lent, Host, hostOf, givenTo, afterRun, afterSet, afterRaise, machineOn}
+use Rattle.claims_back.specs.StepBack.{raisedSince}
 use Rattle.claims_back.specs.History.{heldAs, History, begins, steps, held, Past, taken, givenBack, afterBack, Histories}
 use Rattle.claims.proofs.Together.{both}
 use Rattle.claims.proofs.Session.{accepted-load}
 use Rattle.claims_back.proofs.Loads.{zeros, loaded-in-range}
-use Rattle.claims_back.proofs.Pasts.{known, last, alike, earlier-history}
+use Rattle.claims_back.proofs.Pasts.{known, unraised, last, alike, earlier-history}
 use Rattle.claims_back.proofs.Carried.{begun, carries, left-alone}
-use Rattle.claims_back.proofs.Returned.{may-go, went, returned}
+use Rattle.claims_back.proofs.Returned.{since-below, may-go, went, returned}
 
 -- ---- A run, by either engine
 
@@ -67,8 +73,27 @@ module _ (h : Host) (xs : List ℕ) (ms : List Machine) (p : Past h xs ms) where
       (record {
         counted = p .counted;
         few = p .few;
-        history = held (p .history) (h .state .journaled) I [] (numbers-set (h .I) port value r v);
+        history = unraised (p .history) (h .state .journaled) I [] (numbers-set (h .I) port value r v);
       })
+
+  -- ---- A raise
+
+  raise-keeps : (line : ℕ) (l : RaiseLeft) → l ≡ raiseLeft (h .state) line → Past (afterRaise h l) xs ms
+  unfolding raiseLeft
+  raise-keeps line l e = subst (λ l. Past (afterRaise h l) xs ms) (sym e) (go (ltb line 8) refl)
+    where
+      go : (t : Bool) → ltb line 8 ≡ t
+          → Past
+          (afterRaise h
+          (pick t (record { reply = accepted; state = putPending (withLine line (h .state .pending)) (h .state) }) (record { reply = refused 16; state = h .state })))
+          xs ms
+      go true t =
+          record {
+            counted = p .counted;
+            few = p .few;
+            history = held (p .history) (h .state .journaled) (2 ^ line) (h .I) [] (pow-lt (ltb-true line 8 t)) (known (p .history) .sound .in-range .inputs);
+          }
+      go false t = p
 
   -- ---- Going back
 
@@ -85,7 +110,8 @@ module _ (h : Host) (xs : List ℕ) (ms : List Machine) (p : Past h xs ms) where
         few = omega (arith, p .few, undone-counts xs k (h .state .journaled) (machineOn h []));
         history =
             subst (λ m. History xs m (drop k ms)) (sym back)
-            (held (earlier-history k ms (p .history)) (length ms - k) I [] (subst (Numbers 256 65536) (ap (λ m. m .I) back) (there .inputs)));
+            (held (earlier-history k ms (p .history)) (length ms - k) (raisedSince k (machineOn h []) ms) I [] (since-below k ms (p .history))
+            (subst (Numbers 256 65536) (ap (λ m. m .I) back) (there .inputs)));
       })
 
   back-refused-keeps : (k : ℕ) (l : BackLeft) → l ≡ backLeft (givenBack h xs k) → (r : ℕ) → l .reply ≡ back-refused r → Past (afterBack l) xs ms
@@ -116,15 +142,15 @@ load-begins h file board e r xs =
     record {
       counted = ap (λ x. x .journaled) s;
       few = omega (arith, n);
-      history = begins (subst InRange (sym e) r) (ap (λ x. x .pc % 2) s);
+      history = begins (subst InRange (sym e) r) (ap evenPlaces s);
     }
 
 -- ---- A history with one step
 
-stepped-past : (m next : Machine) → InRange m → PC m ≡ 0 → m .state .n ≡ 0 → step m ≡ to next
+stepped-past : (m next : Machine) → InRange m → evenPlaces (m .state) ≡ true → m .state .n ≡ 0 → step m ≡ to next
     → (h : Host) × (xs : List ℕ) × (m : Machine) × (ms : List Machine) × Past h xs (m ∷ ms)
-stepped-past m next r pc n e =
-    let z : History (entryOf m ∷ []) next (m ∷ []) = steps (begins r (omega arith)) e (omega arith) refl in (
+stepped-past m next r even n e =
+    let z : History (entryOf m ∷ []) next (m ∷ []) = steps (begins r even) e (omega arith) refl in (
       record { state = putJournaled 1 (next .state); P = next .P; D = next .D; I = next .I; O = next .O },
       entryOf m ∷ [],
       m,
@@ -132,7 +158,7 @@ stepped-past m next r pc n e =
       record {
         counted = refl;
         few = omega (arith, n, lawful-rules .counts m next e);
-        history = held z 1 (next .I) [] (known z .sound .in-range .inputs);
+        history = unraised z 1 (next .I) [] (known z .sound .in-range .inputs);
       },
     )
 
@@ -151,7 +177,7 @@ one-step =
     let P : List ℕ = replicate 65536 0 in
     let bytes = zeros 256 (omega arith) 65536 in
     let words = zeros 65536 (omega arith) in
-    let r : InRange (zeroed P) = record { registers = words 8; pc = omega arith; program = bytes; memory = bytes; inputs = words 256; outputs = words 256 } in
+    let r : InRange (zeroed P) = record { registers = words 8; pc = omega arith; enabled = omega arith; pending = omega arith; line = omega arith; address = omega arith; program = bytes; memory = bytes; inputs = words 256; outputs = words 256 } in
     let (next, e) = zeroed-steps P (getD-replicate 65536 0 0 0 (omega arith)) (getD-replicate 65536 1 0 0 (omega arith)) in
     stepped-past (zeroed P) next r refl refl e
 
@@ -162,7 +188,7 @@ histories =
     record {
       last-step = λ h xs m ms p.
           let l = last (p .history) in
-          (l .next, l .stepped, l .led ∙ ap (λ c. heldAs c (h .I) [] (l .next)) (p .counted));
+          (l .next, l .lines, l .stepped, l .led ∙ (λ i. heldAs (p .counted i) (l .raised i) (h .I) [] (l .next)));
       in-range = λ h xs ms p. known (p .history) .sound .in-range;
       after-load = λ g l e ok bytes xs.
           let (accepts, m) = accepted-load g l e ok in
@@ -171,6 +197,7 @@ histories =
       after-run = run-carries;
       after-refused-run = λ h xs ms p e lent l meets k r. subst (λ h. Past h xs ms) (left-alone h lent l (both e _ l meets) k r) p;
       after-set = set-keeps;
+      after-raise = raise-keeps;
       after-back = back-drops;
       after-refused-back = back-refused-keeps;
       copied = λ h xs ys ms p. copied-keeps h xs ms p ys;

@@ -2,8 +2,10 @@ pub mod Again
 pub mod Carried
 pub mod History
 pub mod Kept
+pub mod Lines
 pub mod Loads
 pub mod Longer
+pub mod NoLineLost
 pub mod Onward
 pub mod Pasts
 pub mod Rerun
@@ -12,4 +14,5 @@ pub mod RunsOn
 pub mod StepBack
 pub mod Stretches
 pub mod Unlooked
+pub mod Waiting
 pub mod Walks

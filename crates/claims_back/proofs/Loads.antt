@@ -64,6 +64,10 @@ loaded-in-range g e n =
     record {
       registers = zeros 65536 (omega arith) 8;
       pc = omega arith;
+      enabled = omega arith;
+      pending = omega arith;
+      line = omega arith;
+      address = omega arith;
       program = record { many = long .0; below = bytes .0 };
       memory = record { many = long .1; below = bytes .1 };
       inputs = zeros 65536 (omega arith) 256;

@@ -39,6 +39,7 @@ no-more ms ns =
     rw (usage-append ms ns)
     (record {
       kinds = plus-more (u .kinds) (v .kinds) (s .kinds ∙ sym (z .kinds));
+      taken = omega arith;
       reads = plus-more (u .reads) (v .reads) (s .reads ∙ sym (z .reads));
       writes = plus-more (u .writes) (v .writes) (s .writes ∙ sym (z .writes));
     })

@@ -4,16 +4,16 @@ use mathlib.Core.Path.{_≡_, refl, sym, ap, subst, _∙_}
 use mathlib.Core.Bool.{Bool, true, false}
 use mathlib.Core.List.{List, [], _∷_, _++_, append-nil}
 use Prim.Native.Nat.{ℕ, _-_}
-use lib.ListN.{length, drop, List·getD-map}
+use lib.ListN.{length, getD, drop, List·getD-map}
 use lib.Seq.{drop-append-seam, drop-length}
-use Rattle.word.specs.Fields.{bits, field, N8}
-use Rattle.word.specs.Word.{pick}
+use Rattle.word.specs.Fields.{bits, field, f-of, N8}
+use Rattle.word.specs.Word.{pick, add}
 use Rattle.machine.specs.declared.State.{State}
-use Rattle.machine.specs.Machine.{Machine, putR, putPC, putN, putJournaled, onState, putD, onInputs, putO, count}
-use Rattle.machine.specs.Step.{PC, Ra, Rb, d5-3, d8-6, d11-9, fetched, Next, cannot, to, step}
+use Rattle.machine.specs.Machine.{Machine, takesLine, lineTaken, putR, putPC, putN, putJournaled, onState, putD, onInputs, putO, count}
+use Rattle.machine.specs.Step.{PC, Ra, Rb, d5-3, d8-6, d11-9, fetched, Next, cannot, to, ei, di, reti, interruptRules, taking, step}
 use Rattle.machine.specs.Run.{Stepper}
-use Rattle.journal.specs.Journal.{Overwritten, nothing, register, data-word, data-byte, output-word, key-read, pcIn, overwritten, entryOf, overwrittenIn, putBack, undo}
-use Rattle.control.specs.Control.{unit, result, inputsAfter, next, writesPort, storedData, stored, written, performed, assigned, zeroDivisor, controlStep, controlIn, byControl, table}
+use Rattle.journal.specs.Journal.{Overwritten, nothing, register, data-word, data-byte, output-word, key-read, enable-flag, line-taken, pcIn, overwritten, entryOf, overwrittenIn, putBack, undo}
+use Rattle.control.specs.Control.{byInterrupt, unit, result, inputsAfter, next, writesPort, storedData, stored, written, performed, assigned, zeroDivisor, interrupted, interruptAssigned, controlStep, controlIn, byControl, table}
 use Rattle.control.proofs.Agreement.{same-stepper}
 use Rattle.claims_back.specs.History.{heldAs}
 
@@ -21,7 +21,7 @@ use Rattle.claims_back.specs.History.{heldAs}
 
 -- x with the count and after the log l, where m is the machine before the step
 abbrev onward : ℕ → List ℕ → Machine → Machine → Machine
-onward c l m x = heldAs c (x .I) (l ++ drop (length (m .L)) (x .L)) x
+onward c l m x = heldAs c (x .state .pending) (x .I) (l ++ drop (length (m .L)) (x .L)) x
 
 abbrev onwardNext : ℕ → List ℕ → Machine → Next → Next
 onwardNext c l m (cannot q) = cannot q
@@ -29,7 +29,7 @@ onwardNext c l m (to x) = to (onward c l m x)
 
 module _ (c : ℕ) (l : List ℕ) (m : Machine) where
   abbrev before : Machine
-  before = heldAs c (m .I) l m
+  before = heldAs c (m .state .pending) (m .I) l m
 
   written-held : (k w v : ℕ) (s : State) → written k w v (putJournaled c s) ≡ putJournaled c (written k w v s)
   unfolding written
@@ -59,19 +59,41 @@ module _ (c : ℕ) (l : List ℕ) (m : Machine) where
       by-port true v D = with-both (onState (after v) (reads (putO (N8 w) (Ra w m) m))) (written-held k w v _) (ap (λ (es : List ℕ). l ++ es) (sym (drop-append-seam (m .L) _)))
       by-port false v D = with-both (onState (after v) (reads (putD D m))) (written-held k w v _) (sym (ap (λ (es : List ℕ). l ++ es) (drop-length (m .L)) ∙ append-nil l))
 
+  -- where only the register state changes
+  with-state : (f : State → State) → f (putJournaled c (m .state)) ≡ putJournaled c (f (m .state)) → onState f before ≡ onward c l m (onState f m)
+  with-state f e = with-both (onState f m) e (sym (ap (λ (es : List ℕ). l ++ es) (drop-length (m .L)) ∙ append-nil l))
+
+  interrupted-held : (k w : ℕ) → interrupted k w before ≡ onward c l m (interrupted k w m)
+  unfolding interrupted
+  interrupted-held k w =
+      with-state (λ s. count (let on = putPC (add (s .pc) 2) s in getD (interruptRules (written k w) on) (f-of w) on))
+      (ap count (by-f (putPC (add (PC m) 2) (m .state))))
+    where
+      by-f : (s : State) → getD (interruptRules (written k w) (putJournaled c s)) (f-of w) (putJournaled c s) ≡ putJournaled c (getD (interruptRules (written k w) s) (f-of w) s)
+      by-f s =
+          let t = putJournaled c s in
+          ap (λ x. getD (ei t ∷ di t ∷ reti t ∷ x ∷ []) (f-of w) t) (written-held k w (s .line) s)
+          ∙ List·getD-map (putJournaled c) (interruptRules (written k w) s) (f-of w) s
+
   control-held : (words : List ℕ) → byControl words .steps before ≡ onwardNext c l m (byControl words .steps m)
   unfolding controlStep fetched
   control-held words =
       let w = fetched m in
       let k = controlIn words w in
-      by-tests k w (assigned k w) (zeroDivisor k w (Rb w m))
+      by-line (takesLine (m .state)) _ _ (by-tests k w (byInterrupt k) (interruptAssigned k w) (assigned k w) (zeroDivisor k w (Rb w m)))
     where
-      by-tests : (k w : ℕ) (t z : Bool)
-          → pick t (pick z (cannot 3) (to (performed k w before))) (cannot 1)
-          ≡ onwardNext c l m (pick t (pick z (cannot 3) (to (performed k w m))) (cannot 1))
-      by-tests k w true true = refl
-      by-tests k w true false = ap to (performed-held k w)
-      by-tests k w false z = refl
+      by-tests : (k w : ℕ) (i f t z : Bool)
+          → pick i (pick f (to (interrupted k w before)) (cannot 1)) (pick t (pick z (cannot 3) (to (performed k w before))) (cannot 1))
+          ≡ onwardNext c l m (pick i (pick f (to (interrupted k w m)) (cannot 1)) (pick t (pick z (cannot 3) (to (performed k w m))) (cannot 1)))
+      by-tests k w true true t z = ap to (interrupted-held k w)
+      by-tests k w true false t z = refl
+      by-tests k w false f true true = refl
+      by-tests k w false f true false = ap to (performed-held k w)
+      by-tests k w false f false z = refl
+
+      by-line : (t : Bool) (x y : Next) → x ≡ onwardNext c l m y → pick t (taking before) x ≡ onwardNext c l m (pick t (taking m) y)
+      by-line true x y e = ap to (with-state (λ s. count (lineTaken s)) refl)
+      by-line false x y e = e
 
   pub step-held : {x : Machine} → step m ≡ to x → step before ≡ to (onward c l m x)
   step-held e =
@@ -79,7 +101,7 @@ module _ (c : ℕ) (l : List ℕ) (m : Machine) where
 
 -- ---- An entry: of the inputs it holds what a read of the key takes
 
-pub entry-held : (c : ℕ) (L : List ℕ) (m : Machine) → entryOf (heldAs c (m .I) L m) ≡ entryOf m
+pub entry-held : (c : ℕ) (L : List ℕ) (m : Machine) → entryOf (heldAs c (m .state .pending) (m .I) L m) ≡ entryOf m
 unfolding entryOf overwritten fetched
 entry-held c L m = refl
 
@@ -96,3 +118,5 @@ undo-counted x c m = ap (onState (λ s. putPC (pcIn x) (putN (s .n - 1) s))) (go
     go (data-byte k v) = refl
     go (output-word k v) = refl
     go (key-read k v s) = refl
+    go (enable-flag v) = refl
+    go (line-taken k e j v) = refl

@@ -11,8 +11,8 @@ use lib.Dec.{leb}
 use lib.ListN.{length}
 use Rattle.word.specs.Word.{flag}
 use Rattle.machine.specs.Machine.{Machine}
-use Rattle.machine.specs.Step.{Next, cannot, to, step, fetched}
-use Rattle.machine.specs.Run.{byRules, isOut, noPlace, runFrom, traceFrom}
+use Rattle.machine.specs.Step.{Next, cannot, to, step}
+use Rattle.machine.specs.Run.{byRules, isOut, fetchesA, noPlace, runFrom, traceFrom}
 use Rattle.machine.proofs.Runs.{run-none, run-cannot, run-full, run-on, trace-none, trace-cannot, trace-full, trace-on}
 use Rattle.journal.proofs.Undone.{step-keeps, step-grows}
 use Rattle.control.proofs.Laws.{lawful-rules}
@@ -36,7 +36,7 @@ walked (then {m} {next} e w) =
     let z = walked w in
     record {
       n-is = omega (arith, z .n-is, lawful-rules .counts m next e);
-      same-count = z .same-count ∙ step-keeps m next e .journaled;
+      same-count = z .same-count ∙ ap (λ x. x .0) (step-keeps m next e .leaves);
       sound = λ s. z .sound (step-sound e s);
       grows = omega (arith, z .grows, lawful-rules .grows m next e);
     }
@@ -45,7 +45,7 @@ walked (then {m} {next} e w) =
 
 leaves-place : (full : ℕ) (m next : Machine) → step m ≡ to next → noPlace byRules full m ≡ false → length (m .L) ≤ full → length (next .L) ≤ full
 unfolding noPlace
-leaves-place full m next e f h = go (isOut (fetched m)) f (step-grows m next e)
+leaves-place full m next e f h = go (fetchesA isOut m) f (step-grows m next e)
   where
     go : (t : Bool) → (t && leb full (length (m .L))) ≡ false → length (next .L) ≡ length (m .L) + flag t → length (next .L) ≤ full
     go true f g = omega (arith, leb-false full (length (m .L)) f)
@@ -53,7 +53,7 @@ leaves-place full m next e f h = go (isOut (fetched m)) f (step-grows m next e)
 
 has-place : (full : ℕ) (m next : Machine) → step m ≡ to next → length (next .L) ≤ full → noPlace byRules full m ≡ false
 unfolding noPlace
-has-place full m next e h = go (isOut (fetched m)) (step-grows m next e)
+has-place full m next e h = go (fetchesA isOut m) (step-grows m next e)
   where
     go : (t : Bool) → length (next .L) ≡ length (m .L) + flag t → (t && leb full (length (m .L))) ≡ false
     go true g = lt-leb full (length (m .L)) (omega arith)

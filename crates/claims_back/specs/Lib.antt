@@ -1,3 +1,4 @@
 pub mod History
+pub mod Lines
 pub mod Longer
 pub mod StepBack

@@ -45,6 +45,7 @@ startOf {budget} {log} h r = machineAt (givenTo h (lentOnly budget log))
 -- no count is larger
 pub record NoMore (u v : Usage) : Type 0 where
   pub kinds : (k : ℕ) → getD (u .kinds) k 0 ≤ getD (v .kinds) k 0
+  pub taken : u .taken ≤ v .taken
   pub reads : (k : ℕ) → getD (u .reads) k 0 ≤ getD (v .reads) k 0
   pub writes : (k : ℕ) → getD (u .writes) k 0 ≤ getD (v .writes) k 0
 

@@ -1,7 +1,7 @@
--- The marked cases: the words of a to g and of the key by computing them, the instructions of h to l through the sheet's rules.
+-- The marked cases: the words of a to g, of the key and of the interrupts by computing them, the instructions of h to l through the sheet's rules.
 -- Assumes nothing.
 use mathlib.Core.Path.{_≡_, refl, _∙_, ap, ap₂}
-use mathlib.Core.Bool.{Bool, true, false}
+use mathlib.Core.Bool.{Bool, true, false, not, _&&_}
 use mathlib.Core.List.{List}
 use Prim.Native.Nat.{ℕ, _+_, _/_, _%_, _<_}
 use native.Mathlib.Omega.{arith}
@@ -19,23 +19,22 @@ use Rattle.kinds.specs.declared.Kind.the-variants.{Sha, Shl, Cmplt, Cmpltu, Ldb
 use Rattle.isa.specs.declared.Instruction.{Instruction}
 use Rattle.isa.specs.Sheet.{kindAt, sheetLine}
 use Rattle.isa.specs.Instructions.{readOf, writeOf}
-use Rattle.machine.specs.Machine.{Machine, count, onState, readFrom, wordAt, putWord}
-use Rattle.machine.specs.Step.{PC, write, jump, Rule, fetched, addi, ld, st, jalr, bnz, movi, movhi, input, rule, choice, cannot, to, stepBy, step}
+use Rattle.machine.specs.Machine.{Machine, count, withoutLine, lowestFrom, lowestLine, onState, readFrom, wordAt, putWord}
+use Rattle.machine.specs.Step.{PC, write, jump, Rule, fetched, addi, ld, st, jalr, bnz, movi, movhi, input, interrupt, rule, choice, cannot, to, stepBy}
 use Rattle.claims_words.specs.Instructions.{RegisterRange, InRange}
 use Rattle.claims_sheet.specs.Rules.{r, SE-n, done, effect, stepAs}
 use Rattle.claims_sheet.specs.Marked.{registers, Steps, Does, Gives, Marked}
 use Rattle.claims_words.proofs.Instructions.{instructions}
-use Rattle.claims_sheet.proofs.Rules.{rules}
+use Rattle.claims_sheet.proofs.Rules.{fetching-step, taking-step, rules}
 
 -- a step by the rule of a known word
 by-word : (w : ℕ) (s : Rule) (m : Machine) {Q : Machine → Type 0} → choice w ≡ rule s
     → (length (m .state .r) ≡ 8 → Q (onState count (s w (jump (add (PC m) 2) m)))) → Steps w m Q
-unfolding step
-by-word w s m e q l h = (_, ap (λ w. stepBy (choice w) w m) h ∙ ap (λ x. stepBy x w m) e, q l)
+by-word w s m e q l n h = (_, fetching-step m w n h ∙ ap (λ x. stepBy x w m) e, q l)
 
 -- a step by an instruction
 by-sheet : (i : Instruction) (m : Machine) {next : Machine} {Q : Machine → Type 0} → stepAs i m ≡ to next → (InRange i → length (m .state .r) ≡ 8 → Q next) → Does i m Q
-by-sheet i m {next} s q w e l h = (next, rules .written i w e m h ∙ s, q (instructions .written i .1 (w, e)) l)
+by-sheet i m {next} s q w e l n h = (next, rules .written i w e m n h ∙ s, q (instructions .written i .1 (w, e)) l)
 
 -- what was written in a register stands there
 there : (rs : List ℕ) (k : ℕ) {v u : ℕ} → length rs ≡ 8 → k < 8 → v ≡ u → getD (set rs k v) k 0 ≡ u
@@ -65,7 +64,7 @@ stored D v l =
     rw (low, high) (omega arith)
 
 pub marked : Marked
-unfolding readOf writeOf kindAt signed lowBits SE shifted choice fetched addi ld st jalr bnz movi movhi input
+unfolding readOf writeOf kindAt signed lowBits SE shifted choice fetched addi ld st jalr bnz movi movhi input interrupt lowestFrom
 marked =
     record {
       a = (refl, refl);
@@ -95,4 +94,8 @@ marked =
             λ t. by-word 0x4280 st m refl (λ e. rw (t, p, q, s) (stored (m .D) v l)),
             λ t. by-word 0x4280 st m refl (λ e. rw (t, p)),
           );
+      interrupts = ((refl, refl), (refl, refl), (refl, refl), (refl, refl));
+      reti = λ m p. by-word 0xC002 interrupt m refl (λ l. (p, refl));
+      getiid = λ m p. by-word 0xC01B interrupt m refl (λ l. there (m .state .r) 3 l (omega arith) p);
+      line-3 = λ m p e q. (_, taking-step m (ap₂ (λ e p. not (eqb e 0) && not (eqb p 0)) e q), refl, ap lowestLine q, p, ap (λ x. withoutLine (lowestLine x) x) q, refl);
     }

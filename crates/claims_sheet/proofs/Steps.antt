@@ -1,23 +1,23 @@
--- By the laws of control/proofs/Laws.antt, and the inputs by the control word of the word.
+-- By the laws of control/proofs/Laws.antt, and the inputs by the control word of the word; a line taken leaves them.
 -- Assumes nothing.
 use mathlib.Core.Path.{_≡_, sym, ap, _∙_}
-use mathlib.Core.Bool.{Bool, true, false}
+use mathlib.Core.Bool.{Bool, true, false, not, _&&_}
 use lib.ListN.{set}
 use Rattle.word.specs.Word.{pick}
 use Rattle.word.proofs.Tests.{clash}
-use Rattle.machine.specs.Machine.{Machine}
-use Rattle.machine.specs.Step.{Ra, Rb, cannot, to, fetched, step}
+use Rattle.machine.specs.Machine.{Machine, takesLine}
+use Rattle.machine.specs.Step.{Ra, Rb, cannot, to, fetched}
 use Rattle.journal.specs.Journal.{readsKey}
-use Rattle.control.specs.Control.{assigned, zeroDivisor}
 use Rattle.control.proofs.Laws.{lawful-rules}
 use Rattle.claims_sheet.specs.Steps.{StepLaws}
-use Rattle.claims_sheet.proofs.Touched.{control, inputs-left}
-use Rattle.claims_sheet.proofs.Masks.{done, step-is}
+use Rattle.claims_sheet.proofs.Rules.{afterTaking}
+use Rattle.claims_sheet.proofs.Touched.{is-assigned, by-zero, inputs-left}
+use Rattle.claims_sheet.proofs.Masks.{done, stepAt, step-is}
 
-inputs : (m next : Machine) → step m ≡ to next → next .I ≡ pick (readsKey (fetched m)) (set (m .I) 0 0) (m .I)
-inputs m next e =
-    let w = fetched m in
-    go (assigned (control w) w) (zeroDivisor (control w) w (Rb w m)) (sym (step-is m) ∙ e)
+-- where a line is taken, and where it is not
+inputs-at : (t : Bool) (m next : Machine) → stepAt t m ≡ to next → next .I ≡ pick (not t && readsKey (fetched m)) (set (m .I) 0 0) (m .I)
+inputs-at true m next e = let z : afterTaking m ≡ next = cc in ap (λ (x : Machine). x .I) (sym z)
+inputs-at false m next e = go (is-assigned (fetched m)) (by-zero (fetched m) (Rb (fetched m) m)) e
   where
     go : (t z : Bool) → pick t (pick z (cannot 3) (to (done (fetched m) m))) (cannot 1) ≡ to next → next .I ≡ pick (readsKey (fetched m)) (set (m .I) 0 0) (m .I)
     go true true e = clash (cc)
@@ -25,4 +25,9 @@ inputs m next e =
     go false z e = clash (cc)
 
 pub steps : StepLaws
-steps = record { counts = lawful-rules .counts; even = lawful-rules .even; inputs = inputs }
+steps =
+    record {
+      counts = lawful-rules .counts;
+      even = λ m next e p q. lawful-rules .even m next e (p, q);
+      inputs = λ m next e. inputs-at (takesLine (m .state)) m next (sym (step-is m) ∙ e);
+    }

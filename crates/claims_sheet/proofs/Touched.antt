@@ -2,7 +2,7 @@
 -- which antt computes for an unknown word, Ra, Rb and machine.
 -- Assumes nothing.
 use mathlib.Core.Path.{_≡_, refl, ap, _∙_}
-use mathlib.Core.Bool.{Bool, true, false, _&&_, _||_, or-true, Bool·beq}
+use mathlib.Core.Bool.{Bool, true, false, not, _&&_, _||_, or-true, Bool·beq}
 use mathlib.Core.List.{List, [], _∷_}
 use mathlib.Core.Option.{Option, none, some}
 use Prim.Native.Nat.{ℕ, _+_, _-_, _*_, _/_, _%_, _^_, _<_}
@@ -12,7 +12,7 @@ use lib.Bits.{bitOr, or-shr, or-mod}
 use lib.Dec.{T, eqb}
 use lib.ListN.{getD, set}
 use Rattle.word.specs.Fields.{bits, field, opcode, a-of, b-of, e-of, f-of, N8}
-use Rattle.word.specs.Word.{pick, operation, comparison}
+use Rattle.word.specs.Word.{pick, add, operation, comparison}
 use Rattle.muldiv.specs.Muldiv.{muldiv}
 use Rattle.word.proofs.Computed.{all, all-at}
 use Rattle.word.proofs.Tests.{never, same-test}
@@ -23,9 +23,9 @@ use Rattle.isa.specs.Masks.{Masks, inMask, masksAs, masksOf}
 use Rattle.isa.specs.Instructions.{Register, a-register, b-register, d-register}
 use Rattle.machine.specs.declared.State.{State}
 use Rattle.machine.specs.Machine.{Machine, putPC, count, onState, onInputs}
-use Rattle.machine.specs.Step.{PC, d5-3, d8-6, d11-9}
+use Rattle.machine.specs.Step.{PC, d5-3, d8-6, d11-9, among, interruptRules}
 use Rattle.journal.specs.Journal.{readsKey}
-use Rattle.control.specs.Control.{second, units, unitField, result, inputsAfter, next, storedData, stored, written, takes, assigned, divides, zeroDivisor, table as controls}
+use Rattle.control.specs.Control.{second, units, unitField, result, inputsAfter, next, byInterrupt, storedData, stored, written, takes, assigned, divides, zeroDivisor, interruptAssigned, table as controls}
 use Rattle.claims_sheet.specs.Masks.{saidToUse}
 use Rattle.usage.proofs.Functions.{table}
 use Rattle.claims_sheet.proofs.Rules.{table-of, at-word}
@@ -73,13 +73,23 @@ controlAt op e = getD controls (op * 2 + e) 0
 abbrev pub destinations : ℕ → List (Option ℕ)
 destinations w = none ∷ some (d5-3 w) ∷ some (d8-6 w) ∷ some (d11-9 w) ∷ []
 
--- the register that a control word writes
-abbrev pub destination : ℕ → ℕ → Option ℕ
-destination c w = getD (destinations w) (field (bits 1 0) c) none
+-- the register that bits 1..0 of a control word choose
+abbrev pub chosen : ℕ → ℕ → Option ℕ
+chosen c w = getD (destinations w) (field (bits 1 0) c) none
+
+-- with bit 15 (02, L12): EI, DI and RETI write none, GETIID that one
+abbrev pub chosen-by-f : ℕ → ℕ → ℕ → Option ℕ
+chosen-by-f c f w = getD (none ∷ none ∷ none ∷ chosen c w ∷ []) f none
+
+-- the register that a control word writes for this f
+abbrev pub destination : ℕ → ℕ → ℕ → Option ℕ
+destination c f w = pick (byInterrupt c) (chosen-by-f c f w) (chosen c w)
 
 -- a control word is assigned for this f
 abbrev taken : ℕ → ℕ → Bool
-taken c f = eqb (field (bits 14 14) c) 1 && takes (unitField c) f
+taken c f =
+    let bit-14 = eqb (field (bits 14 14) c) 1 in
+    pick (byInterrupt c) (bit-14 && among f (0 ∷ 1 ∷ 2 ∷ 3 ∷ [])) (bit-14 && takes (unitField c) f)
 
 -- what the masks go by
 abbrev said : Entry → Register → Bool
@@ -96,7 +106,7 @@ by-control op e f w =
     let c = controlAt op e in
     record {
       reads = bitOr (bitOr (mask-if (said k a-register) (a-of w)) (mask-if (said k b-register) (b-of w))) (mask-if (said k d-register) (a-of w));
-      writes = maskOf (pick (taken c f) (destination c w) none);
+      writes = maskOf (pick (taken c f) (destination c f w) none);
     }
 
 same-masks : table-of (λ op e f. masksAs (kindAt op e f)) ≡ table-of by-control
@@ -107,11 +117,23 @@ same-masks = refl
 abbrev pub ended : ℕ → ℕ → ℕ → ℕ → State → State
 ended c w v p s = written c w v (putPC p (count s))
 
--- what a control word does, of f and what stands in Ra and Rb
-unfoldable pub does : ℕ → ℕ → ℕ → ℕ → ℕ → Machine → Machine
-does c f w x y m =
-    let u = getD (units f x (second c w y)) (unitField c) 0 in
+-- the unit's result, of f and what stands in Ra and Rb
+abbrev pub unitOf : ℕ → ℕ → ℕ → ℕ → ℕ → ℕ
+unitOf c f w x y = getD (units f x (second c w y)) (unitField c) 0
+
+-- what a control word does by its fields
+unfoldable pub does-by-fields : ℕ → ℕ → ℕ → ℕ → ℕ → Machine → Machine
+does-by-fields c f w x y m =
+    let u = unitOf c f w x y in
     onState (ended c w (result c w u (PC m) (m .D) (m .I)) (next c w x (PC m))) (onInputs (inputsAfter c w) (stored c w x y u m))
+
+-- what one with bit 15 does, of f
+unfoldable pub does-by-f : ℕ → ℕ → ℕ → Machine → Machine
+does-by-f c f w m = onState (λ s. count (let on = putPC (add (s .pc) 2) s in getD (interruptRules (written c w) on) f on)) m
+
+-- what a control word does
+unfoldable pub does : ℕ → ℕ → ℕ → ℕ → ℕ → Machine → Machine
+does c f w x y m = pick (byInterrupt c) (does-by-f c f w m) (does-by-fields c f w x y m)
 
 -- Ra and Rb are used
 abbrev pub uses-x : Entry → Bool
@@ -125,7 +147,7 @@ unfoldable pub does-used : Entry → ℕ → ℕ → ℕ → ℕ → ℕ → Mac
 does-used k c f w x y m = does c f w (pick (uses-x k) x 0) (pick (uses-y k) y 0) m
 
 same-uses : table-of (λ op e f. does (controlAt op e) f) ≡ table-of (λ op e f. does-used (kindAt op e f) (controlAt op e) f)
-unfolding table does does-used kindAt second result inputsAfter next storedData stored written operation comparison muldiv
+unfolding table does does-by-f does-by-fields does-used kindAt second result inputsAfter next storedData stored written operation comparison muldiv
 same-uses = refl
 
 -- the inputs that it leaves
@@ -137,12 +159,12 @@ said-to-leave : ℕ → ℕ → ℕ → ℕ → ℕ → ℕ → Machine → List
 said-to-leave op e f w x y m = pick (eqb op 10 && eqb e 0 && eqb (N8 w) 1) (set (m .I) 0 0) (m .I)
 
 same-inputs : table-of leaves ≡ table-of said-to-leave
-unfolding table does leaves said-to-leave inputsAfter stored
+unfolding table does does-by-f does-by-fields leaves said-to-leave inputsAfter stored
 same-inputs = refl
 
--- whether the divisor is zero, of Rb; and the same, of 0 for it where it is not used
+-- whether the divisor is zero, of Rb (with bit 15 there is none); and the same, of 0 for it where it is not used
 zero-at : ℕ → ℕ → ℕ → ℕ → Bool
-zero-at c f w y = divides (unitField c) f && eqb (second c w y) 0
+zero-at c f w y = not (byInterrupt c) && (divides (unitField c) f && eqb (second c w y) 0)
 
 same-zeros : table-of (λ op e f. zero-at (controlAt op e) f) ≡ table-of (λ op e f w y. zero-at (controlAt op e) f w (pick (uses-y (kindAt op e f)) y 0))
 unfolding table zero-at kindAt second
@@ -189,9 +211,16 @@ module _ (w : ℕ) where
       ap (λ M. inMask (M .reads) (b-of w)) masks-at
       ∙ rw e (or-left (bitOr a b) (mask-if (said kind d-register) (a-of w)) (b-of w) (or-right a b (b-of w) (alone (b-of w) (omega arith))))
 
-  pub writes-is : assigned control w ≡ true → masksOf w .writes ≡ maskOf (destination control w)
-  unfolding by-control assigned
-  writes-is e = ap (λ M. M .writes) masks-at ∙ rw e
+  -- the word is assigned, and its divisor is zero
+  abbrev pub is-assigned : Bool
+  is-assigned = pick (byInterrupt control) (interruptAssigned control w) (assigned control w)
+
+  abbrev pub by-zero : ℕ → Bool
+  by-zero y = not (byInterrupt control) && zeroDivisor control w y
+
+  pub writes-is : is-assigned ≡ true → masksOf w .writes ≡ maskOf (destination control (f-of w) w)
+  unfolding by-control assigned interruptAssigned
+  writes-is e = ap (λ M. M .writes) masks-at ∙ ap (λ t. maskOf (pick t (destination control (f-of w) w) none)) e
 
   pub used : (x y : ℕ) (m : Machine) → does control (f-of w) w x y m ≡ does-used kind control (f-of w) w x y m
   used x y m = ap (λ g. g w x y m) (at-word _ _ same-uses w)
@@ -200,6 +229,6 @@ module _ (w : ℕ) where
   unfolding leaves said-to-leave
   inputs-left x y m = ap (λ g. g w x y m) (at-word _ _ same-inputs w)
 
-  pub zero-used : (y : ℕ) → zeroDivisor control w y ≡ zeroDivisor control w (pick (uses-y kind) y 0)
+  pub zero-used : (y : ℕ) → by-zero y ≡ by-zero (pick (uses-y kind) y 0)
   unfolding zeroDivisor zero-at
   zero-used y = ap (λ g. g w y) (at-word _ _ same-zeros w)

@@ -162,8 +162,9 @@ does k rs l t =
     let e : writeOf (example k) ≡ word (fetched (machine k rs)) = word-is _ _ (word-shown k) in
     record {
       sized = record { registers = l; P = rw zeros-length; D = rw zeros-length; I = rw zeros-length; O = rw zeros-length };
+      fetches = refl;
       its-word = e;
-      steps = rules .written (example k) _ e (machine k rs) refl ∙ reached-is (machine k rs) _ t;
+      steps = rules .written (example k) _ e (machine k rs) refl refl ∙ reached-is (machine k rs) _ t;
     }
 
 pub reads-needed : (k : Kind) (p : Register) → saidToUse k p ≡ true → (i : Instruction) × (i .kind ≡ k) × Uses i (registerPart i p)

@@ -1,4 +1,4 @@
--- The marked cases of 01, the one that 02 (L6) marks, a read of the key (02, L8), and a store over the instruction that follows (02, L11). What a row does not mention, other registers, memory, ports, is any.
+-- The marked cases of 01, the one that 02 (L6) marks, a read of the key (02, L8), a store over the instruction that follows (02, L11), and knob interrupts (02, L12). What a row does not mention, other registers, memory, ports, is any.
 use mathlib.Core.Path.{_≡_}
 use mathlib.Core.Bool.{true, false}
 use mathlib.Core.List.{List, _∷_}
@@ -6,12 +6,12 @@ use Prim.Native.Nat.{ℕ}
 use lib.IntN.{ℤ, pos}
 use lib.ListN.{length, getD}
 use Rattle.kinds.specs.declared.Kind.{Kind}
-use Rattle.kinds.specs.declared.Kind.the-variants.{Sha, Shl, Cmplt, Cmpltu, Cmpleu, Ldb, Bz, Div}
+use Rattle.kinds.specs.declared.Kind.the-variants.{Sha, Shl, Cmplt, Cmpltu, Cmpleu, Ldb, Bz, Div, Ei, Di, Reti, Getiid}
 use Rattle.isa.specs.declared.Instruction.{Instruction}
 use Rattle.isa.specs.Instructions.{instruction, readOf, word, writeOf}
 use Rattle.machine.specs.Machine.{Machine, isSingle, wordAt}
 use Rattle.machine.specs.Step.{PC, to, fetched, step}
-use Rattle.claims_sheet.specs.Rules.{r, address}
+use Rattle.claims_sheet.specs.Rules.{r, address, FetchesNow}
 
 -- an instruction with registers alone, in the order of the sheet's assembler: OP Rd, Ra, Rb
 abbrev pub registers : Kind → ℕ → ℕ → ℕ → Instruction
@@ -21,9 +21,9 @@ registers k d a b = record { kind = k; a = a; b = b; d = d; n = pos 0 }
 abbrev pub Is : Instruction → ℕ → Type 0
 Is i w = (writeOf i ≡ word w) × (readOf w ≡ instruction i)
 
--- m, which has eight registers and the word w at PC, steps to a machine of which Q holds
+-- m, which has eight registers, no line to take (02, L12) and the word w at PC, steps to a machine of which Q holds
 abbrev pub Steps : ℕ → Machine → (Machine → Type 0) → Type 0
-Steps w m Q = length (m .state .r) ≡ 8 → fetched m ≡ w → (next : Machine) × (step m ≡ to next) × Q next
+Steps w m Q = length (m .state .r) ≡ 8 → FetchesNow m → fetched m ≡ w → (next : Machine) × (step m ≡ to next) × Q next
 
 -- the same where w is the word written for i
 abbrev pub Does : Instruction → Machine → (Machine → Type 0) → Type 0
@@ -76,3 +76,21 @@ pub record Marked : Type 0 where
       (m : Machine) (v : ℕ) → PC m ≡ 0 → r m 1 ≡ 2 → r m 2 ≡ v → length (m .D) ≡ 65536
       → (isSingle (m .state) ≡ true → Steps 0x4280 m (λ next. fetched next ≡ v))
       × (isSingle (m .state) ≡ false → Steps 0x4280 m (λ next. fetched next ≡ wordAt (m .P) 2))
+  -- 02, L12: EI is 0xC000, DI 0xC001, RETI 0xC002 and GETIID R3 0xC01B.
+  pub interrupts : Is (registers Ei 0 0 0) 0xC000 × Is (registers Di 0 0 0) 0xC001 × Is (registers Reti 0 0 0) 0xC002 × Is (registers Getiid 3 0 0) 0xC01B
+  -- 0xC002 with return address 0x0124: PC 0x0124, enable 1.
+  pub reti :
+      (m : Machine) → m .state .«return_address» ≡ 0x0124
+      → Steps 0xC002 m (λ next. (PC next ≡ 0x0124) × (next .state .enabled ≡ 1))
+  -- 0xC01B with line number 5 gives R3 = 5.
+  pub getiid : (m : Machine) → m .state .line ≡ 5 → Steps 0xC01B m (λ next. r next 3 ≡ 5)
+  -- At PC 0x0042 with enable 1 and pending 0x28, lines 3 and 5, line 3 is taken: PC 0x0100, line number 3, return address 0x0042, pending 0x20, enable 0.
+  pub line-3 :
+      (m : Machine) → PC m ≡ 0x0042 → m .state .enabled ≡ 1 → m .state .pending ≡ 0x28
+      → (next : Machine)
+      × (step m ≡ to next)
+      × (PC next ≡ 0x0100)
+      × (next .state .line ≡ 3)
+      × (next .state .«return_address» ≡ 0x0042)
+      × (next .state .pending ≡ 0x20)
+      × (next .state .enabled ≡ 0)

@@ -1,6 +1,6 @@
 -- Which registers an instruction touches (02, L4): a step changes no register outside `writes`; machines alike but for registers
 -- outside `reads` step alike in all else, the written register and the inputs included; and neither mask is larger than it need be.
--- Masks are of registers alone: the input that IN sets to zero (02, L8) is in none.
+-- Masks are of registers alone: the input that IN sets to zero (02, L8) is in none. A machine that takes a line (02, L12) touches no register.
 use mathlib.Core.Bool.{Bool, true, false, not, _&&_, _||_}
 use mathlib.Core.Path.{_≡_}
 use mathlib.Core.List.{List, [], _∷_}
@@ -16,9 +16,10 @@ use Rattle.isa.specs.Sheet.{sheetLine}
 use Rattle.isa.specs.Instructions.{registerPart, Register, a-register, b-register, d-register, instruction, unassigned, readOf, word, writeOf}
 use Rattle.isa.specs.Masks.{Masks, inMask, readsDestination, masksOf}
 use Rattle.machine.specs.declared.State.{State}
-use Rattle.machine.specs.Machine.{Machine, R, putR, onState}
+use Rattle.machine.specs.Machine.{Machine, R, putR, takesLine, onState}
 use Rattle.machine.specs.Step.{write, Next, cannot, to, fetched, step}
 use Rattle.usage.specs.Usage.{masksAt}
+use Rattle.claims_sheet.specs.Rules.{FetchesNow}
 
 -- ---- Machines alike but for registers outside a mask
 
@@ -49,6 +50,7 @@ pub record Sized (m : Machine) : Type 0 where
 -- m does the instruction i next, and steps to `next`
 pub record Does (i : Instruction) (m next : Machine) : Type 0 where
   pub sized : Sized m
+  pub fetches : FetchesNow m
   pub its-word : writeOf i ≡ word (fetched m)
   pub steps : step m ≡ to next
 
@@ -103,6 +105,8 @@ pub record MaskLaws : Type 0 where
   pub exact : (w : ℕ) (i : Instruction) → readOf w ≡ instruction i → (j : ℕ) → j < 8 → Exact (masksOf w) i j
   -- Unassigned words give 0 and 0.
   pub unassigned-none : (w : ℕ) → readOf w ≡ unassigned → masksOf w ≡ record { reads = 0; writes = 0 }
+  -- So does a machine that takes a line, whatever word stands at PC.
+  pub taking-none : (m : Machine) → takesLine (m .state) ≡ true → masksAt m ≡ record { reads = 0; writes = 0 }
   -- The masks are no larger than they need be: some instruction of each kind uses each of these registers, and writes Rd.
   pub reads-needed : (k : Kind) (p : Register) → saidToUse k p ≡ true → (i : Instruction) × (i .kind ≡ k) × Uses i (registerPart i p)
   pub writes-needed : (k : Kind) → has (sheetLine k .format .d) ≡ true → (i : Instruction) × (i .kind ≡ k) × Writes i (i .d)

@@ -1,7 +1,9 @@
--- Demand 2: every instruction does to registers, PC, memory and ports what the sheet says. Here each of the 30 kinds has
+-- Demand 2: every instruction does to registers, PC, memory and ports what the sheet says. Here each of the 34 kinds has
 -- its own line, over the instruction's parts, in the sheet's pseudo-C; the plain machine goes by opcode, e and f.
 use mathlib.Core.Path.{_≡_}
-use Prim.Native.Nat.{ℕ, _+_, _-_, _*_, _%_}
+use mathlib.Core.Bool.{false}
+use mathlib.Core.Logic.{_⊎_, _↔_}
+use Prim.Native.Nat.{ℕ, _+_, _-_, _*_, _%_, _<_}
 use lib.Bits.{bitAnd, bitOr, bitXor}
 use lib.Dec.{eqb, ltb, leb}
 use lib.IntN.{ℤ, natAbs}
@@ -10,10 +12,10 @@ use lib.Signed.{ltZ, leZ}
 use Rattle.word.specs.Word.{pick, flag, add, subtract, clear0, signed, lowBits, sha, shl}
 use Rattle.muldiv.specs.Muldiv.{mul, mulh, mulhu, div, divu}
 use Rattle.kinds.specs.declared.Kind.{Kind}
-use Rattle.kinds.specs.declared.Kind.the-variants.{And, Or, Xor, Not, Add, Sub, Sha, Shl, Cmplt, Cmple, Cmpeq, Cmpltu, Cmpleu, Addi, Ld, St, Ldb, Stb, Jalr, Bz, Bnz, Movi, Movhi, In, Out, Mul, Mulh, Mulhu, Div, Divu}
+use Rattle.kinds.specs.declared.Kind.the-variants.{And, Or, Xor, Not, Add, Sub, Sha, Shl, Cmplt, Cmple, Cmpeq, Cmpltu, Cmpleu, Addi, Ld, St, Ldb, Stb, Jalr, Bz, Bnz, Movi, Movhi, In, Out, Mul, Mulh, Mulhu, Div, Divu, Ei, Di, Reti, Getiid}
 use Rattle.isa.specs.declared.Instruction.{Instruction}
 use Rattle.isa.specs.Instructions.{instruction, unassigned, readOf, word, writeOf}
-use Rattle.machine.specs.Machine.{Machine, R, count, onState, putD, readFrom, onInputs, putO, wordAt, putWord, putByte}
+use Rattle.machine.specs.Machine.{Machine, takesLine, bitOf, putEnabled, putPending, putTaken, putPC, putN, R, count, onState, putD, readFrom, onInputs, putO, wordAt, putWord, putByte}
 use Rattle.machine.specs.Step.{PC, write, jump, Next, cannot, to, fetched, step}
 
 -- the content of register k
@@ -95,15 +97,47 @@ effect Mulhu a b d n m = done (write d (mulhu (r m a) (r m b)) m)
 effect Div a b d n m = pick (eqb (r m b) 0) (cannot 3) (done (write d (div (r m a) (r m b)) m))
 -- DIVU Rd, Ra, Rb     if(Rb==0)stop 3 else Rd=Ra_u/Rb_u
 effect Divu a b d n m = pick (eqb (r m b) 0) (cannot 3) (done (write d (divu (r m a) (r m b)) m))
+-- EI                  enable=1
+effect Ei a b d n m = done (onState (putEnabled 1) m)
+-- DI                  enable=0
+effect Di a b d n m = done (onState (putEnabled 0) m)
+-- RETI                PC=return address; enable=1
+effect Reti a b d n m = done (jump (m .state .«return_address») (onState (putEnabled 1) m))
+-- GETIID Rd           Rd=line number
+effect Getiid a b d n m = done (write d (m .state .line) m)
 
 -- PC=PC+2, and what the instruction does
 abbrev pub stepAs : Instruction → Machine → Next
 stepAs i m = effect (i .kind) (i .a) (i .b) (i .d) (i .n) (jump (add (PC m) 2) m)
 
+-- the machine fetches: it has no line to take (02, L12)
+abbrev pub FetchesNow : Machine → Type 0
+FetchesNow m = takesLine (m .state) ≡ false
+
+-- Line k is the lowest that is pending.
+pub record LowestLine (pending k : ℕ) : Type 0 where
+  pub one-of-eight : k < 8
+  pub pends : bitOf k pending ≡ 1
+  pub none-below : (j : ℕ) → j < k → bitOf j pending ≡ 0
+
+-- It is taken: its bit clears, its number and PC are kept, PC becomes 0x0100, enable clears. Taking counts as one step, and nothing else changes.
+pub record TakesLine (m : Machine) (k : ℕ) (next : Machine) : Type 0 where
+  pub clears : bitOf k (next .state .pending) ≡ 0
+  pub others : (j : ℕ) → j < 8 → (j ≡ k → ⊥) → bitOf j (next .state .pending) ≡ bitOf j (m .state .pending)
+  pub rest :
+      next
+      ≡ onState (λ s. putPC 0x0100 (putN (s .n + 1) (putEnabled 0 (putPending (next .state .pending) (putTaken k (PC m) s))))) m
+
 pub record Rules : Type 0 where
-  -- Where the word at PC reads as i, whatever its ignored bits, the machine's step is i's.
-  pub read : (i : Instruction) (w : ℕ) → readOf w ≡ instruction i → (m : Machine) → fetched m ≡ w → step m ≡ stepAs i m
+  -- Where the machine fetches and the word at PC reads as i, whatever its ignored bits, its step is i's.
+  pub read : (i : Instruction) (w : ℕ) → readOf w ≡ instruction i → (m : Machine) → FetchesNow m → fetched m ≡ w → step m ≡ stepAs i m
   -- So it is where that word is the one that is written for i.
-  pub written : (i : Instruction) (w : ℕ) → writeOf i ≡ word w → (m : Machine) → fetched m ≡ w → step m ≡ stepAs i m
+  pub written : (i : Instruction) (w : ℕ) → writeOf i ≡ word w → (m : Machine) → FetchesNow m → fetched m ≡ w → step m ≡ stepAs i m
   -- A word that reads as unassigned is one where the machine can't step.
-  pub unassigned-stops : (w : ℕ) → readOf w ≡ unassigned → (m : Machine) → fetched m ≡ w → step m ≡ cannot 1
+  pub unassigned-stops : (w : ℕ) → readOf w ≡ unassigned → (m : Machine) → FetchesNow m → fetched m ≡ w → step m ≡ cannot 1
+  -- Before the fetch, if enabled and a bit is set, the lowest line is taken (02, L12), whatever word stands at PC.
+  pub taking :
+      (m : Machine) (k : ℕ) → m .state .pending < 256 → (m .state .enabled ≡ 0 → ⊥) → LowestLine (m .state .pending) k
+      → (next : Machine) × (step m ≡ to next) × TakesLine m k next
+  -- The machine fetches exactly where enable is off or no bit is set.
+  pub fetching : (m : Machine) → FetchesNow m ↔ ((m .state .enabled ≡ 0) ⊎ (m .state .pending ≡ 0))

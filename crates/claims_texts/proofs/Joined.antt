@@ -134,7 +134,7 @@ unfolding joins goesOn
 parted b s r m [] = refl
 parted b s r m (c ∷ t) = rw (r, m)
 
-space-parted : (s : List ℕ) → Parted (32 ∷ s)
+pub space-parted : (s : List ℕ) → Parted (32 ∷ s)
 unfolding isLetterOrDigit isDigit isLetter between
 space-parted s = parted 32 s refl refl
 

@@ -3,7 +3,7 @@
 use Prim.Native.Nat.{ℕ, _+_, _*_, _<_}
 use mathlib.Core.Bool.{Bool, true, false}
 use mathlib.Core.Path.{_≡_, refl}
-use mathlib.Core.List.{List, [], _∷_, _++_, append-assoc}
+use mathlib.Core.List.{List, [], _∷_, _++_}
 use native.Mathlib.Omega.{arith}
 use lib.Dec.{T, eqb, eqb→eq}
 use lib.ListN.{length}
@@ -19,8 +19,8 @@ use Rattle.token.specs.Tokens.{Token, between, isDigit, isLetter, isLetterOrDig
 use Rattle.expression.specs.Operands.{registerOf}
 use Rattle.expression.specs.Grammar.{Tree}
 use Rattle.statement.specs.Syntax.{Item, register, punctuation, N, Parts, blank, put, putN, Written, end, a-register-there, punctuation-there, a-value-there}
-use Rattle.listing.specs.Listing.{registerText, operandText, rowFor, itemsText, instructionText}
-use Rattle.claims_texts.proofs.Joined.{row-test, word-test, plain, dividing, Parted, mark-parted, Text, wider, nothing-there, word-before, mark-before, space-before, spaced-before}
+use Rattle.listing.specs.Listing.{registerText, operandText, rowFor, itemsText, operandsText, instructionText}
+use Rattle.claims_texts.proofs.Joined.{row-test, word-test, plain, dividing, Parted, mark-parted, Text, wider, nothing-there, word-before, mark-before, space-before, space-parted}
 use Rattle.claims_texts.proofs.Operands.{Means, valueIn, operand-means, Stands, operand-stands}
 use Rattle.claims_texts.proofs.Rows.{is-same, names, numbered, marked, laid, itemsOf, fieldOf, mnemonic-plain, items-laid, few-items, small, absent, near, blank-number}
 
@@ -175,6 +175,13 @@ module _ (address : ℕ) (i : Instruction) (e : fits (sheetLine (i .kind)) i ≡
       let (h, m) = both-split (marked is) _ l in
       wider (omega arith) (means .before (items-parted is h m) (items-text is m))
 
+  -- after a space, if there are any
+  operands-text : (is : List Item) → T (laid is)
+      → Text (40 * length is + 1) (operandsText address i (fieldOf k) is) (itemsTokens is) × Parted (operandsText address i (fieldOf k) is)
+  unfolding itemsTokens
+  operands-text [] l = (wider (omega arith) nothing-there, λ t. tt)
+  operands-text (x ∷ is) l = (space-before (items-text (x ∷ is) l), space-parted (textOf (x ∷ is)))
+
   pub tokensOf : List Token
   tokensOf = itemsTokens (itemsOf k)
 
@@ -185,6 +192,5 @@ module _ (address : ℕ) (i : Instruction) (e : fits (sheetLine (i .kind)) i ≡
   pub text : Text 300 (instructionText address i) (rowFor i .mnemonic ∷ tokensOf)
   unfolding instructionText tokensOf
   text =
-      rw (append-assoc (rowFor i .mnemonic) (ascii " ") (textOf (itemsOf k)))
-      (wider (omega (arith, few-items k))
-      (spaced-before (rowFor i .mnemonic) (mnemonic-plain k) (items-text (itemsOf k) (items-laid k))))
+      let (x, p) = operands-text (itemsOf k) (items-laid k) in
+      wider (omega (arith, few-items k)) (word-before (rowFor i .mnemonic) (mnemonic-plain k) p x)

@@ -9,7 +9,7 @@
 --   statement = three R "," R "," R | two R "," R | "ADDI" R "," R "," value
 --             | ( "LD" | "LDB" ) R "," value "(" R ")" | ( "ST" | "STB" ) value "(" R ")" "," R
 --             | ( "BZ" | "BNZ" | "MOVI" | "MOVHI" | "IN" ) R "," value
---             | "OUT" value "," R | ".word" value
+--             | "OUT" value "," R | ".word" value | "EI" | "DI" | "RETI" | "GETIID" R
 --   three     = "AND" | "OR" | "XOR" | "ADD" | "SUB" | "SHA" | "SHL"
 --             | "CMPLT" | "CMPLE" | "CMPEQ" | "CMPLTU" | "CMPLEU"
 --             | "MUL" | "MULH" | "MULHU" | "DIV" | "DIVU"

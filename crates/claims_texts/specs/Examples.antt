@@ -59,6 +59,10 @@ sheetRows =
     ∷ row "MULHU R3, R4, R5" 0xB95A  -- 1011 100 101 011 010
     ∷ row "DIV R4, R5, R6" 0xBBA4  -- 1011 101 110 100 100
     ∷ row "DIVU R5, R6, R7" 0xBDED  -- 1011 110 111 101 101
+    ∷ row "EI" 0xC000  -- 1100 000 000 000 000
+    ∷ row "DI" 0xC001  -- 1100 000 000 000 001
+    ∷ row "RETI" 0xC002  -- 1100 000 000 000 010
+    ∷ row "GETIID R3" 0xC01B  -- 1100 000 000 011 011
     ∷ row ".word 0xF000" 0xF000  -- 1111 0000 0000 0000, unassigned
     ∷ []
 

@@ -22,7 +22,7 @@ is-empty (Assigned k) = false
 
 -- the statement, as a test of opcode and f
 listed : ℕ → ℕ → Bool
-listed op f = (eqb op 1 && (eqb f 2 || (eqb f 6 || eqb f 7))) || ((eqb op 11 && (eqb f 3 || (eqb f 6 || eqb f 7))) || leb 12 op)
+listed op f = (eqb op 1 && (eqb f 2 || (eqb f 6 || eqb f 7))) || ((eqb op 11 && (eqb f 3 || (eqb f 6 || eqb f 7))) || ((eqb op 12 && leb 4 f) || leb 13 op))
 
 test : ℕ → ℕ → ℕ → Bool
 test op e f = Bool·beq (is-empty (kindAt op e f)) (listed op f)
@@ -41,7 +41,9 @@ agrees w h =
 
 says : (w : ℕ) → Decides (listed (opcode w) (f-of w)) (Unassigned w)
 unfolding listed
-says w = decides-or (gap 1 2) (decides-or (gap 11 3) (decides-le 12 (opcode w)))
+says w =
+    decides-or (gap 1 2)
+    (decides-or (gap 11 3) (decides-or (decides-and (decides-eq (opcode w) 12) (decides-le 4 (f-of w))) (decides-le 13 (opcode w))))
   where
     -- the opcode op has no kind at f, 6 and 7
     gap : (op f : ℕ) → Decides (eqb (opcode w) op && (eqb (f-of w) f || (eqb (f-of w) 6 || eqb (f-of w) 7))) ((opcode w ≡ op) × ((f-of w ≡ f) ⊎ (f-of w ≡ 6) ⊎ (f-of w ≡ 7)))

@@ -20,7 +20,7 @@ use Rattle.isa.specs.declared.Writing.the-variants.{Word, Refused}
 use Rattle.isa.specs.declared.rows.Entry.{Entry}
 use Rattle.isa.specs.declared.rows.Entry.the-variants.{Assigned}
 use Rattle.isa.specs.declared.layout.Form.{Form}
-use Rattle.isa.specs.declared.layout.Form.the-variants.{Abd, Axd, AdSigned, AbSigned, Adx, ASigned, AUnsigned, DSigned, DUnsigned}
+use Rattle.isa.specs.declared.layout.Form.the-variants.{Abd, Axd, AdSigned, AbSigned, Adx, ASigned, AUnsigned, DSigned, DUnsigned, Xxx, Xxd}
 use Rattle.isa.specs.declared.layout.Layout.{Layout}
 use Rattle.isa.specs.declared.parts.Low.{Low}
 use Rattle.isa.specs.declared.parts.Low.the-variants.{Nothing, Bits}
@@ -84,6 +84,8 @@ placed (ASigned v) g a b d x p q r s = omega arith
 placed (AUnsigned v) g a b d x p q r s = omega arith
 placed (DSigned v) g a b d x p q r s = omega arith
 placed (DUnsigned v) g a b d x p q r s = omega arith
+placed (Xxx v) g a b d x p q r s = omega arith
+placed (Xxd v) g a b d x p q r s = omega arith
 
 -- ---- What a written instruction has
 

@@ -1,4 +1,4 @@
--- Demand 2, reading and writing: every 16-bit word reads as one of the 30 instructions or as unassigned, and each
+-- Demand 2, reading and writing: every 16-bit word reads as one of the 34 instructions or as unassigned, and each
 -- instruction is written as the sheet's word and reads back as itself.
 use mathlib.Core.Path.{_≡_}
 use mathlib.Core.Logic.{_⊎_, _↔_}
@@ -13,12 +13,13 @@ use Rattle.isa.specs.declared.Instruction.{Instruction}
 use Rattle.isa.specs.Sheet.{Number, signed-n, unsigned-n, Line, sheetLine}
 use Rattle.isa.specs.Instructions.{Read, instruction, unassigned, readOf, WriteReply, word, write-refused, placed, writeOf}
 
--- the unassigned words: opcode 1 with f = 2, 6 or 7, opcode 11 with f = 3, 6 or 7, and opcodes 12 to 15
+-- the unassigned words: opcode 1 with f = 2, 6 or 7, opcode 11 with f = 3, 6 or 7, opcode 12 with f = 4 to 7, and opcodes 13 to 15
 abbrev pub Unassigned : ℕ → Type 0
 Unassigned w =
     ((opcode w ≡ 1) × ((f-of w ≡ 2) ⊎ (f-of w ≡ 6) ⊎ (f-of w ≡ 7)))
     ⊎ ((opcode w ≡ 11) × ((f-of w ≡ 3) ⊎ (f-of w ≡ 6) ⊎ (f-of w ≡ 7)))
-    ⊎ (12 ≤ opcode w)
+    ⊎ ((opcode w ≡ 12) × (4 ≤ f-of w))
+    ⊎ (13 ≤ opcode w)
 
 -- a register is 0 to 7; an unused one is 0
 abbrev pub RegisterRange : Bits → ℕ → Type 0
@@ -36,14 +37,14 @@ pub record InRange (i : Instruction) : Type 0 where
   pub d : RegisterRange (sheetLine (i .kind) .format .d) (i .d)
   pub n : Range (sheetLine (i .kind) .number) (sheetLine (i .kind) .format .n) (i .n)
 
--- w with the bits cleared that reading ignores: NOT's bits 8..6, JALR's bits 5..0
+-- w with the bits cleared that reading ignores: NOT's bits 8..6, JALR's bits 5..0, bits 11..3 of EI, DI and RETI, GETIID's bits 11..6
 abbrev pub cleared : Kind → ℕ → ℕ
 cleared k w = w - placed (sheetLine k .format .ignored) (field (sheetLine k .format .ignored) w)
 
 pub record Instructions : Type 0 where
   -- Every 16-bit word reads as unassigned, just where it is,
   pub unassigned-words : (w : ℕ) → w < 65536 → (readOf w ≡ unassigned) ↔ Unassigned w
-  -- or as one of the 30 instructions, its parts in their ranges.
+  -- or as one of the 34 instructions, its parts in their ranges.
   pub assigned-words : (w : ℕ) → w < 65536 → (Unassigned w → ⊥) → (i : Instruction) × (readOf w ≡ instruction i) × InRange i
   -- Writing what was read returns the word with the ignored bits cleared.
   pub read-then-written : (w : ℕ) → w < 65536 → (i : Instruction) → readOf w ≡ instruction i → writeOf i ≡ word (cleared (i .kind) w)

@@ -6,7 +6,7 @@ use crate::journals::Journal;
 use crate::journals::change_of;
 use crate::journals::journal_places;
 use crate::journals::of_call;
-use crate::journals::run;
+use crate::journals::run_on;
 use machine::State;
 use player::lent::Log;
 use player::lent::Memory;
@@ -32,7 +32,7 @@ pub const GOING_BACK: Calls = Calls {
 };
 
 fn set(
-    port_bits: u16,
+    calls: Calls,
     c: u16,
     j: u16,
     kept: State,
@@ -42,7 +42,7 @@ fn set(
     outputs: &Ports,
     log: &Log,
 ) {
-    let port = of_call(c, j, 1) & port_bits;
+    let port = of_call(c, j, 1) & calls.port_bits;
     let value = of_call(c, j, 2);
     set_port(c, j, port, value, State::PORTS, inputs);
     print::left(kept, program, memory, inputs, outputs, log);
@@ -96,8 +96,8 @@ fn print_back(c: u16, j: u16, gone: SisaBack) {
     print::field(state.journaled);
 }
 
-// Going back. Answers the state that the host keeps.
-fn back(
+// Going back and its line. Answers what the call returned.
+pub fn back(
     c: u16,
     j: u16,
     kept: State,
@@ -107,10 +107,15 @@ fn back(
     outputs: &mut Ports,
     log: &Log,
     journal: &Journal,
-) -> State {
+) -> SisaBack {
     let gone = step_back(c, j, kept, program, memory, inputs, outputs, journal);
     print_back(c, j, gone);
     print::left(gone.state, program, memory, inputs, outputs, log);
+    gone
+}
+
+// The state that the host keeps after going back.
+pub fn kept_after_back(kept: State, gone: SisaBack) -> State {
     if gone.refusal == 0 { gone.state } else { kept }
 }
 
@@ -129,22 +134,15 @@ fn call(
 ) -> State {
     let choice = of_call(c, j, 0) % 8;
     if choice < calls.sets {
-        set(
-            calls.port_bits,
-            c,
-            j,
-            kept,
-            program,
-            memory,
-            inputs,
-            outputs,
-            log,
-        );
+        set(calls, c, j, kept, program, memory, inputs, outputs, log);
         return kept;
     }
     match choice {
-        6 | 7 => back(c, j, kept, program, memory, inputs, outputs, log, journal),
-        _ => run(
+        6 | 7 => {
+            let gone = back(c, j, kept, program, memory, inputs, outputs, log, journal);
+            kept_after_back(kept, gone)
+        }
+        _ => run_on(
             choice,
             c,
             j,
@@ -159,7 +157,7 @@ fn call(
     }
 }
 
-fn fill(journal: &mut Journal) {
+pub fn fill(journal: &mut Journal) {
     for i in 0..JOURNAL_PLACES {
         journal[i] = i as u64;
     }

@@ -18,17 +18,20 @@ type LargeFile = [u8; LARGE_BYTES];
 // The board that case c is loaded for.
 pub fn board_of(c: u16) -> u8 {
     match c {
-        80..=87 => 1,
+        80..=87 | 89 | 91 | 93 | 95 => 1,
         _ => 0,
     }
 }
 
 // The line of a state's board, which the cases of this section have.
 pub fn print_board(c: u16, state: State) {
-    if c >= 80 {
-        print::text(b"board");
-        print::field(c as u64);
-        print::last_field(state.board as u64);
+    match c {
+        80..=88 => {
+            print::text(b"board");
+            print::field(c as u64);
+            print::last_field(state.board as u64);
+        }
+        _ => {}
     }
 }
 

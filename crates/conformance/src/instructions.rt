@@ -58,7 +58,7 @@ pub fn read_and_write(c: u16, i: u16) {
     if read.assigned == 1 {
         print_written(write_changed(read, of_call(c, i, 2) % 8));
     } else {
-        let kind = (of_call(c, i, 3) % 32) as u8;
+        let kind = (of_call(c, i, 3) % 40) as u8;
         print_written(sisa::sisa_write(kind, 0, 0, 0, 0));
     }
 }

@@ -88,7 +88,7 @@ fn run_by(
     )
 }
 
-// The run. Answers the state that the host keeps.
+// The run and its line. Answers what the run returned.
 pub fn run(
     choice: u16,
     c: u16,
@@ -100,7 +100,7 @@ pub fn run(
     outputs: &mut Ports,
     log: &mut Log,
     journal: &mut Journal,
-) -> State {
+) -> SisaRun {
     let engine = engine_of(choice, change_of(c, j));
     let ran = run_by(
         engine,
@@ -118,5 +118,33 @@ pub fn run(
     runs::print_run(b"journal", engine, c, j, ran);
     print::field(state.journaled);
     print::left(state, program, memory, inputs, outputs, log);
+    ran
+}
+
+// The same. Answers the state that the host keeps.
+pub fn run_on(
+    choice: u16,
+    c: u16,
+    j: u16,
+    kept: State,
+    program: &Memory,
+    memory: &mut Memory,
+    inputs: &mut Ports,
+    outputs: &mut Ports,
+    log: &mut Log,
+    journal: &mut Journal,
+) -> State {
+    let ran = run(
+        choice,
+        c,
+        j,
+        kept,
+        program,
+        memory,
+        inputs,
+        outputs,
+        log,
+        journal,
+    );
     kept_after(kept, runs::reply_of(ran))
 }

@@ -9,6 +9,7 @@ mod host;
 mod instructions;
 mod journals;
 mod keys;
+mod knobs;
 mod printed;
 mod runs;
 mod saves;
@@ -49,4 +50,14 @@ fn main() {
         &mut outputs,
         &mut log,
     );
+    for c in 89..97 {
+        knobs::play(
+            c,
+            &mut program,
+            &mut memory,
+            &mut inputs,
+            &mut outputs,
+            &mut log,
+        );
+    }
 }

@@ -6,20 +6,21 @@ use player::print;
 use sheet::Sheet;
 use usage::Usage;
 
-fn digest_of(kinds: [u64; kinds::COUNT], reads: [u64; 8], writes: [u64; 8]) -> u32 {
-    places(places(places(0, &kinds), &reads), &writes)
+fn digest_of(kinds: [u64; kinds::COUNT], taken: u64, reads: [u64; 8], writes: [u64; 8]) -> u32 {
+    let taken = [taken];
+    places(places(places(places(0, &kinds), &taken), &reads), &writes)
 }
 
 pub fn usage_digest(usage: Usage) -> u32 {
     let kinds = usage.kinds;
     let reads = usage.reads;
     let writes = usage.writes;
-    digest_of(kinds, reads, writes)
+    digest_of(kinds, usage.taken, reads, writes)
 }
 
 // Count k, in the digest's order, of a sheet that is nearly full. (The remainder changes nothing.)
 fn large(c: u16, k: usize) -> u64 {
-    18446744073709551615 - (number(c, 600 + (k % 46) as u16) as u64)
+    18446744073709551615 - (number(c, 600 + (k % 51) as u16) as u64)
 }
 
 fn large_counts(c: u16) -> Sheet {
@@ -30,11 +31,12 @@ fn large_counts(c: u16) -> Sheet {
     let mut reads = [0; 8];
     let mut writes = [0; 8];
     for j in 0..8 {
-        reads[j] = large(c, 30 + j);
-        writes[j] = large(c, 38 + j);
+        reads[j] = large(c, 35 + j);
+        writes[j] = large(c, 43 + j);
     }
     Sheet {
         kinds,
+        taken: large(c, 34),
         reads,
         writes,
         runs: 0,
@@ -64,6 +66,6 @@ pub fn feed(c: u16, i: u16, sheet: Sheet, refusal: u8, usage: Usage) -> Sheet {
     let kinds = after.kinds;
     let reads = after.reads;
     let writes = after.writes;
-    print::last_field(digest_of(kinds, reads, writes) as u64);
+    print::last_field(digest_of(kinds, after.taken, reads, writes) as u64);
     after
 }

@@ -1,5 +1,6 @@
 // The runs by a table.
 use crate::tables;
+use crate::tables::INTERRUPTS;
 use crate::tables::Table;
 use machine::Board;
 use machine::State;
@@ -84,7 +85,11 @@ fn run(
     let request = request_of(c, i, kept, LATE, places);
     let reply = run_request(words, request, program, memory, inputs, outputs, log);
     print::text(b"run control");
-    finish(t, i, kept, reply, program, memory, inputs, outputs, log)
+    let kept = finish(t, i, kept, reply, program, memory, inputs, outputs, log);
+    if t >= INTERRUPTS {
+        print::lines(t, i, reply.state);
+    }
+    kept
 }
 
 fn run_all(
@@ -119,18 +124,39 @@ fn set_inputs(c: u16, inputs: &mut Ports) {
 }
 
 fn sort_of(t: u16) -> Sort {
-    if t < 128 { Sort::Any } else { Sort::LowPorts }
+    if t < 128 {
+        return Sort::Any;
+    }
+    if t < INTERRUPTS {
+        Sort::LowPorts
+    } else {
+        Sort::Enabling
+    }
+}
+
+fn start_of(t: u16, c: u16, loaded: State) -> State {
+    let mut state = loaded;
+    let r = registers(c);
+    state.r = r;
+    if t >= INTERRUPTS {
+        state.enabled = (number(c, 70) % 2) as u8;
+        state.pending = (number(c, 71) % 256) as u8;
+        state.line = (number(c, 72) % 256) as u8;
+        state.return_address = number(c, 73) / 2 * 2;
+    }
+    state
 }
 
 // The state that the runs start from.
 fn load(
-    sort: Sort,
+    t: u16,
     c: u16,
     program: &mut Memory,
     memory: &mut Memory,
     inputs: &mut Ports,
     outputs: &mut Ports,
 ) -> State {
+    let sort = sort_of(t);
     let length = file::length(sort, c, NO_DAMAGE) as usize;
     let file = file::make(sort, c, NO_DAMAGE);
     let loaded = image::load(
@@ -142,10 +168,7 @@ fn load(
         outputs,
     );
     set_inputs(c, inputs);
-    let mut state = loaded.state;
-    let r = registers(c);
-    state.r = r;
-    state
+    start_of(t, c, loaded.state)
 }
 
 // The runs by table t. (The remainder changes nothing.)
@@ -157,7 +180,7 @@ pub fn play(
     outputs: &mut Ports,
     log: &mut Log,
 ) {
-    let c = 1000 + t % 160;
-    let start = load(sort_of(t), c, program, memory, inputs, outputs);
+    let c = 1000 + t % 176;
+    let start = load(t, c, program, memory, inputs, outputs);
     run_all(t, c, start, program, memory, inputs, outputs, log);
 }

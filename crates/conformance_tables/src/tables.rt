@@ -3,6 +3,9 @@ use numbers::number;
 
 pub type Table = [u16; 32];
 
+// The first of the tables with knob interrupts.
+pub const INTERRUPTS: u16 = 160;
+
 // The paper's table with OUT's word at IN's place too.
 fn with_out_at_in() -> Table {
     let mut words = control::control_table();
@@ -36,12 +39,26 @@ fn random(c: u16, cleared: u16, set: u16) -> Table {
     words
 }
 
-// Words that say assigned, from table 128 on with the input as result.
+// Words that say assigned. In most of them bit 15, which leaves the choice to f, is cleared.
+fn some_by_f(c: u16) -> Table {
+    let mut words = random(c, 0, 16384);
+    for j in 0..32 {
+        if number(c, 140 + j as u16) % 4 != 0 {
+            words[j] = words[j] & 32767;
+        }
+    }
+    words
+}
+
+// Words that say assigned, from table 128 on with the input as result, from 160 on with few that leave the choice to f.
 fn assigned(t: u16, c: u16) -> Table {
     if t < 128 {
-        random(c, 0, 16384)
-    } else {
+        return random(c, 0, 16384);
+    }
+    if t < INTERRUPTS {
         random(c, 28, 16400)
+    } else {
+        some_by_f(c)
     }
 }
 

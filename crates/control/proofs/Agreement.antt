@@ -14,9 +14,9 @@ use Rattle.word.proofs.Computed.{all, all-at}
 use Rattle.word.proofs.Signed.{SE-is}
 use Rattle.word.proofs.Tests.{is-true}
 use Rattle.machine.specs.Machine.{Machine, R}
-use Rattle.machine.specs.Step.{PC, Ra, Rb, d11-9, write, jump, among, Rule, RuleRow, by-f, by-f-dividing, one, by-e, no-rule, ruleRows, Choice, rule, division, unassigned, ruleInRow, choice, Next, cannot, doing, stepBy, fetched, step, compute, compare, addi, ld, st, ldb, stb, jalr, bz, bnz, movi, movhi, input, output, multiplyDivide}
-use Rattle.machine.specs.Run.{isOut, byRules}
-use Rattle.control.specs.Control.{second, unit, result, inputsAfter, next, storedData, stored, written, performed, assigned, zeroDivisor, writesPort, controlStep, table, controlIn, controlOf, byTable}
+use Rattle.machine.specs.Step.{PC, Ra, Rb, d11-9, write, jump, among, Rule, RuleRow, by-f, by-f-dividing, one, by-e, no-rule, ruleRows, Choice, rule, division, unassigned, ruleInRow, choice, Next, cannot, doing, stepBy, stepWith, step, compute, compare, addi, ld, st, ldb, stb, jalr, bz, bnz, movi, movhi, input, output, multiplyDivide, interrupt, byRule}
+use Rattle.machine.specs.Run.{isOut, fetchesA, byRules}
+use Rattle.control.specs.Control.{interrupted, interruptAssigned, second, unit, result, inputsAfter, next, storedData, stored, written, performed, assigned, zeroDivisor, writesPort, controlStep, table, controlIn, controlOf, byTable}
 
 -- ---- A table of two columns: what is done, and whether a port is written
 
@@ -103,7 +103,7 @@ from g k [] = []
 from g k (x ∷ xs) = g (k / 2) (k % 2) ∷ from g (suc k) xs
 
 test : map by-control table ≡ from by-row 0 table
-unfolding by-control by-row compute compare addi ld st ldb stb jalr movi input output multiplyDivide controlStep performed assigned zeroDivisor second unit result inputsAfter next storedData stored written
+unfolding by-control by-row compute compare addi ld st ldb stb jalr movi input output multiplyDivide interrupt controlStep interrupted interruptAssigned performed assigned zeroDivisor second unit result inputsAfter next storedData stored written
 test = rw (bz-is, bnz-is, movhi-is)
 
 -- ---- The lemma: the test, read at the place of a word
@@ -138,4 +138,5 @@ agreement-port w = ap (λ (x : Columns). x .port) (at w)
 -- by the table is by the rules
 pub same-stepper : byTable ≡ byRules
 unfolding step
-same-stepper = λ i. record { steps = λ m. agreement (fetched m) m i; portWrite = λ m. agreement-port (fetched m) i }
+same-stepper =
+    λ i. record { steps = stepWith (λ w m. agreement w m i); portWrite = fetchesA (λ w. agreement-port w i) }

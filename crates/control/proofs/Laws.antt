@@ -1,33 +1,33 @@
--- What holds of a step by any control word: it adds 1 to n, keeps an even PC even, drops no entry of L, leaves the count of journal
+-- What holds of a step by any control word, and of a line taken before one: it adds 1 to n, keeps an even PC and an even return address even, drops no entry of L, leaves the count of journal
 -- entries and the board, keeps P and the lengths, and does not look at L. So it holds of a run by any table, and of the plain machine, whose steps are the
 -- table's.
 -- Assumes nothing.
-use mathlib.Core.Path.{_≡_, refl, ap, subst, _∙_}
+use mathlib.Core.Path.{_≡_, refl, sym, ap, subst, _∙_}
 use mathlib.Core.Bool.{Bool, true, false}
 use mathlib.Core.Logic.{_⊎_, inl, inr, ⊎-elim}
 use mathlib.Core.List.{List, [], _∷_, _++_, append-assoc}
 use Prim.Native.Nat.{ℕ, _+_, _*_, _%_, _≤_}
 use native.Mathlib.Omega.{arith}
 use lib.Dec.{eqb}
-use lib.ListN.{length, length-append, length-set}
-use Rattle.word.specs.Fields.{bits, field, N8}
+use lib.ListN.{length, getD, length-append, length-set}
+use Rattle.word.specs.Fields.{bits, field, f-of, N8}
 use Rattle.word.specs.Word.{pick, add, clear0, SE}
 use Rattle.word.proofs.Tables.{looked-up}
 use Rattle.word.proofs.Tests.{clash, either}
 use Rattle.machine.specs.declared.State.{State}
-use Rattle.machine.specs.Machine.{Machine, putR, putPC, count, onState, putD, onInputs, putO, putWord, putByte}
-use Rattle.machine.specs.Step.{PC, Ra, Rb, d5-3, d8-6, d11-9, fetched, Next, cannot, to}
+use Rattle.machine.specs.Machine.{Machine, takesLine, lineTaken, putR, putPC, count, onState, putD, onInputs, putO, putWord, putByte}
+use Rattle.machine.specs.Step.{PC, Ra, Rb, d5-3, d8-6, d11-9, interruptRules, fetched, Next, cannot, to, taking}
 use Rattle.machine.specs.Run.{Stepper, byRules}
 use Rattle.machine.proofs.Inputs.{read-length}
-use Rattle.machine.proofs.Runs.{unwritten, Lawful}
-use Rattle.control.specs.Control.{unit, result, inputsAfter, next, storeField, writesPort, storedData, stored, written, performed, assigned, zeroDivisor, controlStep, controlIn, byControl, table}
+use Rattle.machine.proofs.Runs.{unwritten, Even, Lawful}
+use Rattle.control.specs.Control.{byInterrupt, interruptAssigned, interrupted, unit, result, inputsAfter, next, storeField, writesPort, storedData, stored, written, performed, assigned, zeroDivisor, controlStep, controlIn, byControl, table}
 use Rattle.control.proofs.Agreement.{same-stepper}
 
 -- ---- The parts
 
 -- the destination's write keeps all but the registers
-abbrev apart : State → ℕ × (ℕ × (ℕ × ℕ))
-apart s = (s .pc, (s .n, unwritten s))
+abbrev apart : State → ℕ × (ℕ × (ℕ × (ℕ × (ℕ × ℕ))))
+apart s = (s .pc, (s .n, (s .«return_address», (s .pending, unwritten s))))
 
 written-keeps : (c w v : ℕ) (s : State) → apart (written c w v s) ≡ apart s
 unfolding written
@@ -90,7 +90,7 @@ store-shift c w x y u l m = go (writesPort c)
 
 record Keeps (m after : Machine) : Type 0 where
   counts : after .state .n ≡ m .state .n + 1
-  even : PC m % 2 ≡ 0 → PC after % 2 ≡ 0
+  even : Even (m .state) → Even (after .state)
   grows : length (m .L) ≤ length (after .L)
   leaves : unwritten (after .state) ≡ unwritten (m .state)
   lent : kept after ≡ kept m
@@ -107,11 +107,73 @@ step-keeps c w m =
     let r = written-keeps c w v (putPC p (count (st .state))) in
     record {
       counts = ap (λ z. z .1 .0) r ∙ ap (λ (t : State). t .n + 1) (s .state);
-      even = λ h. ap (λ z. z .0 % 2) r ∙ next-even c w x (PC m) h;
+      even = λ h. (ap (λ z. z .0 % 2) r ∙ next-even c w x (PC m) (h .0), ap (λ z. z .1 .1 .0 % 2) r ∙ ap (λ (t : State). t .«return_address» % 2) (s .state) ∙ h .1);
       grows = s .grows;
-      leaves = ap (λ z. z .1 .1) r ∙ ap unwritten (s .state);
+      leaves = ap (λ z. z .1 .1 .1 .1) r ∙ ap unwritten (s .state);
       lent = ap (λ k. (st .P, length (st .D), k, length (st .O))) (inputs-length c w (st .I)) ∙ s .lent;
     }
+
+-- a line taken
+taking-keeps : (m : Machine) → Keeps m (onState (λ s. count (lineTaken s)) m)
+taking-keeps m =
+    record { counts = refl; even = λ h. (refl, h .0); grows = omega arith; leaves = refl; lent = refl }
+
+-- what a choice by f keeps of a state
+record Stays (s t : State) : Type 0 where
+  n : t .n ≡ s .n
+  even : Even s → Even t
+  leaves : unwritten t ≡ unwritten s
+  lines : t .pending ≡ s .pending
+
+interrupt-stays : (c w : ℕ) (s : State) → Stays s (getD (interruptRules (written c w) s) (f-of w) s)
+interrupt-stays c w s =
+    let r = written-keeps c w (s .line) s in
+    let kept : Stays s s = record { n = refl; even = λ h. h; leaves = refl; lines = refl } in
+    looked-up (Stays s) (interruptRules (written c w) s) (
+      record { n = refl; even = λ h. h; leaves = refl; lines = refl },
+      (
+        record { n = refl; even = λ h. h; leaves = refl; lines = refl },
+        (
+          record { n = refl; even = λ h. (h .1, h .1); leaves = refl; lines = refl },
+          (
+            record {
+              n = ap (λ z. z .1 .0) r;
+              even = λ h. (ap (λ z. z .0 % 2) r ∙ h .0, ap (λ z. z .1 .1 .0 % 2) r ∙ h .1);
+              leaves = ap (λ z. z .1 .1 .1 .1) r;
+              lines = ap (λ z. z .1 .1 .1 .0) r;
+            },
+            tt,
+          ),
+        ),
+      ),
+    )
+    kept (f-of w)
+
+interrupt-keeps : (c w : ℕ) (m : Machine) → Keeps m (interrupted c w m)
+unfolding interrupted
+interrupt-keeps c w m =
+    let x = interrupt-stays c w (putPC (add (PC m) 2) (m .state)) in
+    record {
+      counts = ap (λ k. k + 1) (x .n);
+      even = λ h. x .even (added (PC m) 1 (h .0), h .1);
+      grows = omega arith;
+      leaves = x .leaves;
+      lent = refl;
+    }
+
+-- the lines that are pending, after a step by the fields and one by f
+step-lines : (c w : ℕ) (m : Machine) → performed c w m .state .pending ≡ m .state .pending
+unfolding performed
+step-lines c w m =
+    let x = Ra w m in
+    let u = unit c w x (Rb w m) in
+    let st = stored c w x (Rb w m) u m in
+    ap (λ z. z .1 .1 .1 .0) (written-keeps c w (result c w u (PC m) (m .D) (m .I)) (putPC (next c w x (PC m)) (count (st .state))))
+    ∙ ap (λ (t : State). t .pending) (store-keeps c w x (Rb w m) u m .state)
+
+interrupt-lines : (c w : ℕ) (m : Machine) → interrupted c w m .state .pending ≡ m .state .pending
+unfolding interrupted
+interrupt-lines c w m = interrupt-stays c w (putPC (add (PC m) 2) (m .state)) .lines
 
 step-shift : (c w : ℕ) (l : List ℕ) (m : Machine) → performed c w (shift l m) ≡ shift l (performed c w m)
 unfolding performed
@@ -144,24 +206,45 @@ abbrev done-at : List ℕ → Machine → Machine
 done-at words m = performed (word-at words m) (fetched m) m
 
 module _ (words : List ℕ) where
-  -- where it stepped, it did what the control word says
-  stepped : (m next : Machine) → byControl words .steps m ≡ to next → Keeps m next
+  -- where a word is fetched: bit 15 leaves the choice to f, or it is done by the fields, or it can't be done
+  fetched-ways : (m : Machine) (Q : Next → Type 0) → Q (to (interrupted (word-at words m) (fetched m) m)) → Q (to (done-at words m)) → Q (cannot 1) → Q (cannot 3)
+      → Q (controlStep (word-at words m) (fetched m) m)
   unfolding controlStep
-  stepped m next = by-tests (assigned (word-at words m) (fetched m)) (zero-at words m)
-    where
-      by-tests : (t z : Bool) → pick t (pick z (cannot 3) (to (done-at words m))) (cannot 1) ≡ to next → Keeps m next
-      by-tests true true e = clash (cc)
-      by-tests true false e = let z : done-at words m ≡ next = cc in subst (Keeps m) z (step-keeps (word-at words m) (fetched m) m)
-      by-tests false z e = clash (cc)
+  fetched-ways m Q by-f done none zero =
+      let c = word-at words m in
+      let w = fetched m in
+      either Q (byInterrupt c) (either Q (interruptAssigned c w) by-f none) (either Q (assigned c w) (either Q (zero-at words m) zero done) none)
+
+  -- or a line is taken
+  ways : (m : Machine) (Q : Next → Type 0) → Q (taking m) → Q (to (interrupted (word-at words m) (fetched m) m)) → Q (to (done-at words m)) → Q (cannot 1) → Q (cannot 3)
+      → Q (byControl words .steps m)
+  ways m Q taken by-f done none zero = either Q (takesLine (m .state)) taken (fetched-ways m Q by-f done none zero)
+
+  -- where it stepped, it did what the control word says
+  stepped : (m after : Machine) → byControl words .steps m ≡ to after → Keeps m after
+  stepped m after =
+      let led : (x : Machine) → Keeps m x → to x ≡ to after → Keeps m after = λ x k e. let z : x ≡ after = cc in subst (Keeps m) z k in
+      ways m (λ x. x ≡ to after → Keeps m after)
+      (led _ (taking-keeps m))
+      (led _ (interrupt-keeps (word-at words m) (fetched m) m))
+      (led _ (step-keeps (word-at words m) (fetched m) m))
+      (λ e. clash (cc))
+      (λ e. clash (cc))
+
+  -- a step of a word leaves the lines that are pending
+  lines-stay : (m after : Machine) → byControl words .steps m ≡ to after → takesLine (m .state) ≡ false → after .state .pending ≡ m .state .pending
+  lines-stay m after e t =
+      let led : (x : Machine) → x .state .pending ≡ m .state .pending → to x ≡ to after → after .state .pending ≡ m .state .pending = λ x k e. let z : x ≡ after = cc in ap (λ (y : Machine). y .state .pending) (sym z) ∙ k in
+      fetched-ways m (λ x. x ≡ to after → after .state .pending ≡ m .state .pending)
+      (led _ (interrupt-lines (word-at words m) (fetched m) m))
+      (led _ (step-lines (word-at words m) (fetched m) m))
+      (λ e. clash (cc))
+      (λ e. clash (cc))
+      (sym (ap (λ u. pick u (taking m) (controlStep (word-at words m) (fetched m) m)) t) ∙ e)
 
   pub cannot-control : (m : Machine) (q : ℕ) → byControl words .steps m ≡ cannot q → (q ≡ 1) ⊎ (q ≡ 3)
-  unfolding controlStep
-  cannot-control m q = by-tests (assigned (word-at words m) (fetched m)) (zero-at words m)
-    where
-      by-tests : (t z : Bool) → pick t (pick z (cannot 3) (to (done-at words m))) (cannot 1) ≡ cannot q → (q ≡ 1) ⊎ (q ≡ 3)
-      by-tests true true e = inr (cc)
-      by-tests true false e = clash (cc)
-      by-tests false z e = inl (cc)
+  cannot-control m q =
+      ways m (λ x. x ≡ cannot q → (q ≡ 1) ⊎ (q ≡ 3)) (λ e. clash (cc)) (λ e. clash (cc)) (λ e. clash (cc)) (λ e. inl (cc)) (λ e. inr (cc))
 
   pub lawful-control : Lawful (byControl words)
   lawful-control =
@@ -171,23 +254,28 @@ module _ (words : List ℕ) where
         even = λ m next e. stepped m next e .even;
         grows = λ m next e. stepped m next e .grows;
         leaves = λ m next e. stepped m next e .leaves;
+        lines = lines-stay;
       }
 
   local-control : Local (byControl words)
-  unfolding controlStep fetched
+  unfolding controlStep fetched interrupted
   local-control =
       record {
         keeps = λ m next e. stepped m next e .lent;
-        steps-shift = λ l m. by-tests l m (assigned (word-at words m) (fetched m)) (zero-at words m);
+        steps-shift = λ l m. let c = word-at words m in by-tests l m (takesLine (m .state)) (byInterrupt c) (interruptAssigned c (fetched m)) (assigned c (fetched m)) (zero-at words m);
         writes-shift = λ l m. refl;
       }
     where
-      by-tests : (l : List ℕ) (m : Machine) (t z : Bool)
-          → pick t (pick z (cannot 3) (to (performed (word-at words m) (fetched m) (shift l m)))) (cannot 1)
-          ≡ shiftNext l (pick t (pick z (cannot 3) (to (done-at words m))) (cannot 1))
-      by-tests l m true true = refl
-      by-tests l m true false = ap to (step-shift (word-at words m) (fetched m) l m)
-      by-tests l m false z = refl
+      by-tests : (l : List ℕ) (m : Machine) (t b i a z : Bool)
+          → pick t (taking (shift l m))
+          (pick b (pick i (to (interrupted (word-at words m) (fetched m) (shift l m))) (cannot 1)) (pick a (pick z (cannot 3) (to (performed (word-at words m) (fetched m) (shift l m)))) (cannot 1)))
+          ≡ shiftNext l (pick t (taking m) (pick b (pick i (to (interrupted (word-at words m) (fetched m) m)) (cannot 1)) (pick a (pick z (cannot 3) (to (done-at words m))) (cannot 1))))
+      by-tests l m true b i a z = refl
+      by-tests l m false true true a z = refl
+      by-tests l m false true false a z = refl
+      by-tests l m false false i true true = refl
+      by-tests l m false false i true false = ap to (step-shift (word-at words m) (fetched m) l m)
+      by-tests l m false false i false z = refl
 
 -- ---- The plain machine's
 

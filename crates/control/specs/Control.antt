@@ -4,7 +4,7 @@
 -- unit 5's value for an f that it does not take or a zero divisor; such a result reads no port. No word of the table has such a field, and
 -- no step looks at such a value of unit 5.
 use Prim.Native.Nat.{ℕ, _+_, _*_, _%_}
-use mathlib.Core.Bool.{Bool, true, false, _&&_}
+use mathlib.Core.Bool.{Bool, true, false, not, _&&_}
 use mathlib.Core.List.{List, [], _∷_}
 use lib.Dec.{eqb}
 use lib.ListN.{getD}
@@ -13,8 +13,8 @@ use Rattle.word.specs.Word.{pick, add, clear0, SE, operation, comparison}
 use Rattle.muldiv.specs.Muldiv.{muldiv}
 use Rattle.machine.specs.declared.State.{State}
 use Rattle.machine.specs.Machine.{Machine, putR, putPC, count, onState, putD, readFrom, onInputs, putO, wordAt, putWord, putByte}
-use Rattle.machine.specs.Step.{PC, Ra, Rb, d5-3, d8-6, d11-9, among, fetched, Next, cannot, to}
-use Rattle.machine.specs.Run.{Stepper}
+use Rattle.machine.specs.Step.{PC, Ra, Rb, d5-3, d8-6, d11-9, among, interruptRules, Next, cannot, to, stepWith}
+use Rattle.machine.specs.Run.{Stepper, fetchesA}
 
 -- ---- What the step computes, of Ra (x), Rb (y), the unit's result (u), PC, data and inputs
 
@@ -59,9 +59,13 @@ next c w x pc =
 abbrev pub storeField : ℕ → ℕ
 storeField c = field (bits 11 10) c
 
+-- Bit 15 (02, L12) leaves the choice to f; then the other fields but the destination are not looked at.
+abbrev pub byInterrupt : ℕ → Bool
+byInterrupt c = eqb (field (bits 15 15) c) 1
+
 -- 3: the step writes a port
 abbrev pub writesPort : ℕ → Bool
-writesPort c = eqb (storeField c) 3
+writesPort c = not (byInterrupt c) && eqb (storeField c) 3
 
 -- 0 to 2: the data after it
 unfoldable pub storedData : ℕ → ℕ → ℕ → List ℕ → List ℕ
@@ -100,8 +104,23 @@ divides u f = eqb u 5 && among f (4 ∷ 5 ∷ [])
 unfoldable pub zeroDivisor : ℕ → ℕ → ℕ → Bool
 zeroDivisor c w y = divides (unitField c) (f-of w) && eqb (second c w y) 0
 
+-- ---- Bit 15: f 0 to 3 is EI, DI, RETI, GETIID, the last with the destination that bits 1..0 choose; PC+2 comes first, and n grows by 1
+
+unfoldable pub interrupted : ℕ → ℕ → Machine → Machine
+interrupted c w m =
+    onState (λ s. count (let on = putPC (add (s .pc) 2) s in getD (interruptRules (written c w) on) (f-of w) on)) m
+
+-- Bit 14, and one of these f.
+unfoldable pub interruptAssigned : ℕ → ℕ → Bool
+interruptAssigned c w = eqb (field (bits 14 14) c) 1 && among (f-of w) (0 ∷ 1 ∷ 2 ∷ 3 ∷ [])
+
+-- ---- The step
+
 unfoldable pub controlStep : ℕ → ℕ → Machine → Next
-controlStep c w m = pick (assigned c w) (pick (zeroDivisor c w (Rb w m)) (cannot 3) (to (performed c w m))) (cannot 1)
+controlStep c w m =
+    pick (byInterrupt c)
+    (pick (interruptAssigned c w) (to (interrupted c w m)) (cannot 1))
+    (pick (assigned c w) (pick (zeroDivisor c w (Rb w m)) (cannot 3) (to (performed c w m))) (cannot 1))
 
 -- ---- The table: 32 words, at opcode times 2 plus e
 
@@ -124,8 +143,10 @@ table =
     ∷ 0x4013 ∷ 0x4C00
     -- 11, both e
     ∷ 0x40A1 ∷ 0x40A1
+    -- 12, both e
+    ∷ 0xC001 ∷ 0xC001
     -- the rest 0
-    ∷ 0 ∷ 0 ∷ 0 ∷ 0 ∷ 0 ∷ 0 ∷ 0 ∷ 0
+    ∷ 0 ∷ 0 ∷ 0 ∷ 0 ∷ 0 ∷ 0
     ∷ []
 
 -- the word of a table for an instruction word
@@ -135,13 +156,13 @@ controlIn words w = getD words (opcode w * 2 + e-of w) 0
 abbrev pub controlOf : ℕ → ℕ
 controlOf w = controlIn table w
 
--- ---- What a run by a table goes by: the table's word for the word fetched
+-- ---- What a run by a table goes by: the table's word for the word fetched, where no line is to be taken (02, L12)
 
 abbrev pub byControl : List ℕ → Stepper
 byControl words =
     record {
-      steps = λ m. controlStep (controlIn words (fetched m)) (fetched m) m;
-      portWrite = λ m. writesPort (controlIn words (fetched m));
+      steps = stepWith (λ w m. controlStep (controlIn words w) w m);
+      portWrite = fetchesA (λ w. writesPort (controlIn words w));
     }
 
 abbrev pub byTable : Stepper

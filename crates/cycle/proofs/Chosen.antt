@@ -4,11 +4,13 @@ use mathlib.Core.Path.{_≡_, sym, subst}
 use mathlib.Core.Bool.{Bool, true, false, _&&_}
 use mathlib.Core.List.{List}
 use Prim.Native.Nat.{ℕ}
+use borrow.Author.Tests.{ne-eqb}
 use lib.Dec.{leb}
 use lib.ListN.{length}
 use Rattle.word.proofs.Tests.{never}
-use Rattle.machine.specs.Machine.{Machine}
-use Rattle.machine.specs.Step.{choice, stepBy, fetched, step}
+use Rattle.machine.specs.declared.State.{State}
+use Rattle.machine.specs.Machine.{Machine, takesLine}
+use Rattle.machine.specs.Step.{choice, stepBy, fetched, taking, step}
 use Rattle.machine.specs.Run.{isOut, noPlace, unless}
 use Rattle.machine.specs.Held.{Held, StepMeets}
 use Rattle.machine.proofs.Runs.{Lawful}
@@ -30,9 +32,20 @@ pub by-rules : (t : Bool) (words : List ℕ) (w : ℕ) {stop : ℕ} {h after : H
 by-rules true words w e m = never (sym e)
 by-rules false words w e m = m
 
+-- a line is to be taken where enable is on and one is pending, and else not
+pub takes-both : (s : State) → (s .enabled ≡ 0 → ⊥) → (s .pending ≡ 0 → ⊥) → takesLine s ≡ true
+takes-both s e p = rw (ne-eqb _ _ e, ne-eqb _ _ p)
+
+-- a line is taken, and no port is written
+pub takes-line : (t : Bool) (words : List ℕ) (full : ℕ) (m : Machine) → takesLine (m .state) ≡ true
+    → unless (noPlace (chosen t words) full m) (chosen t words .steps m) ≡ taking m
+unfolding noPlace step
+takes-line true words full m e = rw e
+takes-line false words full m e = rw e
+
 -- the code's step is the machine's, of the word fetched
-pub tests : (t : Bool) (words : List ℕ) (w full : ℕ) (m : Machine) (b : Bool) → fetched m ≡ w → leb full (length (m .L)) ≡ b
+pub tests : (t : Bool) (words : List ℕ) (w full : ℕ) (m : Machine) (b : Bool) → takesLine (m .state) ≡ false → fetched m ≡ w → leb full (length (m .L)) ≡ b
     → unless (noPlace (chosen t words) full m) (chosen t words .steps m) ≡ unless (writesOf t words w && b) (stepOf t words w m)
 unfolding noPlace step
-tests true words w full m b f e = rw (f, e)
-tests false words w full m b f e = rw (f, e)
+tests true words w full m b t f e = rw (t, f, e)
+tests false words w full m b t f e = rw (t, f, e)

@@ -11,8 +11,8 @@ use lib.ListN.{length, getD, set, length-set}
 use lib.Seq.{getD-set-same, getD-set-other}
 use Rattle.isa.specs.Masks.{masksOf}
 use Rattle.usage.specs.declared.Usage.{Usage}
-use Rattle.usage.specs.Usage.{wordIs, counted, unused}
-use Rattle.usage.proofs.Sums.{Sized, unused-sized, counted-sized, AtMost, counted-most, unused-most}
+use Rattle.usage.specs.Usage.{wordIs, counted, tookLines, unused}
+use Rattle.usage.proofs.Sums.{Sized, unused-sized, counted-sized, took-sized, AtMost, counted-most, unused-most}
 use Rattle.places.specs.Places.{placeOf, tallied, Cleared}
 use Rattle.places.proofs.Tallied.{more-at-once, more-by-place}
 
@@ -25,6 +25,22 @@ pub record Counting (lent counts : List ℕ) (u : Usage) (steps : ℕ) : Type 0 
 
 pub counting-starts : (counts : List ℕ) → Cleared counts → Counting counts counts unused 0
 counting-starts counts h = record { kept = refl; each = λ k. omega (arith, h k); few = unused-most; sized = unused-sized }
+
+-- a line taken
+pub counts-line : {lent counts : List ℕ} {u : Usage} {steps : ℕ} → Counting lent counts u steps → Counting lent counts (tookLines 1 u) (steps + 1)
+counts-line c =
+    record {
+      kept = c .kept;
+      each = λ k. omega (arith, c .each k);
+      few =
+          record {
+            taken = omega (arith, c .few .taken);
+            kinds = λ k. omega (arith, c .few .kinds k);
+            reads = λ k. omega (arith, c .few .reads k);
+            writes = λ k. omega (arith, c .few .writes k);
+          };
+      sized = took-sized 1 (c .sized);
+    }
 
 -- a step more of the word w
 pub record Counts (w : ℕ) (lent counts : List ℕ) (u : Usage) (steps : ℕ) (counts' : List ℕ) (u' : Usage) : Type 0 where
@@ -53,6 +69,7 @@ module _ (w : ℕ) {lent counts : List ℕ} {u : Usage} {steps : ℕ} (c : Count
               each = λ k. go k (eqb k (placeOf w)) refl;
               few =
                   record {
+                    taken = omega (arith, c .few .taken);
                     kinds = λ k. omega (arith, c .few .kinds k);
                     reads = λ k. omega (arith, c .few .reads k);
                     writes = λ k. omega (arith, c .few .writes k);

@@ -1,7 +1,8 @@
 -- The loop's invariant, over plain values: what the start's run comes to is what a run from here comes to.
 -- Assumes nothing.
 use mathlib.Core.Path.{_≡_, refl, sym, ap, subst, _∙_}
-use mathlib.Core.Bool.{Bool, true}
+use mathlib.Core.Bool.{Bool, true, false}
+use mathlib.Core.Logic.{inl}
 use mathlib.Core.List.{List, [], _∷_, _++_}
 use Prim.Native.Nat.{ℕ, suc, _+_, _-_, _%_, _<_, _≤_}
 use native.Mathlib.Nat.{sub-zero, zero-add}
@@ -10,26 +11,30 @@ use lib.Dec.{leb}
 use lib.ListN.{length, getD, take, drop, take-append-drop}
 use lib.Seq.{length-take-le, drop-drop}
 use Rattle.machine.specs.declared.State.{State}
-use Rattle.machine.specs.Machine.{Machine}
+use Rattle.machine.specs.Machine.{Machine, takesLine, lineTaken, count}
 use Rattle.machine.specs.Step.{Next, cannot, to, fetched}
 use Rattle.machine.specs.Run.{Stepper, Outcome, noPlace, unless, runFrom, traceFrom}
 use Rattle.machine.specs.Held.{Fetches, Held, machineOf, isFull, Ready, outcomeOf, StepMeets}
-use Rattle.machine.proofs.Runs.{Lawful, run-none, trace-none, run-stops, trace-stops, run-goes}
+use Rattle.word.proofs.Tests.{never}
+use Rattle.machine.proofs.Lines.{takes-none}
+use Rattle.machine.proofs.Runs.{Even, places-even, Lawful, run-none, trace-none, run-stops, trace-stops, run-goes}
 use Rattle.isa.specs.Masks.{masksOf}
 use Rattle.usage.specs.declared.Usage.{Usage}
-use Rattle.usage.specs.Usage.{wordIs, counted, unused, usageOf, plusUsage}
+use Rattle.usage.specs.Usage.{wordIs, counted, tookLines, stepCounted, unused, usageOf, plusUsage}
+use Rattle.usage.proofs.Words.{taking-counted, fetching-counted}
 use Rattle.usage.specs.Counting.{Countable}
 use Rattle.places.specs.Places.{tallied, Cleared}
-use Rattle.places.proofs.Tallied.{tallied-sized, tallied-none}
-use Rattle.usage.proofs.Sums.{counted-plus, Sized, trace-sized, plus-unused, unused-plus, countable}
+use Rattle.places.proofs.Tallied.{tallied-sized, tallied-took, tallied-none}
+use Rattle.usage.proofs.Sums.{step-plus, Sized, trace-sized, plus-unused, unused-plus, countable}
 use Rattle.run.specs.Runs.{Journal, Given, Left, left, stopped, journalIf, allowed, countedIn, keptIn, machineAt, outcomeOn, traceOn, acceptedLeft, CountedLeft, acceptedCounted}
 use Rattle.run.specs.Parts.{EndsWith}
 use Rattle.run.proofs.Ticks.{accepted-ticks}
+use Rattle.journal.specs.Journal.{entryOf}
 use Rattle.journal.specs.Parts.{IsEntry}
 use Rattle.journal.proofs.Undone.{is-entry}
 use Rattle.cycle.specs.Loops.{CanRun, chosen, stepOf, writesOf, leftTimed}
-use Rattle.cycle.proofs.Chosen.{lawful, tests}
-use Rattle.cycle.proofs.Counts.{Counting, counting-starts, Counts}
+use Rattle.cycle.proofs.Chosen.{lawful, takes-line, tests}
+use Rattle.cycle.proofs.Counts.{Counting, counting-starts, counts-line, Counts}
 use Rattle.cycle.proofs.Kept.{Keeping, keeping-starts, keeping-turns, keeping-ends, Written}
 
 -- what is held at the start of a run
@@ -63,7 +68,9 @@ pub record Going (v : Stepper) (g : Given) (keeps : Bool) (journal₀ places₀ 
   pub outputs-kept : length (h .O) ≡ length (g .O)
   pub log-kept : length (h .log) ≡ length (g .log)
   pub filled : h .entries ≤ length (h .log)
-  pub even : h .state .pc % 2 ≡ 0
+  pub even : Even (h .state)
+  -- no line is pending where none was at the start
+  pub quiet : g .state .pending ≡ 0 → h .state .pending ≡ 0
   pub used : steps ≤ g .budget
   pub counted : h .state .n ≡ g .state .n + steps
   pub counts : g .state .n + g .budget ≤ 4294967295
@@ -92,7 +99,8 @@ start v g keeps journal places lends none c =
       outputs-kept = refl;
       log-kept = refl;
       filled = omega arith;
-      even = c .even;
+      even = places-even (g .state) (c .even);
+      quiet = λ e. e;
       used = omega arith;
       counted = omega arith;
       counts = c .counts;
@@ -137,14 +145,10 @@ unfolding usageOf
 counted-out u s e c = sym (plus-unused s) ∙ sym (ap (λ (ms : List Machine). plusUsage u (usageOf ms)) e) ∙ c
 
 -- a step more that was counted
-turned : (m : Machine) (w : ℕ) (u : Usage) {ms rest : List Machine} {total : Usage} → fetched m ≡ w → ms ≡ m ∷ rest → plusUsage u (usageOf ms) ≡ total
-    → plusUsage (counted (wordIs w) (masksOf w) u) (usageOf rest) ≡ total
+turned : (m : Machine) (u : Usage) {ms rest : List Machine} {total : Usage} → ms ≡ m ∷ rest → plusUsage u (usageOf ms) ≡ total
+    → plusUsage (stepCounted m u) (usageOf rest) ≡ total
 unfolding usageOf
-turned m w u {rest = rest} f e c =
-    counted-plus (wordIs w) (masksOf w) u (usageOf rest)
-    ∙ ap (λ (w : ℕ). plusUsage u (counted (wordIs w) (masksOf w) (usageOf rest))) (sym f)
-    ∙ sym (ap (λ (ms : List Machine). plusUsage u (usageOf ms)) e)
-    ∙ c
+turned m u {rest = rest} e c = step-plus m u (usageOf rest) ∙ sym (ap (λ (ms : List Machine). plusUsage u (usageOf ms)) e) ∙ c
 
 both-parts : (v : Stepper) → Lawful v → (g : Given) {l : Left} {u : Usage} → l ≡ acceptedLeft v g → u ≡ usageOf (traceOn v g) → leftTimed l u ≡ acceptedCounted v g
 both-parts v law g p q =
@@ -177,7 +181,69 @@ module _ (t : Bool) (words : List ℕ) {g : Given} {keeps : Bool} {journal₀ pl
   pub journal-room : steps < g .budget → keeps ≡ true → g .state .journaled + steps < length journal
   journal-room b k = omega (arith, v .keeping .room k, v .keeping .same-length)
 
-  module _ {w stop : ℕ} {after : Held} (b : steps < g .budget) (fetch : Fetches (h .state) (g .P) (h .D) w) (met : StepMeets (stepOf t words w) (writesOf t words w) h stop after) where
+  module _ (b : steps < g .budget) where
+    one-left : g .budget - steps ≡ suc (g .budget - (steps + 1))
+    one-left = omega arith
+
+    from-here : runFrom (chosen t words) (suc (g .budget - (steps + 1))) (length (g .log)) (hereOf g h) ≡ outcomeOn (chosen t words) g
+    from-here = rw one-left at (v .same)
+
+    counts-here : plusUsage (tallied places u) (usageOf (restOf (chosen t words) g h (suc (g .budget - (steps + 1))))) ≡ usageOf (traceOn (chosen t words) g)
+    counts-here = rw one-left at (v .summed)
+
+    keeping-here : Keeping (chosen t words) g keeps journal₀ journal steps (restOf (chosen t words) g h (suc (g .budget - (steps + 1))))
+    keeping-here = rw one-left at (v .keeping)
+
+  -- ---- A line is taken
+
+  module _ (b : steps < g .budget) (takes : takesLine (h .state) ≡ true) where
+    -- what is held after it, with this state
+    abbrev takenTo : State → Held
+    takenTo s = record { state = s; D = h .D; I = h .I; O = h .O; log = h .log; entries = h .entries }
+
+    taken-outcome : outcomeOf (hereOf g h) (unless (noPlace (chosen t words) (length (g .log)) (hereOf g h)) (chosen t words .steps (hereOf g h)))
+        ≡ record { reason = 0; after = hereOf g (takenTo (count (lineTaken (h .state)))) }
+    taken-outcome = ap (outcomeOf (hereOf g h)) (takes-line t words (length (g .log)) (hereOf g h) takes)
+
+    -- it is counted, and its entry kept
+    pub takes-turns : {x : ℕ} {journal' : List ℕ} {s : State} → s ≡ count (lineTaken (h .state)) → (keeps ≡ true → x ≡ entryOf (hereOf g h))
+        → Written keeps (g .state .journaled + steps) x journal journal'
+        → Going (chosen t words) g keeps journal₀ places₀ (takenTo s) (steps + 1) journal' places (tookLines 1 u)
+    takes-turns {journal' = journal'} is noted written =
+        let law = lawful t words in
+        let m = hereOf g h in
+        let goes = run-goes (chosen t words) (g .budget - (steps + 1)) (length (g .log)) m law taken-outcome in
+        subst (λ s. Going (chosen t words) g keeps journal₀ places₀ (takenTo s) (steps + 1) journal' places (tookLines 1 u)) (sym is)
+        (record {
+          program = v .program;
+          memory = v .memory;
+          inputs = v .inputs;
+          outputs = v .outputs;
+          memory-kept = v .memory-kept;
+          inputs-kept = v .inputs-kept;
+          outputs-kept = v .outputs-kept;
+          log-kept = v .log-kept;
+          filled = v .filled;
+          even = law .even m _ (goes .steps) (v .even);
+          quiet = λ e. never (sym (takes-none (h .state) (inl (v .quiet e))) ∙ takes);
+          used = omega arith;
+          counted = omega (arith, law .counts m _ (goes .steps));
+          counts = v .counts;
+          journaled = ap (λ z. z .0) (law .leaves m _ (goes .steps)) ∙ v .journaled;
+          fits = v .fits;
+          rest = v .rest;
+          same = sym (goes .on) ∙ from-here b;
+          counting = counts-line (v .counting);
+          summed =
+              ap (λ x. plusUsage x (usageOf (restOf (chosen t words) g (takenTo (count (lineTaken (h .state)))) (g .budget - (steps + 1)))))
+              (tallied-took places u 1 ∙ sym (taking-counted m (tallied places u) takes))
+              ∙ turned m (tallied places u) (goes .traces) (counts-here b);
+          keeping = keeping-turns (chosen t words) g keeps journal₀ m _ (keeping-here b) (goes .traces) b noted written;
+        })
+
+  -- ---- A word is fetched
+
+  module _ {w stop : ℕ} {after : Held} (b : steps < g .budget) (takes : takesLine (h .state) ≡ false) (fetch : Fetches (h .state) (g .P) (h .D) w) (met : StepMeets (stepOf t words w) (writesOf t words w) h stop after) where
     fetches : fetched (hereOf g h) ≡ w
     fetches = sym (fetch _ _ _)
 
@@ -185,22 +251,10 @@ module _ (t : Bool) (words : List ℕ) {g : Given} {keeps : Bool} {journal₀ pl
     outcome : outcomeOf (hereOf g h) (unless (noPlace (chosen t words) (length (g .log)) (hereOf g h)) (chosen t words .steps (hereOf g h))) ≡ record { reason = stop; after = hereOf g after }
     outcome =
         let full : leb (length (g .log)) (length ((hereOf g h) .L)) ≡ isFull h = rw (entries-are (g .P) h (v .filled), ← v .log-kept) in
-        ap (outcomeOf (hereOf g h)) (tests t words w (length (g .log)) (hereOf g h) (isFull h) fetches full) ∙ met .machine (g .P)
-
-    one-left : g .budget - steps ≡ suc (g .budget - (steps + 1))
-    one-left = omega arith
-
-    from-here : runFrom (chosen t words) (suc (g .budget - (steps + 1))) (length (g .log)) (hereOf g h) ≡ outcomeOn (chosen t words) g
-    from-here = rw one-left at (v .same)
+        ap (outcomeOf (hereOf g h)) (tests t words w (length (g .log)) (hereOf g h) (isFull h) takes fetches full) ∙ met .machine (g .P)
 
     filled-after : length (hereOf g after .L) ≡ after .entries
     filled-after = entries-are (g .P) after (met .filled)
-
-    counts-here : plusUsage (tallied places u) (usageOf (restOf (chosen t words) g h (suc (g .budget - (steps + 1))))) ≡ usageOf (traceOn (chosen t words) g)
-    counts-here = rw one-left at (v .summed)
-
-    keeping-here : Keeping (chosen t words) g keeps journal₀ journal steps (restOf (chosen t words) g h (suc (g .budget - (steps + 1))))
-    keeping-here = rw one-left at (v .keeping)
 
     -- a step that wasn't made leaves what is held as it was
     module _ (n : stop ≡ 0 → ⊥) where
@@ -219,9 +273,9 @@ module _ (t : Bool) (words : List ℕ) {g : Given} {keeps : Bool} {journal₀ pl
           both-parts (chosen t words) (lawful t words) g
           (ends (chosen t words) g after stop steps (met .filled)
           (met .rest ∙ further (h .entries) (after .entries) (h .log) (g .log) (omega arith) (v .rest)) (omega arith)
-          (sym from-here ∙ run-stops (chosen t words) _ _ (hereOf g h) stop outcome n)
-          (keeping-ends (chosen t words) g keeps journal₀ (subst (Keeping (chosen t words) g keeps journal₀ journal steps) none keeping-here) (after .state) e))
-          (counted-out (tallied places u) (tallied-sized places u (v .counting .sized)) none counts-here)
+          (sym (from-here b) ∙ run-stops (chosen t words) _ _ (hereOf g h) stop outcome n)
+          (keeping-ends (chosen t words) g keeps journal₀ (subst (Keeping (chosen t words) g keeps journal₀ journal steps) none (keeping-here b)) (after .state) e))
+          (counted-out (tallied places u) (tallied-sized places u (v .counting .sized)) none (counts-here b))
 
     -- the step was made, counted and its entry kept
     pub turns : {x : ℕ} {journal' places' : List ℕ} {u' : Usage} → stop ≡ 0 → Counts w places₀ places u steps places' u'
@@ -244,16 +298,20 @@ module _ (t : Bool) (words : List ℕ) {g : Given} {keeps : Bool} {journal₀ pl
           log-kept = omega arith;
           filled = met .filled;
           even = law .even m _ (goes .steps) (v .even);
+          quiet = λ e. law .lines m _ (goes .steps) takes ∙ v .quiet e;
           used = omega arith;
           counted = omega (arith, law .counts m _ (goes .steps));
           counts = v .counts;
           journaled = ap (λ z. z .0) (law .leaves m _ (goes .steps)) ∙ v .journaled;
           fits = v .fits;
           rest = met .rest ∙ further (h .entries) (after .entries) (h .log) (g .log) more (v .rest);
-          same = sym (goes .on) ∙ from-here;
+          same = sym (goes .on) ∙ from-here b;
           counting = c .counting;
-          summed = rw (c .one) (turned m w (tallied places u) fetches (goes .traces) counts-here);
+          summed =
+              ap (λ x. plusUsage x (usageOf (restOf (chosen t words) g after (g .budget - (steps + 1)))))
+              (c .one ∙ sym (fetching-counted m (tallied places u) takes ∙ ap (λ w. counted (wordIs w) (masksOf w) (tallied places u)) fetches))
+              ∙ turned m (tallied places u) (goes .traces) (counts-here b);
           keeping =
-              keeping-turns (chosen t words) g keeps journal₀ m _ keeping-here (goes .traces) b
-              (λ k. is-entry m (subst (λ w. IsEntry w (h .state) (h .D) (h .I) (h .O) x) (sym fetches) (noted k))) written;
+              keeping-turns (chosen t words) g keeps journal₀ m _ (keeping-here b) (goes .traces) b
+              (λ k. is-entry m takes (subst (λ w. IsEntry w (h .state) (h .D) (h .I) (h .O) x) (sym fetches) (noted k))) written;
         }

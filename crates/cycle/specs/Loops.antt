@@ -2,9 +2,9 @@
 use mathlib.Core.Path.{_≡_}
 use mathlib.Core.Bool.{Bool, true, false}
 use mathlib.Core.List.{List}
-use Prim.Native.Nat.{ℕ, _+_, _%_, _≤_}
+use Prim.Native.Nat.{ℕ, _+_, _≤_}
 use lib.ListN.{length}
-use Rattle.machine.specs.Machine.{Machine}
+use Rattle.machine.specs.Machine.{Machine, evenPlaces}
 use Rattle.machine.specs.Step.{choice, stepBy, Next}
 use Rattle.machine.specs.Run.{Stepper, isOut, byRules}
 use Rattle.control.specs.Control.{controlIn, controlStep, writesPort, byControl}
@@ -22,7 +22,7 @@ pub record CanRun (g : Given) : Type 0 where
   pub memory : length (g .D) ≡ 65536
   pub inputs : length (g .I) ≡ 256
   pub outputs : length (g .O) ≡ 256
-  pub even : g .state .pc % 2 ≡ 0
+  pub even : evenPlaces (g .state) ≡ true
   pub counts : g .state .n + g .budget ≤ 4294967295
   -- the state is the one that a run starts from, and its journal has room for so many steps
   pub starts : startIn (g .journal) (g .state) ≡ g .state

@@ -1,4 +1,4 @@
-// The loop of a run: fetch, step and count.
+// The loop of a run: take a line, or fetch, step and count.
 ghost use Rattle.machine.specs.Held.{held, Ready, StepsAs};
 ghost use Rattle.run.specs.Runs.{given, journalIf};
 ghost use Rattle.places.specs.Places.{Cleared};
@@ -34,7 +34,8 @@ fn step(
 }
 
 // The loop of an accepted run, by a table or by the rules, from the state it starts from, with the steps it may take. PC stays even.
-// Where `keeps`, a step's entry goes to the journal. Where `counts` has all places, a step adds one at its word's place, and usage stays zero.
+// A line that is to be taken is a step of its own. Where `keeps`, a step's entry goes to the journal. Where `counts` has all places, a step adds one
+// at its word's place, and usage counts only the lines taken.
 pub fn run_accepted(
     by_table: bool,
     table: &[u16; 32],
@@ -56,12 +57,29 @@ pub fn run_accepted(
     let mut state = start;
     let mut steps: u32 = 0;
     let mut entries: usize = 0;
-    let count = start.journaled as usize;
+    let count = state.journaled as usize;
     let mut entry: u64 = 0;
     let mut kinds = [0u64; kinds::COUNT];
     let mut reads = [0u64; 8];
     let mut writes = [0u64; 8];
+    let mut taken: u64 = 0;
+    // No step raises a line, so where none is pending at the start none is ever taken.
+    let waits = start.pending != 0;
     while steps < budget {
+        if waits {
+            if state.enabled != 0 {
+                if state.pending != 0 {
+                    if keeps {
+                        let place = count + steps as usize;
+                        journal[place] = journal::line_entry(state);
+                    }
+                    state = state.line_taken();
+                    taken = taken + 1;
+                    steps = steps + 1;
+                    continue;
+                }
+            }
+        }
         let w = bus::fetch(state, program, memory);
         if keeps {
             entry = journal::entry(w, state, memory, inputs, outputs);
@@ -89,6 +107,7 @@ pub fn run_accepted(
                 }),
                 usage: Usage {
                     kinds,
+                    taken,
                     reads,
                     writes,
                 },
@@ -115,6 +134,7 @@ pub fn run_accepted(
         }),
         usage: Usage {
             kinds,
+            taken,
             reads,
             writes,
         },

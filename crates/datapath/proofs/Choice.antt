@@ -1,18 +1,16 @@
 -- A choice by a field of the control word: the field by its bits, and past the end of a list; and tests of f.
 -- Assumes nothing.
 use mathlib.Core.Path.{_≡_, sym, _∙_}
-use mathlib.Core.Bool.{Bool·beq}
+use mathlib.Core.Bool.{Bool, Bool·beq}
 use mathlib.Core.List.{List}
 use Prim.Native.Nat.{ℕ, _+_, _*_, _/_, _%_, _<_, _≤_}
 use native.Mathlib.Nat.{div-div-eq-div-mul}
 use native.Mathlib.Omega.{arith}
-use lib.Dec.{T, eqb}
+use lib.Dec.{T}
 use lib.ListN.{getD, length, List·getD-eq-default}
 use Rattle.word.specs.Fields.{f-of}
-use Rattle.word.specs.Codes.{below6But}
 use Rattle.word.proofs.Computed.{all, all-at}
 use Rattle.word.proofs.Tests.{same-test}
-use Rattle.control.specs.Control.{takes, divides}
 
 -- a field that begins at the bit of this weight
 pub two-bits : (c weight : ℕ) → c / weight % 4 ≡ c / weight % 2 + 2 * (c / (weight * 2) % 2)
@@ -35,11 +33,6 @@ by-f g w e p = e ∙ (λ i. g (f-is w i) (p .0 i) (p .1 i))
 
 -- ---- The tests of f, by the eight values that it can have
 
--- unit u takes the f below 6 but the gap, where the test of all eight says so
-pub takes-f : (u gap : ℕ) → T (all 8 (λ f. Bool·beq (below6But gap f) (takes u f))) → (f : ℕ) → f < 8 → below6But gap f ≡ takes u f
-takes-f u gap t f h = same-test _ _ (all-at 8 (λ f. Bool·beq (below6But gap f) (takes u f)) t f h)
-
--- the f by which unit 5 divides
-pub divisions-f : (f : ℕ) → f < 8 → eqb (f / 2) 2 ≡ divides 5 f
-unfolding all
-divisions-f f h = same-test _ _ (all-at 8 (λ f. Bool·beq (eqb (f / 2) 2) (divides 5 f)) tt f h)
+-- two tests that are alike at each of them
+pub alike-f : (s t : ℕ → Bool) → T (all 8 (λ f. Bool·beq (s f) (t f))) → (f : ℕ) → f < 8 → s f ≡ t f
+alike-f s t alike f h = same-test _ _ (all-at 8 (λ f. Bool·beq (s f) (t f)) alike f h)

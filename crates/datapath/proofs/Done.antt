@@ -1,27 +1,28 @@
 -- What a step by a control word comes to: it stops, or it is done, with an equation for each part.
 -- Assumes nothing.
 use mathlib.Core.Path.{_≡_, refl, sym, ap, subst, _∙_}
-use mathlib.Core.Bool.{Bool, true, false, _&&_}
-use mathlib.Core.List.{List}
+use mathlib.Core.Bool.{Bool, true, false, not, _&&_, and-eq-true-iff}
+use mathlib.Core.List.{List, [], _∷_}
 use Prim.Native.Nat.{ℕ, _+_, _*_, _<_, _≤_}
 use native.Mathlib.Omega.{arith}
 use borrow.Author.Tests.{leb-false, lt-leb, eqb-true}
-use lib.Dec.{leb}
-use lib.ListN.{length, set, length-set}
-use Rattle.word.specs.Fields.{a-of, N8}
+use lib.Dec.{eqb, leb}
+use lib.ListN.{length, set, length-set, getD, List·getD-map}
+use Rattle.word.specs.Fields.{bits, field, a-of, f-of, N8}
 use Rattle.word.specs.Word.{pick, add}
 use Rattle.machine.specs.declared.State.{State}
 use Rattle.machine.specs.declared.Stepped.{Stepped}
-use Rattle.machine.specs.Machine.{R}
-use Rattle.machine.specs.Step.{cannot, to}
+use Rattle.machine.specs.Machine.{Machine, R, putR, putPC, count, onState}
+use Rattle.machine.specs.Step.{d5-3, d8-6, d11-9, interruptRules, cannot, to}
 use Rattle.machine.specs.Run.{Outcome, unless}
 use Rattle.machine.specs.Held.{Held, held, machineOf, isFull, outcomeOf, StepMeets}
-use Rattle.machine.proofs.Answers.{Leaves}
+use Rattle.machine.proofs.Answers.{Leaves, answered}
 use Rattle.machine.proofs.Log.{put-take, put-drop}
-use Rattle.control.specs.Control.{result, inputsAfter, next, storeField, writesPort, storedData, stored, performed, assigned, controlStep}
-use Rattle.datapath.specs.Parts.{unitOf, stateAfter, dataAfter, isZeroDivisor, stopOf, doneWith, stoppedWith, Answered, withInputs, resultAnswer}
+use Rattle.control.specs.Control.{result, inputsAfter, next, storeField, byInterrupt, writesPort, storedData, stored, written, performed, assigned, interruptAssigned, interrupted, controlStep}
+use Rattle.datapath.specs.Parts.{unitOf, stateAfter, dataAfter, isZeroDivisor, stopOf, advancedOf, doneIn, doneWith, stoppedWith, Answered, withInputs, resultAnswer, interruptOf, interruptAnswer}
 
-module _ (c w : ℕ) (h : Held) where
+-- by a control word without bit 15
+module _ (c w : ℕ) (h : Held) (by-fields : byInterrupt c ≡ false) where
   abbrev Meets : ℕ → Held → Type 0
   Meets stop after = StepMeets (controlStep c w) (writesPort c) h stop after
 
@@ -30,7 +31,7 @@ module _ (c w : ℕ) (h : Held) where
       → let m = machineOf P h in
       outcomeOf m (unless (writesPort c && isFull h) (controlStep c w m)) ≡ outcomeOf m (unless b (pick a (pick z (cannot 3) (to (performed c w m))) (cannot 1)))
   unfolding controlStep
-  made P a z b e g f = let m = machineOf P h in λ i. outcomeOf m (unless (f i) (pick (e i) (pick (g i) (cannot 3) (to (performed c w m))) (cannot 1)))
+  made P a z b e g f = let m = machineOf P h in λ i. outcomeOf m (unless (f i) (pick (by-fields i) (pick (interruptAssigned c w) (to (interrupted c w m)) (cannot 1)) (pick (e i) (pick (g i) (cannot 3) (to (performed c w m))) (cannot 1))))
 
   -- ---- It stops
 
@@ -87,7 +88,7 @@ module _ (c w : ℕ) (h : Held) where
   -- a store to a port changes no data
   no-data : (s : State) (D : List ℕ) → writesPort c ≡ true → dataAfter c w s D ≡ D
   unfolding storedData
-  no-data s D port = let k : storeField c ≡ 3 = eqb-true (storeField c) 3 port in rw k
+  no-data s D port = let k : storeField c ≡ 3 = eqb-true (storeField c) 3 (and-eq-true-iff (not (byInterrupt c)) (eqb (storeField c) 3) .0 port .1) in rw k
 
   -- by fields
   pub fields-done : {s : State} {D I O log : List ℕ} {entries : ℕ} → h .entries ≤ length (h .log) → stopOf c w (h .state) (isFull h) ≡ 0
@@ -119,12 +120,12 @@ abbrev MeetsWith : ℕ → ℕ → Held → Answered → Type 0
 MeetsWith c w h x = Leaves (controlStep c w) (writesPort c) h (x .answer) (h .D) (x .inputs) (h .O) (h .log)
 
 -- the answer where nothing is stored, with PC+2
-pub result-done : (c w : ℕ) (h : Held) → h .entries ≤ length (h .log) → writesPort c ≡ false → dataAfter c w (h .state) (h .D) ≡ h .D
+pub result-done : (c w : ℕ) (h : Held) → byInterrupt c ≡ false → h .entries ≤ length (h .log) → writesPort c ≡ false → dataAfter c w (h .state) (h .D) ≡ h .D
     → next c w (R (h .state) (a-of w)) (h .state .pc) ≡ add (h .state .pc) 2
     → (r : Stepped) {I : List ℕ}
     → withInputs r I ≡ resultAnswer c w (h .state) (h .D) (h .I) (h .entries)
     → MeetsWith c w h (withInputs r I)
-result-done c w h filled no-port no-store on r {I} = by-tests (assigned c w) refl (isZeroDivisor c w (h .state)) refl
+result-done c w h by-fields filled no-port no-store on r {I} = by-tests (assigned c w) refl (isZeroDivisor c w (h .state)) refl
   where
     by-tests : (a : Bool) → assigned c w ≡ a → (z : Bool) → isZeroDivisor c w (h .state) ≡ z
         → withInputs r I ≡ pick a
@@ -133,9 +134,9 @@ result-done c w h filled no-port no-store on r {I} = by-tests (assigned c w) ref
         (withInputs (doneWith c w (result c w (unitOf c w (h .state)) (h .state .pc) (h .D) (h .I)) (h .state) (h .entries)) (inputsAfter c w (h .I))))
         (withInputs (stoppedWith 1 (h .state) (h .entries)) (h .I))
         → MeetsWith c w h (withInputs r I)
-    by-tests true e true z a = subst (MeetsWith c w h) (sym a) (stopped c w h 3 filled (rw (e, z)) (λ z. omega arith))
-    by-tests true e false z a = subst (MeetsWith c w h) (sym a) (data-done c w h e z filled no-port (rw on) (sym no-store) refl)
-    by-tests false e t z a = subst (MeetsWith c w h) (sym a) (stopped c w h 1 filled (rw e) (λ z. omega arith))
+    by-tests true e true z a = subst (MeetsWith c w h) (sym a) (stopped c w h by-fields 3 filled (rw (e, z)) (λ z. omega arith))
+    by-tests true e false z a = subst (MeetsWith c w h) (sym a) (data-done c w h by-fields e z filled no-port (rw on) (sym no-store) refl)
+    by-tests false e t z a = subst (MeetsWith c w h) (sym a) (stopped c w h by-fields 1 filled (rw e) (λ z. omega arith))
 
 -- a port's step has a free place where nothing stops it
 pub free-place : (c w : ℕ) (s : State) (n places : ℕ) → stopOf c w s (leb places n) ≡ 0 → writesPort c ≡ true → n < places
@@ -146,3 +147,35 @@ free-place c w s n places go port = by-tests (assigned c w) (isZeroDivisor c w s
     by-tests true true f e go = absurd (omega arith)
     by-tests true false true e go = absurd (omega arith)
     by-tests true false false e go = leb-false _ _ e
+
+-- ---- By a control word with bit 15
+
+-- the count may come before what is written
+written-counted : (c w v : ℕ) (s : State) → count (written c w v s) ≡ written c w v (count s)
+unfolding written
+written-counted c w v s = sym (List·getD-map count (s ∷ putR (d5-3 w) v s ∷ putR (d8-6 w) v s ∷ putR (d11-9 w) v s ∷ []) (field (bits 1 0) c) s)
+
+interrupted-counted : (c w : ℕ) (m : Machine) → interrupted c w m ≡ onState (λ s. interruptOf c w (advancedOf s)) m
+unfolding interrupted
+interrupted-counted c w m =
+    let on = putPC (add (m .state .pc) 2) (m .state) in
+    ap (λ t. onState (λ s. t) m)
+    (sym (List·getD-map count (interruptRules (written c w) on) (f-of w) on)
+    ∙ ap (λ t. getD (interruptRules (λ v s. t) (count on)) (f-of w) (count on)) (written-counted c w (on .line) on))
+
+pub interrupt-done : (c w : ℕ) (h : Held) → byInterrupt c ≡ true → h .entries ≤ length (h .log) → (r : Stepped) → r ≡ interruptAnswer c w (h .state) (h .entries)
+    → Leaves (controlStep c w) (writesPort c) h r (h .D) (h .I) (h .O) (h .log)
+unfolding controlStep
+interrupt-done c w h by-f filled r = by-test (interruptAssigned c w) refl
+  where
+    by-test : (a : Bool) → interruptAssigned c w ≡ a
+        → r ≡ pick a (doneIn (interruptOf c w (advancedOf (h .state))) (h .entries)) (stoppedWith 1 (h .state) (h .entries))
+        → Leaves (controlStep c w) (writesPort c) h r (h .D) (h .I) (h .O) (h .log)
+    by-test true q e =
+        answered r _ e
+        record {
+          machine = λ P. rw (by-f, q) (ap (λ m. record { reason = 0; after = m }) (interrupted-counted c w (machineOf P h)));
+          rest = refl;
+          filled = filled;
+        }
+    by-test false q e = answered r _ e record { machine = λ P. rw (by-f, q); rest = refl; filled = filled }

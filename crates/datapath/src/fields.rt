@@ -7,7 +7,8 @@ ghost use lib.ListN.{getD, length, set};
 ghost use Rattle.word.specs.Fields.{b-of, f-of, N8};
 ghost use Rattle.word.specs.Word.{pick};
 ghost use Rattle.machine.specs.Machine.{R};
-ghost use Rattle.control.specs.Control.{second, units, unitField, unit, result, inputsAfter, next, writesPort, storedData, written, assigned, zeroDivisor};
+ghost use Rattle.control.specs.Control.{second, units, unitField, unit, result, inputsAfter, next, byInterrupt, writesPort, storedData, written, assigned, zeroDivisor, interruptAssigned};
+ghost use Rattle.datapath.specs.Parts.{interruptOf};
 use machine::Address;
 use machine::Port;
 use machine::State;
@@ -146,11 +147,18 @@ pub fn store_data(control: u16, y: u16, u: u16, memory: &mut [u8])
     }
 }
 
-// Bits 11..10 are 3.
+// Bit 15.
+pub fn by_interrupt(control: u16) -> bool
+    ensures { λ r. ⌜ r ≡ byInterrupt control ⌝ }
+{
+    control / 32768 % 2 == 1
+}
+
+// Bits 11..10 are 3, and not bit 15.
 pub fn writes_port(control: u16) -> bool
     ensures { λ r. ⌜ r ≡ writesPort control ⌝ }
 {
-    control / 1024 % 4 == 3
+    !by_interrupt(control) & (control / 1024 % 4 == 3)
 }
 
 // Where they are 3: the port's store, with an entry of the log. Hands back how many entries there are.
@@ -219,5 +227,25 @@ pub fn divides_by_zero(control: u16, w: u16, state: State) -> bool
         }
     } else {
         false
+    }
+}
+
+// With bit 15: bit 14, and f below 4.
+pub fn is_interrupt_assigned(control: u16, w: u16) -> bool
+    ensures { λ r. ⌜ r ≡ interruptAssigned control w ⌝ }
+{
+    (control / 16384 % 2 == 1) & (w % 8 < 4)
+}
+
+// With bit 15: EI, DI, RETI and GETIID by f, where PC+2 and the count are done.
+pub fn interrupted(control: u16, w: u16, next: State) -> State
+    ensures { λ r. ⌜ r ≡ interruptOf control w next ⌝ }
+{
+    match w % 8 {
+        0 => next.with_enabled(1),
+        1 => next.with_enabled(0),
+        2 => next.with_enabled(1).with_pc(next.return_address),
+        3 => write_destination(control, w, next.line as u16, next),
+        _ => next,
     }
 }

@@ -1,5 +1,5 @@
-// The commonest groups of a control word's fields. Registers are read where they are used: that takes less time than before the
-// tests.
+// The commonest groups of a control word's fields; none has bit 15. Registers are read where they are used: that takes less time
+// than before the tests.
 ghost use mathlib.Core.Path.{_≡_};
 ghost use Prim.Native.Nat.{_<_};
 ghost use lib.ListN.{length};
@@ -22,7 +22,7 @@ pub fn address(w: u16, x: u16) -> u16
 pub fn is_result(control: u16) -> bool
     ensures { λ r. ⌜ r ≡ isResult control ⌝ }
 {
-    control / 1024 % 32 == 16
+    control / 1024 == 16
 }
 
 // An operation on Ra and Rb is the result.
@@ -50,12 +50,12 @@ pub fn is_sum(control: u16) -> bool
     control / 32 % 32 == 10
 }
 
-// Data memory at Ra+SE(N6) is stored to, or nothing; no destination, PC+2, assigned.
+// Data memory at Ra+SE(N6) is stored to; no destination, PC+2, assigned. (A range test takes some instructions more.)
 pub fn is_store(control: u16) -> bool
     ensures { λ r. ⌜ r ≡ isStore control ⌝ }
 {
-    let upper = control / 1024 % 32;
-    (control % 1024 == 320) & (upper > 15) & (upper < 19)
+    let upper = control / 1024;
+    (control % 1024 == 320) & ((upper == 17) | (upper == 18))
 }
 
 pub fn store(control: u16, w: u16, state: State, memory: &mut [u8])
@@ -70,7 +70,7 @@ pub fn store(control: u16, w: u16, state: State, memory: &mut [u8])
 pub fn is_jump(control: u16) -> bool
     ensures { λ r. ⌜ r ≡ isJump control ⌝ }
 {
-    (control % 4096 == 0) & (control / 16384 % 2 == 1)
+    (control % 4096 == 0) & (control / 16384 == 1)
 }
 
 pub fn jump(control: u16, w: u16, state: State) -> State
@@ -85,7 +85,7 @@ pub fn jump(control: u16, w: u16, state: State) -> State
 pub fn is_link(control: u16) -> bool
     ensures { λ r. ⌜ r ≡ isLink control ⌝ }
 {
-    (control / 1024 % 32 == 28) & (control / 4 % 64 == 3)
+    (control / 1024 == 28) & (control / 4 % 64 == 3)
 }
 
 pub fn link(control: u16, w: u16, state: State) -> State

@@ -1,19 +1,20 @@
-// The step by a control word: everything but the operands, and f in units 0, 1 and 5, is learnt from the control word.
+// The step by a control word: everything but the operands, and f in units 0, 1 and 5 and with bit 15, is learnt from the control word.
 ghost use mathlib.Core.Path.{_≡_};
-ghost use mathlib.Core.Bool.{true};
+ghost use mathlib.Core.Bool.{true, false};
 ghost use Prim.Native.Nat.{_<_};
 ghost use lib.Dec.{leb};
 ghost use lib.ListN.{length};
 ghost use Rattle.machine.specs.Held.{held, Ready, StepsAs};
-ghost use Rattle.control.specs.Control.{writesPort, controlStep};
-ghost use Rattle.datapath.specs.Parts.{Lent, stopOf, doneWith, withInputs, resultAnswer, isResult};
+ghost use Rattle.control.specs.Control.{byInterrupt, writesPort, controlStep};
+ghost use Rattle.datapath.specs.Parts.{Lent, stopOf, doneWith, withInputs, resultAnswer, interruptAnswer, isResult};
 use machine::State;
 use machine::Stepped;
 
 mod fields;
 mod groups;
 
-// Why w is not stepped by a control word: 1 unassigned, 3 a zero divisor, 2 a port write and the log is full; 0 where it is.
+// Why w is not stepped by a control word without bit 15: 1 unassigned, 3 a zero divisor, 2 a port write and the log is full; 0 where
+// it is.
 fn stop_of(control: u16, w: u16, state: State, full: bool) -> u8
     ensures { λ r. ⌜ r ≡ stopOf control w state full ⌝ }
 {
@@ -32,7 +33,7 @@ fn stop_of(control: u16, w: u16, state: State, full: bool) -> u8
     }
 }
 
-// The step of w where nothing stops it, field by field.
+// The step of w where nothing stops it, field by field, without bit 15.
 fn performed(
     control: u16,
     w: u16,
@@ -44,7 +45,7 @@ fn performed(
     entries: usize,
 ) -> Stepped
     requires { ⌜ Ready (held state (now memory) (now inputs) (now outputs) (now log) entries) ⌝ }
-    requires { ⌜ stopOf control w state (leb (length (now log)) entries) ≡ 0 ⌝ }
+    requires { ⌜ (byInterrupt control ≡ false) × (stopOf control w state (leb (length (now log)) entries) ≡ 0) ⌝ }
     ensures { λ r. ⌜ StepsAs (controlStep control w) (writesPort control) state memory inputs outputs log entries r ⌝ }
 {
     let p = state.sources(w);
@@ -59,7 +60,19 @@ fn performed(
     )
 }
 
-// The step of w, field by field.
+// The step of w by a control word with bit 15: f chooses.
+fn interrupt_step(control: u16, w: u16, state: State, entries: usize) -> Stepped
+    requires { ⌜ state .n < 4294967295 ⌝ }
+    ensures { λ r. ⌜ r ≡ interruptAnswer control w state entries ⌝ }
+{
+    if fields::is_interrupt_assigned(control, w) {
+        Stepped::done(fields::interrupted(control, w, state.advanced()), entries)
+    } else {
+        Stepped::stopped(1, state, entries)
+    }
+}
+
+// The step of w by a control word in no group.
 fn field_step(
     control: u16,
     w: u16,
@@ -73,11 +86,15 @@ fn field_step(
     requires { ⌜ Ready (held state (now memory) (now inputs) (now outputs) (now log) entries) ⌝ }
     ensures { λ r. ⌜ StepsAs (controlStep control w) (writesPort control) state memory inputs outputs log entries r ⌝ }
 {
-    let stop = stop_of(control, w, state, log.len() <= entries);
-    if stop == 0 {
-        performed(control, w, state, memory, inputs, outputs, log, entries)
+    if fields::by_interrupt(control) {
+        interrupt_step(control, w, state, entries)
     } else {
-        Stepped::stopped(stop, state, entries)
+        let stop = stop_of(control, w, state, log.len() <= entries);
+        if stop == 0 {
+            performed(control, w, state, memory, inputs, outputs, log, entries)
+        } else {
+            Stepped::stopped(stop, state, entries)
+        }
     }
 }
 

@@ -26,7 +26,7 @@ pub const BAD_NAME: u8 = 11;
 const BAD_VALUE: u8 = 12;
 
 // The row of `.word`.
-const WORD: usize = 30;
+const WORD: usize = 34;
 
 // x, one of 2 * half numbers, as the signed number of the same bits.
 fn signed_in(half: u16, x: u16) -> i16

@@ -3,7 +3,7 @@
 use mathlib.Core.Path.{_≡_, refl, sym, ap, subst, _∙_}
 use mathlib.Core.Bool.{Bool, _&&_, and-eq-true-iff}
 use mathlib.Core.List.{List}
-use Prim.Native.Nat.{ℕ, zero, suc, _+_, _%_, _≤_}
+use Prim.Native.Nat.{ℕ, zero, suc, _+_, _≤_}
 use native.Mathlib.Omega.{arith}
 use borrow.Author.Tests.{eqb-true, leb-true}
 use lib.Dec.{eqb, leb}
@@ -11,6 +11,7 @@ use lib.ListN.{length, getD, replicate}
 use Rattle.refusal.specs.Refusals.{accepted, refused}
 use Rattle.word.proofs.Tests.{clash, passed}
 use Rattle.machine.specs.declared.State.{State}
+use Rattle.machine.specs.Machine.{evenPlaces}
 use Rattle.machine.specs.Lengths.{lengthsFit}
 use Rattle.machine.specs.Run.{Stepper}
 use Rattle.usage.specs.declared.Usage.{Usage}
@@ -20,7 +21,7 @@ use Rattle.run.specs.declared.Counted.{Counted}
 use Rattle.run.specs.Runs.{Journal, Given, given, Left, left, run-refused, shownAnswer, startIn, allowed, verdict, verdictOn, CountedLeft, acceptedCounted, countedLeft, CountedMeets}
 use Rattle.run.specs.Parts.{timed}
 use Rattle.run.proofs.Journals.{started, is-started}
-use Rattle.places.specs.Places.{folded, tallied}
+use Rattle.places.specs.Places.{folded, withTaken, tallied}
 use Rattle.places.proofs.Tallied.{at-once, by-place}
 use Rattle.control.specs.Control.{table}
 use Rattle.cycle.specs.Loops.{CanRun, chosen, leftTimed}
@@ -33,7 +34,7 @@ module _ (g : Given) (e : accepted ≡ verdictOn g) where
   unfolding verdict
   started-fits fits =
       let lent = passed (lengthsFit (g .P) (g .D) (g .I) (g .O)) (λ x. clash (cc)) (sym e) in
-      let even = passed (eqb (g .state .pc % 2) 0) (λ x. clash (cc)) (lent .1) in
+      let even = passed (evenPlaces (g .state)) (λ x. clash (cc)) (lent .1) in
       let few = passed (leb (g .state .n + g .budget) 4294967295) (λ x. clash (cc)) (even .1) in
       let o = and-eq-true-iff (eqb (length (g .P)) 65536 && eqb (length (g .D)) 65536 && eqb (length (g .I)) 256) (eqb (length (g .O)) 256) .0 (lent .0) in
       let i = and-eq-true-iff (eqb (length (g .P)) 65536 && eqb (length (g .D)) 65536) (eqb (length (g .I)) 256) .0 (o .0) in
@@ -45,7 +46,7 @@ module _ (g : Given) (e : accepted ≡ verdictOn g) where
         memory = eqb-true _ _ (d .1);
         inputs = eqb-true _ _ (i .1);
         outputs = eqb-true _ _ (o .1);
-        even = ap (λ k. k % 2) (s .pc) ∙ eqb-true _ _ (even .0);
+        even = s .places ∙ even .0;
         counts = omega (arith, s .n, s .few, below);
         starts = ap (λ (x : Given). x .state) (s .starts);
         room = ap (λ (x : Given). x .budget) (s .starts);
@@ -74,7 +75,7 @@ module _ (v : Stepper) (g : Given) {l : Left} (counts : List ℕ) (u : Usage) (m
   pub counts-short : length counts ≡ 0 → CountedMeets v g (leftTimed l u)
   counts-short e = ap (leftTimed l) (sym (at-once counts u (omega arith))) ∙ met
 
-  pub counts-long : {x : Usage} → length counts ≡ 17408 → x ≡ folded counts → CountedMeets v g (leftTimed l x)
+  pub counts-long : {x : Usage} → length counts ≡ 17408 → x ≡ withTaken (u .taken) (folded counts) → CountedMeets v g (leftTimed l x)
   counts-long e f = ap (leftTimed l) (f ∙ sym (by-place counts u (omega arith))) ∙ met
 
 pub zeros : (n k : ℕ) → getD {A = ℕ} (replicate n 0) k 0 ≡ 0

@@ -91,10 +91,11 @@ fn long(
     );
     let state = ran.state;
     let answer = ran.answer;
+    let usage = ran.usage;
     Tallied {
         state,
         answer,
-        usage: places::fold(&counts),
+        usage: places::fold(&counts, usage.taken),
     }
 }
 

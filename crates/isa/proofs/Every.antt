@@ -11,7 +11,7 @@ use Rattle.word.specs.Fields.{opcode, e-of, f-of}
 use Rattle.word.specs.Word.{pick}
 use Rattle.word.proofs.Computed.{all, all-at}
 use Rattle.kinds.specs.declared.Kind.{Kind}
-use Rattle.kinds.specs.declared.Kind.the-variants.{And, Or, Xor, Not, Add, Sub, Sha, Shl, Cmplt, Cmple, Cmpeq, Cmpltu, Cmpleu, Addi, Ld, St, Ldb, Stb, Jalr, Bz, Bnz, Movi, Movhi, In, Out, Mul, Mulh, Mulhu, Div, Divu}
+use Rattle.kinds.specs.declared.Kind.the-variants.{And, Or, Xor, Not, Add, Sub, Sha, Shl, Cmplt, Cmple, Cmpeq, Cmpltu, Cmpleu, Addi, Ld, St, Ldb, Stb, Jalr, Bz, Bnz, Movi, Movhi, In, Out, Mul, Mulh, Mulhu, Div, Divu, Ei, Di, Reti, Getiid}
 use Rattle.isa.specs.declared.rows.Entry.{Entry}
 use Rattle.isa.specs.declared.rows.Entry.the-variants.{Unassigned, Assigned}
 use Rattle.kinds.specs.Kinds.{kinds, kindNumber}
@@ -50,6 +50,10 @@ listed Mulh = (lit< tt, refl)
 listed Mulhu = (lit< tt, refl)
 listed Div = (lit< tt, refl)
 listed Divu = (lit< tt, refl)
+listed Ei = (lit< tt, refl)
+listed Di = (lit< tt, refl)
+listed Reti = (lit< tt, refl)
+listed Getiid = (lit< tt, refl)
 
 pub every : (f : Kind → Bool) → T (all (length kinds) (λ n. f (getD kinds n And))) → (k : Kind) → T (f k)
 every f t k = subst (λ (j : Kind). T (f j)) (listed k .1) (all-at (length kinds) (λ n. f (getD kinds n And)) t (kindNumber k) (listed k .0))

@@ -21,11 +21,11 @@ use Rattle.kinds.specs.declared.Kind.the-variants.{And}
 use Rattle.isa.specs.declared.Instruction.{Instruction}
 use Rattle.isa.specs.declared.Writing.the-variants.{Refused}
 use Rattle.isa.specs.declared.layout.Form.{Form}
-use Rattle.isa.specs.declared.layout.Form.the-variants.{Abd, Axd, AdSigned, AbSigned, Adx, ASigned, AUnsigned, DSigned, DUnsigned}
+use Rattle.isa.specs.declared.layout.Form.the-variants.{Abd, Axd, AdSigned, AbSigned, Adx, ASigned, AUnsigned, DSigned, DUnsigned, Xxx, Xxd}
 use Rattle.isa.specs.declared.layout.Layout.{Layout}
 use Rattle.isa.specs.declared.parts.Low.the-variants.{Nothing, Bits}
 use Rattle.kinds.specs.Kinds.{kinds, kindNumber}
-use Rattle.isa.specs.Sheet.{Format, R3, R3-NOT, R2-ab, R2-ad, R2-JALR, R1-a, R1-d, Code, F, E, only, Number, signed-n, unsigned-n, Line, sheetLine}
+use Rattle.isa.specs.Sheet.{Format, R3, R3-NOT, R2-ab, R2-ad, R2-JALR, R1-a, R1-d, R0, R1-GETIID, Code, F, E, only, Number, signed-n, unsigned-n, Line, sheetLine}
 use Rattle.isa.specs.Instructions.{partsOf, WriteReply, word, write-refused, shownWriting, inRange, wordOf, writeAs}
 use Rattle.isa.specs.Layouts.{forms, formOf, layoutOf, wordSum, Sound, numberOf, bitsOf, fieldsOf, writeBits, writeIn}
 use Rattle.isa.proofs.Every.{listed, every}
@@ -46,6 +46,8 @@ lineOf (ASigned v) = lineIn R1-a v (E (v / 256 % 2)) signed-n
 lineOf (AUnsigned v) = lineIn R1-a v (E (v / 256 % 2)) unsigned-n
 lineOf (DSigned v) = lineIn R1-d v (E (v / 256 % 2)) signed-n
 lineOf (DUnsigned v) = lineIn R1-d v (E (v / 256 % 2)) unsigned-n
+lineOf (Xxx v) = lineIn R0 v (F (v % 8)) unsigned-n
+lineOf (Xxd v) = lineIn R1-GETIID v (F (v % 8)) unsigned-n
 
 -- the code's table is the sheet's, line by line
 table : map sheetLine kinds ≡ map lineOf forms
@@ -80,6 +82,8 @@ parts-in (ASigned v) k w = same-parts k refl (omega arith) (omega arith) (signed
 parts-in (AUnsigned v) k w = same-parts k refl (omega arith) (omega arith) (unsigned-part 256 w (omega arith))
 parts-in (DSigned v) k w = same-parts k (omega arith) (omega arith) refl (signed-part 8 w)
 parts-in (DUnsigned v) k w = same-parts k (omega arith) (omega arith) refl (unsigned-part 256 w (omega arith))
+parts-in (Xxx v) k w = same-parts k (omega arith) (omega arith) (omega arith) (unsigned-part 1 w (omega arith))
+parts-in (Xxd v) k w = same-parts k (omega arith) (omega arith) refl (unsigned-part 1 w (omega arith))
 
 pub parts-are : (k : Kind) (w : ℕ) → fieldsOf (layoutOf (formOf k)) k w ≡ partsOf (sheetLine k) k w
 parts-are k w = parts-in (formOf k) k w ∙ ap (λ (l : Line). partsOf l k w) (sym (line-is k))
@@ -97,6 +101,8 @@ rest (ASigned v) e f = e * 256
 rest (AUnsigned v) e f = e * 256
 rest (DSigned v) e f = e * 256
 rest (DUnsigned v) e f = e * 256
+rest (Xxx v) e f = f
+rest (Xxd v) e f = f
 
 -- the same of a word
 abbrev pub restOf : Form → ℕ → ℕ
@@ -133,6 +139,8 @@ word-in (ASigned v) g a b d x p q r s = omega (arith, g .low)
 word-in (AUnsigned v) g a b d x p q r s = omega (arith, g .low)
 word-in (DSigned v) g a b d x p q r s = omega (arith, g .low)
 word-in (DUnsigned v) g a b d x p q r s = omega (arith, g .low)
+word-in (Xxx v) g a b d x p q r s = omega (arith, g .low)
+word-in (Xxd v) g a b d x p q r s = omega (arith, g .low)
 
 bits-in : (y : Form) (n : ℤ) → bitsOf (layoutOf y .size) (layoutOf y .negatives) n
     ≡ pick (inRange (lineOf y .number) (lineOf y .format .n) n) (Bits (lowBits (lineOf y .format .n .count) n)) Nothing
@@ -145,6 +153,8 @@ bits-in (ASigned v) n = signed-bits 8 127 n refl
 bits-in (AUnsigned v) n = unsigned-bits 8 n
 bits-in (DSigned v) n = signed-bits 8 127 n refl
 bits-in (DUnsigned v) n = unsigned-bits 8 n
+bits-in (Xxx v) n = unsigned-bits 0 n
+bits-in (Xxd v) n = unsigned-bits 0 n
 
 -- as many values as the line's bits can hold
 record Sizes (m : Layout) (l : Line) : Type 0 where
@@ -163,6 +173,8 @@ sizes (ASigned v) = record { a = refl; b = refl; d = refl; n = refl }
 sizes (AUnsigned v) = record { a = refl; b = refl; d = refl; n = refl }
 sizes (DSigned v) = record { a = refl; b = refl; d = refl; n = refl }
 sizes (DUnsigned v) = record { a = refl; b = refl; d = refl; n = refl }
+sizes (Xxx v) = record { a = refl; b = refl; d = refl; n = refl }
+sizes (Xxd v) = record { a = refl; b = refl; d = refl; n = refl }
 
 -- the code's tests one after the other are the line's
 tested : (a b d n : Bool) (m : Layout) (i : Instruction) (x v : ℕ) → (a ≡ true → b ≡ true → d ≡ true → wordSum m (i .a) (i .b) (i .d) x ≡ v)
@@ -197,6 +209,8 @@ sound-in (ASigned v) g = omega (arith, g .low)
 sound-in (AUnsigned v) g = omega (arith, g .low)
 sound-in (DSigned v) g = omega (arith, g .low)
 sound-in (DUnsigned v) g = omega (arith, g .low)
+sound-in (Xxx v) g = omega (arith, g .low)
+sound-in (Xxd v) g = omega (arith, g .low)
 
 pub sound : (k : Kind) → Sound (layoutOf (formOf k))
 sound k = sound-in (formOf k) (fixed k)

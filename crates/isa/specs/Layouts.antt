@@ -12,7 +12,7 @@ use Rattle.isa.specs.declared.Instruction.{Instruction}
 use Rattle.isa.specs.declared.Writing.{Writing}
 use Rattle.isa.specs.declared.Writing.the-variants.{Word, Refused}
 use Rattle.isa.specs.declared.layout.Form.{Form}
-use Rattle.isa.specs.declared.layout.Form.the-variants.{Abd, Axd, AdSigned, AbSigned, Adx, ASigned, AUnsigned, DSigned, DUnsigned}
+use Rattle.isa.specs.declared.layout.Form.the-variants.{Abd, Axd, AdSigned, AbSigned, Adx, ASigned, AUnsigned, DSigned, DUnsigned, Xxx, Xxd}
 use Rattle.isa.specs.declared.layout.Layout.{Layout}
 use Rattle.isa.specs.declared.parts.Low.{Low}
 use Rattle.isa.specs.declared.parts.Low.the-variants.{Nothing, Bits}
@@ -32,7 +32,7 @@ forms =
     ∷ Abd 0x1000 ∷ Abd 0x1001 ∷ Abd 0x1003 ∷ Abd 0x1004 ∷ Abd 0x1005
     ∷ AdSigned 0x2000 ∷ AdSigned 0x3000 ∷ AbSigned 0x4000 ∷ AdSigned 0x5000 ∷ AbSigned 0x6000 ∷ Adx 0x7000
     ∷ ASigned 0x8000 ∷ ASigned 0x8100 ∷ DSigned 0x9000 ∷ DUnsigned 0x9100 ∷ DUnsigned 0xA000 ∷ AUnsigned 0xA100
-    ∷ Abd 0xB000 ∷ Abd 0xB001 ∷ Abd 0xB002 ∷ Abd 0xB004 ∷ Abd 0xB005 ∷ []
+    ∷ Abd 0xB000 ∷ Abd 0xB001 ∷ Abd 0xB002 ∷ Abd 0xB004 ∷ Abd 0xB005 ∷ Xxx 0xC000 ∷ Xxx 0xC001 ∷ Xxx 0xC002 ∷ Xxd 0xC003 ∷ []
 
 abbrev pub formOf : Kind → Form
 formOf k = getD forms (kindNumber k) (Abd 0)
@@ -50,6 +50,8 @@ layoutOf (ASigned x) = numbersOf x 8 1 1 512 256 128
 layoutOf (AUnsigned x) = numbersOf x 8 1 1 512 256 0
 layoutOf (DSigned x) = numbersOf x 1 1 8 512 256 128
 layoutOf (DUnsigned x) = numbersOf x 1 1 8 512 256 0
+layoutOf (Xxx x) = numbersOf x 1 1 1 8 1 0
+layoutOf (Xxd x) = numbersOf x 1 1 8 8 1 0
 
 -- the word of parts a, b, d and n's bits x
 abbrev pub wordSum : Layout → ℕ → ℕ → ℕ → ℕ → ℕ

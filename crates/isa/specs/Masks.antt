@@ -38,7 +38,7 @@ readsOf k w =
     (bitOr (registerMask (sheetLine k .format .a) w) (registerMask (sheetLine k .format .b) w))
     (pick (readsDestination k) (registerMask (sheetLine k .format .d) w) 0)
 
--- It writes Rd where its format has it: ST, STB, BZ, BNZ and OUT write none.
+-- It writes Rd where its format has it: ST, STB, BZ, BNZ, OUT, EI, DI and RETI write none.
 abbrev pub writesOf : Kind → ℕ → ℕ
 writesOf k w = registerMask (sheetLine k .format .d) w
 

@@ -1,5 +1,5 @@
 -- The reference sheet (004): its instruction formats, its table, a line for each of its 25 instructions, and the opcodes; with the five
--- instructions of opcode 11 (02, L6).
+-- instructions of opcode 11 (02, L6) and the four of opcode 12 (02, L12).
 use Prim.Native.Nat.{ℕ}
 use mathlib.Core.List.{List, [], _∷_}
 use lib.Dec.{eqb}
@@ -7,7 +7,7 @@ use lib.ListN.{getD}
 use Rattle.word.specs.Fields.{Bits, bits}
 use Rattle.word.specs.Word.{pick}
 use Rattle.kinds.specs.declared.Kind.{Kind}
-use Rattle.kinds.specs.declared.Kind.the-variants.{And, Or, Xor, Not, Add, Sub, Sha, Shl, Cmplt, Cmple, Cmpeq, Cmpltu, Cmpleu, Addi, Ld, St, Ldb, Stb, Jalr, Bz, Bnz, Movi, Movhi, In, Out, Mul, Mulh, Mulhu, Div, Divu}
+use Rattle.kinds.specs.declared.Kind.the-variants.{And, Or, Xor, Not, Add, Sub, Sha, Shl, Cmplt, Cmple, Cmpeq, Cmpltu, Cmpleu, Addi, Ld, St, Ldb, Stb, Jalr, Bz, Bnz, Movi, Movhi, In, Out, Mul, Mulh, Mulhu, Div, Divu, Ei, Di, Reti, Getiid}
 use Rattle.isa.specs.declared.rows.Entry.{Entry}
 use Rattle.isa.specs.declared.rows.Entry.the-variants.{Unassigned, Assigned}
 
@@ -51,6 +51,16 @@ R1-a = record { a = bits 11 9; b = no-bits; d = no-bits; n = bits 7 0; ignored =
 -- 1R   c c c c  d d d  e  n n n n n n n n             MOVI, MOVHI, IN
 abbrev pub R1-d : Format
 R1-d = record { a = no-bits; b = no-bits; d = bits 11 9; n = bits 7 0; ignored = no-bits }
+
+-- 02, L12: our coding is opcode 12, f = 0, 1, 2, 3, destination bits 5..3. Unused bits are written 0 and ignored when read.
+
+-- 0R   c c c c  x x x  x x x  x x x  f f f            EI, DI, RETI
+abbrev pub R0 : Format
+R0 = record { a = no-bits; b = no-bits; d = no-bits; n = no-bits; ignored = bits 11 3 }
+
+-- 1R   c c c c  x x x  x x x  d d d  f f f            GETIID
+abbrev pub R1-GETIID : Format
+R1-GETIID = record { a = no-bits; b = no-bits; d = bits 5 3; n = no-bits; ignored = bits 11 6 }
 
 -- ---- The table: the columns Format, Op. Code, e and F, and how the bits of n are read (footnote 5).
 
@@ -137,6 +147,14 @@ sheetLine Mulhu = line R3 0xB (F 2)
 sheetLine Div = line R3 0xB (F 4)
 -- DIVU Rd, Ra, Rb     1011 aaa bbb ddd 101
 sheetLine Divu = line R3 0xB (F 5)
+-- EI                  1100 xxx xxx xxx 000
+sheetLine Ei = line R0 0xC (F 0)
+-- DI                  1100 xxx xxx xxx 001
+sheetLine Di = line R0 0xC (F 1)
+-- RETI                1100 xxx xxx xxx 010
+sheetLine Reti = line R0 0xC (F 2)
+-- GETIID Rd           1100 xxx xxx ddd 011
+sheetLine Getiid = line R1-GETIID 0xC (F 3)
 
 -- ---- The opcodes: what tells the instructions of one opcode apart is f, nothing, or e; or the opcode is unassigned.
 
@@ -158,6 +176,10 @@ comparisonKinds = Assigned Cmplt ∷ Assigned Cmple ∷ Unassigned ∷ Assigned 
 abbrev pub muldivKinds : List Entry
 muldivKinds = Assigned Mul ∷ Assigned Mulh ∷ Assigned Mulhu ∷ Unassigned ∷ Assigned Div ∷ Assigned Divu ∷ Unassigned ∷ Unassigned ∷ []
 
+-- EI, DI, RETI, GETIID, and other f unassigned
+abbrev pub interruptKinds : List Entry
+interruptKinds = Assigned Ei ∷ Assigned Di ∷ Assigned Reti ∷ Assigned Getiid ∷ Unassigned ∷ Unassigned ∷ Unassigned ∷ Unassigned ∷ []
+
 abbrev pub kindRows : List KindRow
 kindRows =
     -- 0 and 1
@@ -174,10 +196,10 @@ kindRows =
     ∷ by-e Bz Bnz
     ∷ by-e Movi Movhi
     ∷ by-e In Out
-    -- 11
+    -- 11 and 12
     ∷ by-f muldivKinds
-    -- 12 to 15
-    ∷ unassigned
+    ∷ by-f interruptKinds
+    -- 13 to 15
     ∷ unassigned
     ∷ unassigned
     ∷ unassigned

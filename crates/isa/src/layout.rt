@@ -26,6 +26,10 @@ pub enum Form {
     // d e n
     DSigned(u16),
     DUnsigned(u16),
+    // x x x f
+    Xxx(u16),
+    // x x d f
+    Xxd(u16),
 }
 
 // A form in numbers: the fixed bits; how many values a, b and d may have (1 where the part is unused, and so 0);
@@ -41,7 +45,7 @@ pub struct Layout {
 }
 
 // The form of each kind, by the kind's number.
-const FORMS: [Form; 30] = [
+const FORMS: [Form; 34] = [
     Form::Abd(0x0000), // AND
     Form::Abd(0x0001), // OR
     Form::Abd(0x0002), // XOR
@@ -72,6 +76,10 @@ const FORMS: [Form; 30] = [
     Form::Abd(0xB002), // MULHU
     Form::Abd(0xB004), // DIV
     Form::Abd(0xB005), // DIVU
+    Form::Xxx(0xC000), // EI
+    Form::Xxx(0xC001), // DI
+    Form::Xxx(0xC002), // RETI
+    Form::Xxd(0xC003), // GETIID
 ];
 
 fn form_at(number: u8) -> Form
@@ -109,6 +117,8 @@ fn in_numbers(form: Form) -> Layout
         Form::AUnsigned(base) => numbers(base, 8, 1, 1, 512, 256, 0),
         Form::DSigned(base) => numbers(base, 1, 1, 8, 512, 256, 128),
         Form::DUnsigned(base) => numbers(base, 1, 1, 8, 512, 256, 0),
+        Form::Xxx(base) => numbers(base, 1, 1, 1, 8, 1, 0),
+        Form::Xxd(base) => numbers(base, 1, 1, 8, 8, 1, 0),
     }
 }
 

@@ -11,13 +11,16 @@ pub enum Entry {
 }
 
 // The tables hold the kinds' numbers, and NO where there is no kind.
-const NO: u8 = 30;
+const NO: u8 = 34;
 
 // Opcode 0 by f: AND, OR, XOR, NOT, ADD, SUB, SHA, SHL; then opcode 1: CMPLT, CMPLE, -, CMPEQ, CMPLTU, CMPLEU, -, -.
 const BY_F: [u8; 16] = [0, 1, 2, 3, 4, 5, 6, 7, 8, 9, NO, 10, 11, 12, NO, NO];
 
 // Opcode 11 by f: MUL, MULH, MULHU, -, DIV, DIVU, -, -.
 const MULDIV_BY_F: [u8; 8] = [25, 26, 27, NO, 28, 29, NO, NO];
+
+// Opcode 12 by f: EI, DI, RETI, GETIID, -, -, -, -.
+const INTERRUPT_BY_F: [u8; 8] = [30, 31, 32, 33, NO, NO, NO, NO];
 
 // Opcodes 2 to 10 where e is 0: ADDI, LD, ST, LDB, STB, JALR, BZ, MOVI, IN.
 const E0: [u8; 9] = [13, 14, 15, 16, 17, 18, 19, 21, 23];
@@ -37,7 +40,10 @@ pub fn number_of(w: u16) -> u8
     if op == 11 {
         return MULDIV_BY_F[f];
     }
-    if 11 < op {
+    if op == 12 {
+        return INTERRUPT_BY_F[f];
+    }
+    if 12 < op {
         return NO;
     }
     if w / 256 % 2 == 0 {

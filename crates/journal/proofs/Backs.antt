@@ -2,7 +2,8 @@
 -- Assumes nothing.
 use mathlib.Core.Path.{_≡_, refl, sym, ap, _∙_}
 use mathlib.Core.List.{List}
-use Prim.Native.Nat.{ℕ, _-_, _≤_}
+use Prim.Native.Nat.{ℕ, zero, suc, _-_, _≤_}
+use native.Mathlib.Omega.{arith}
 use lib.ListN.{getD}
 use Rattle.word.proofs.Tables.{vacant}
 use Rattle.machine.specs.declared.State.{State}
@@ -13,6 +14,15 @@ use Rattle.journal.specs.Parts.{machineWith, IsUndone}
 -- PC is that before the step, and n is less by 1
 abbrev pub retreatedBy : ℕ → State → State
 retreatedBy x s = putPC (pcIn x) (putN (s .n - 1) s)
+
+-- f is none of the numbers 1 to n, as a `match` tells it to its last arm
+abbrev NoneTo : ℕ → ℕ → Type 0
+NoneTo zero f = Unit {0}
+NoneTo (suc n) f = NoneTo n f × (f ≡ suc n → ⊥)
+
+pub over-to : (n f : ℕ) → NoneTo n f → (f ≡ 0 → ⊥) → suc n ≤ f
+over-to zero f p z = omega arith
+over-to (suc n) f p z = omega (arith, over-to n f (p .0) z)
 
 module _ (x : ℕ) (s : State) (D I O : List ℕ) (s′ : State) (D′ I′ O′ : List ℕ) where
   -- what is overwritten is put back
@@ -26,5 +36,5 @@ module _ (x : ℕ) (s : State) (D I O : List ℕ) (s′ : State) (D′ I′ O′
   pub undo-at : (j : ℕ) → whatIn x ≡ j → PutsBack (getD (readings x) j nothing) → IsUndone x s D I O s′ D′ I′ O′
   undo-at j has = put-back (ap (λ k. getD (readings x) k nothing) has)
 
-  pub undo-of-none : ((whatIn x ≡ 0 → ⊥) → 6 ≤ whatIn x) → PutsBack nothing → IsUndone x s D I O s′ D′ I′ O′
+  pub undo-of-none : ((whatIn x ≡ 0 → ⊥) → 8 ≤ whatIn x) → PutsBack nothing → IsUndone x s D I O s′ D′ I′ O′
   undo-of-none h = put-back (sym (vacant (readings x) 0 nothing (whatIn x) refl h))

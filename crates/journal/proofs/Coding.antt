@@ -2,13 +2,13 @@
 -- Assumes nothing.
 use mathlib.Core.Path.{_≡_, refl, ap, _∙_}
 use mathlib.Core.Bool.{Bool, true, false}
-use Prim.Native.Nat.{ℕ, _%_, _<_}
+use Prim.Native.Nat.{ℕ, _+_, _*_, _/_, _%_, _<_}
 use native.Mathlib.Omega.{arith}
 use lib.Dec.{eqb}
 use lib.ListN.{getD}
 use Rattle.word.specs.Word.{clear0}
 use Rattle.word.proofs.Tables.{looked-up}
-use Rattle.journal.specs.Journal.{Overwritten, nothing, register, data-word, data-byte, output-word, key-read, coded, pcIn, valueIn, placeIn, whatIn, whichIn, entryWith, readings, overwrittenIn, isOutput}
+use Rattle.journal.specs.Journal.{Overwritten, nothing, register, data-word, data-byte, output-word, key-read, enable-flag, line-taken, coded, pcIn, valueIn, placeIn, whatIn, whichIn, entryWith, readings, overwrittenIn, isOutput}
 use Rattle.journal.proofs.Widths.{_then_, IsWord}
 
 -- the places and numbers that an entry can hold
@@ -19,6 +19,8 @@ Fits (data-word k v) = IsWord k × (k % 2 ≡ 0) × IsWord v
 Fits (data-byte k v) = IsWord k × IsWord v
 Fits (output-word k v) = (k < 256) × IsWord v
 Fits (key-read k v s) = (k < 8) × IsWord v × IsWord s
+Fits (enable-flag v) = v < 256
+Fits (line-taken k e j v) = (k < 8) × (e < 256) × (j < 256) × IsWord v
 
 -- an output is what was overwritten
 abbrev pub isPort : Overwritten → Bool
@@ -28,6 +30,8 @@ isPort (data-word k v) = false
 isPort (data-byte k v) = false
 isPort (output-word k v) = true
 isPort (key-read k v s) = false
+isPort (enable-flag v) = false
+isPort (line-taken k e j v) = false
 
 -- ---- The fields of an entry
 
@@ -93,6 +97,17 @@ read-back pc (key-read k v s) hp h =
     let f = fields pc v s 5 k hp (h .1) (h .2) (omega arith) (omega arith) in
     let p : whichIn (coded pc v s 5 k) % 8 ≡ k = omega (arith, f .which-is) in
     reads f (key-read k v s) (λ i. key-read (p i) (f .value-is i) (f .place-is i)) refl
+read-back pc (enable-flag v) hp h =
+    let f = fields pc v 0 6 0 hp (omega arith) (omega arith) (omega arith) (omega arith) in
+    let p : valueIn (coded pc v 0 6 0) % 256 ≡ v = omega (arith, f .value-is) in
+    reads f (enable-flag v) (λ i. enable-flag (p i)) refl
+read-back pc (line-taken k e j v) hp h =
+    let x = coded pc v (e + 256 * j) 7 k in
+    let f = fields pc v (e + 256 * j) 7 k hp (h .3) (omega arith) (omega arith) (omega arith) in
+    let p : whichIn x % 8 ≡ k = omega (arith, f .which-is) in
+    let q : placeIn x % 256 ≡ e = omega (arith, f .place-is) in
+    let r : placeIn x / 256 ≡ j = omega (arith, f .place-is) in
+    reads f (line-taken k e j v) (λ i. line-taken (p i) (q i) (r i) (f .value-is i)) refl
 
 pub reading-fits : (x : ℕ) → Fits (overwrittenIn x)
 unfolding overwrittenIn
@@ -104,5 +119,7 @@ reading-fits x =
     then (omega arith, omega arith)
     then (omega arith, omega arith)
     then (omega arith, omega arith, omega arith)
+    then omega arith
+    then (omega arith, omega arith, omega arith, omega arith)
     then tt)
     tt (whatIn x)

@@ -1,12 +1,12 @@
--- What the step of a word writes, by the table of opcodes: of each rule, what it writes over what and where PC goes, from the machine
+-- What a step writes, a line taken or by the table of opcodes: of each rule, what it writes over what and where PC goes, from the machine
 -- before the step.
 -- Assumes nothing.
 use mathlib.Core.Path.{_≡_, refl, subst}
-use mathlib.Core.Bool.{Bool, true, false, _&&_}
+use mathlib.Core.Bool.{Bool, true, false, not, _&&_, and-eq-true-iff}
 use mathlib.Core.List.{List, [], _∷_}
 use Prim.Native.Nat.{ℕ, zero, suc, _+_, _*_, _%_, _<_}
 use native.Mathlib.Omega.{arith}
-use borrow.Author.Tests.{eqb-true, eqb-false, eq-eqb}
+use borrow.Author.Tests.{not-true, eqb-true, eqb-false, eq-eqb, ne-eqb}
 use lib.Dec.{eqb}
 use lib.ListN.{length, getD, set, length-append}
 use lib.Seq.{getD-set-other}
@@ -15,14 +15,16 @@ use Rattle.word.specs.Word.{pick, flag, add, clear0, SE, operation, comparison}
 use Rattle.muldiv.specs.Muldiv.{muldiv}
 use Rattle.word.proofs.Tables.{looked-up}
 use Rattle.word.proofs.Tests.{clash, either}
-use Rattle.machine.specs.Machine.{Machine, R, putPC, count, onState, onInputs, putO, wordAt}
-use Rattle.machine.specs.Step.{PC, Ra, Rb, A, A', d5-3, d8-6, d11-9, write, jump, Rule, compute, compare, addi, ld, st, ldb, stb, jalr, bz, bnz, movi, movhi, input, output, multiplyDivide, RuleRow, by-f, by-f-dividing, one, by-e, no-rule, ruleRows, among, rule, division, unassigned, ruleInRow, choice, fetched, cannot, to, doing, stepBy, step}
-use Rattle.machine.specs.Run.{isOut}
-use Rattle.journal.specs.Journal.{Overwritten, nothing, inRegister, byInput, register, data-word, data-byte, output-word, key-read, overwrittenBy, overwritten, putBack, readsKey, butFor}
+use Rattle.machine.specs.declared.State.{State}
+use Rattle.machine.specs.Machine.{Machine, isEnabled, lowestLine, takesLine, lineTaken, R, putR, putPC, count, onState, onInputs, putO, wordAt}
+use Rattle.machine.specs.Step.{PC, Ra, Rb, A, A', d5-3, d8-6, d11-9, write, jump, Rule, compute, compare, addi, ld, st, ldb, stb, jalr, bz, bnz, movi, movhi, input, output, multiplyDivide, interruptRules, interrupt, RuleRow, by-f, by-f-dividing, one, by-e, no-rule, ruleRows, among, rule, division, unassigned, ruleInRow, choice, fetched, cannot, to, doing, stepBy, taking, byRule, step}
+use Rattle.machine.specs.Run.{isOut, fetchesA}
+use Rattle.journal.specs.Journal.{Overwritten, nothing, inRegister, byInput, register, data-word, data-byte, output-word, key-read, enable-flag, line-taken, byTaking, overwrittenBy, overwritten, overwrittenAt, readsKey, keyBack, butFor}
 use Rattle.journal.specs.Ranges.{InRange}
 use Rattle.journal.proofs.Widths.{_then_, IsWord, extended-fits, operation-fits, comparison-fits, muldiv-fits}
 use Rattle.journal.proofs.Coding.{Fits, isPort}
-use Rattle.journal.proofs.Written.{heldIn, inputsPut}
+use Rattle.journal.proofs.Lines.{lowest-below, in-again}
+use Rattle.journal.proofs.Written.{heldIn, inputsPut, lineIn, written, Has}
 
 -- PC = PC+2 is done
 abbrev on : Machine → Machine
@@ -36,15 +38,16 @@ logged L m = butFor (m .I) L m
 abbrev byInputOf : Bool → ℕ → Machine → Overwritten
 byInputOf t w m = pick t (key-read (d11-9 w) (R (m .state) (d11-9 w)) (getD (m .I) 0 0)) (inRegister (d11-9 w) m)
 
--- What a rule makes of m, PC = PC+2 done. It writes c, which overwrites o, PC becomes p, and the log becomes L, which is longer by one
--- where a port is written.
+-- What a rule, PC = PC+2 done, or taking a line makes of m. It writes c, which overwrites o, PC becomes p, and the log becomes L, which is
+-- longer by one where a port is written.
 pub record Makes (m after : Machine) (o : Overwritten) (port : Bool) : Type 0 where
   pub c : Overwritten
   pub p : ℕ
   pub L : List ℕ
-  pub after-is : after ≡ logged L (onState (putPC p) (putBack c m))
+  pub after-is : after ≡ logged L (onState (putPC p) (written c m))
   pub over : heldIn c m ≡ o
   pub fits : InRange m → Fits c
+  pub has : InRange m → Has (lineIn c) (m .state .pending)
   pub goes : InRange m → IsWord p
   pub port-is : isPort (heldIn c m) ≡ port
   pub grows : length L ≡ length (m .L) + flag port
@@ -54,22 +57,23 @@ abbrev pub Stepped : Machine → Machine → Overwritten → Bool → Type 0
 Stepped m next o port = (after : Machine) × (next ≡ onState count after) × Makes m after o port
 
 module _ (m : Machine) (w : ℕ) where
-  -- c is written, no port, and PC becomes p
+  -- c is written, no port, no line is taken, and PC becomes p
   abbrev Written : Rule → Overwritten → ℕ → Type 0
-  Written x c p = x w (on m) ≡ logged (m .L) (onState (putPC p) (putBack c m))
+  Written x c p = x w (on m) ≡ logged (m .L) (onState (putPC p) (written c m))
 
-  quiet : (x : Rule) (c : Overwritten) (p : ℕ) → Written x c p → (InRange m → Fits c) → (InRange m → IsWord p) → isPort (heldIn c m) ≡ false → Makes m (x w (on m)) (heldIn c m) false
-  quiet x c p e f g t =
-      record { c = c; p = p; L = m .L; after-is = e; over = refl; fits = f; goes = g; port-is = t; grows = omega arith }
+  quiet : (x : Rule) (c : Overwritten) (p : ℕ) → Written x c p → (InRange m → Fits c) → (InRange m → IsWord p) → isPort (heldIn c m) ≡ false → Has (lineIn c) (m .state .pending)
+      → Makes m (x w (on m)) (heldIn c m) false
+  quiet x c p e f g t l =
+      record { c = c; p = p; L = m .L; after-is = e; over = refl; fits = f; has = λ r. l; goes = g; port-is = t; grows = omega arith }
 
   -- Rd becomes v, and PC becomes PC+2
   writes : (x : Rule) (d v : ℕ) → Written x (register d v) (add (PC m) 2) → d < 8 → (InRange m → IsWord v) → Makes m (x w (on m)) (heldIn (register d v) m) false
-  writes x d v e hd hv = quiet x (register d v) (add (PC m) 2) e (λ r. (hd, hv r)) (λ r. omega arith) refl
+  writes x d v e hd hv = quiet x (register d v) (add (PC m) 2) e (λ r. (hd, hv r)) (λ r. omega arith) refl tt
 
   -- nothing is written, and PC becomes one of two
   branches : (x : Rule) (t : Bool) (p q : ℕ) → x w (on m) ≡ pick t (jump p m) (jump q m) → IsWord p → IsWord q → Makes m (x w (on m)) nothing false
-  branches x true p q e hp hq = quiet x nothing p e (λ r. tt) (λ r. hp) refl
-  branches x false p q e hp hq = quiet x nothing q e (λ r. tt) (λ r. hq) refl
+  branches x true p q e hp hq = quiet x nothing p e (λ r. tt) (λ r. hp) refl tt
+  branches x false p q e hp hq = quiet x nothing q e (λ r. tt) (λ r. hq) refl tt
 
   -- ---- The table
 
@@ -105,7 +109,7 @@ module _ (m : Machine) (w : ℕ) where
 
   by-key : (t : Bool) → Makes m (inputBy t w (on m)) (byInputOf t w m) false
   by-key true =
-      quiet (inputBy true) (key-read (d11-9 w) (getD (m .I) (N8 w) 0) 0) (add (PC m) 2) refl (λ r. (omega arith, r .inputs .below (N8 w), omega arith)) (λ r. omega arith) refl
+      quiet (inputBy true) (key-read (d11-9 w) (getD (m .I) (N8 w) 0) 0) (add (PC m) 2) refl (λ r. (omega arith, r .inputs .below (N8 w), omega arith)) (λ r. omega arith) refl tt
   by-key false = writes (inputBy false) (d11-9 w) (getD (m .I) (N8 w) 0) refl (omega arith) (λ r. r .inputs .below (N8 w))
 
   by-port : (t : Bool) → eqb (e-of w) 0 ≡ t
@@ -121,6 +125,7 @@ module _ (m : Machine) (w : ℕ) where
         after-is = refl;
         over = refl;
         fits = λ r. (omega arith, r .registers .below (a-of w));
+        has = λ r. tt;
         goes = λ r. omega arith;
         port-is = refl;
         grows = length-append (m .L) _;
@@ -136,12 +141,25 @@ module _ (m : Machine) (w : ℕ) where
   by-number true = writes movi (d11-9 w) (SE 8 (N8 w)) refl (omega arith) (λ r. extended-fits 8 (N8 w))
   by-number false = writes movhi (d11-9 w) (R (m .state) (d11-9 w) % 256 + N8 w * 256) refl (omega arith) (λ r. omega arith)
 
+  -- by f; one that is not assigned changes nothing, and what it is said to overwrite stays
+  abbrev interruptBy : ℕ → Rule
+  interruptBy f w m = onState (λ s. getD (interruptRules (putR (d5-3 w)) s) f s) m
+
+  by-interrupt : (f : ℕ) → Makes m (interruptBy f w (on m)) (pick (eqb f 3) (inRegister (d5-3 w) m) (enable-flag (m .state .enabled))) false
+  by-interrupt zero = quiet (interruptBy 0) (enable-flag 1) (add (PC m) 2) refl (λ r. omega arith) (λ r. omega arith) refl tt
+  by-interrupt (suc zero) = quiet (interruptBy 1) (enable-flag 0) (add (PC m) 2) refl (λ r. omega arith) (λ r. omega arith) refl tt
+  by-interrupt (suc (suc zero)) = quiet (interruptBy 2) (enable-flag 1) (m .state .«return_address») refl (λ r. omega arith) (λ r. r .address) refl tt
+  by-interrupt (suc (suc (suc zero))) = writes (interruptBy 3) (d5-3 w) (m .state .line) refl (omega arith) (λ r. omega (arith, r .line))
+  by-interrupt (suc (suc (suc (suc f)))) =
+      rw (ne-eqb (suc (suc (suc (suc f)))) 3 (λ e. omega (arith, e)))
+      (quiet (interruptBy (suc (suc (suc (suc f))))) (enable-flag (m .state .enabled)) (add (PC m) 2) refl (λ r. r .enabled) (λ r. omega arith) refl tt)
+
   -- what a rule computes of Ra and Rb is a word
   of-words : (g : ℕ → ℕ → ℕ → ℕ) → ((f x y : ℕ) → IsWord x → IsWord y → IsWord (g f x y)) → InRange m → IsWord (g (f-of w) (Ra w m) (Rb w m))
   of-words g fits r = fits (f-of w) (Ra w m) (Rb w m) (r .registers .below (a-of w)) (r .registers .below (b-of w))
 
   all-rows : Along ruleRows (overwrittenBy w m) (λ op. eqb op 10 && eqb (e-of w) 1)
-  unfolding Along RowMakes compute compare addi ld st ldb stb jalr multiplyDivide
+  unfolding Along RowMakes compute compare addi ld st ldb stb jalr multiplyDivide interrupt
   all-rows =
       -- 0 to 3
       writes compute (d5-3 w) _ refl (omega arith) (of-words operation operation-fits)
@@ -149,17 +167,17 @@ module _ (m : Machine) (w : ℕ) where
       then writes addi (d8-6 w) (A w m) refl (omega arith) (λ r. omega arith)
       then writes ld (d8-6 w) (wordAt (m .D) (A' w m)) refl (omega arith) (λ r. omega (arith, r .memory .below (A' w m), r .memory .below (add (A' w m) 1)))
       -- 4 to 7
-      then quiet st (data-word (A' w m) (Rb w m)) (add (PC m) 2) refl (λ r. (omega arith, omega arith, r .registers .below (b-of w))) (λ r. omega arith) refl
+      then quiet st (data-word (A' w m) (Rb w m)) (add (PC m) 2) refl (λ r. (omega arith, omega arith, r .registers .below (b-of w))) (λ r. omega arith) refl tt
       then writes ldb (d8-6 w) (SE 8 (getD (m .D) (A w m) 0)) refl (omega arith) (λ r. extended-fits 8 (getD (m .D) (A w m) 0))
-      then quiet stb (data-byte (A w m) (Rb w m)) (add (PC m) 2) refl (λ r. (omega arith, r .registers .below (b-of w))) (λ r. omega arith) refl
-      then quiet jalr (register (d8-6 w) (add (PC m) 2)) (clear0 (Ra w m)) refl (λ r. (omega arith, omega arith)) (λ r. omega (arith, r .registers .below (a-of w))) refl
+      then quiet stb (data-byte (A w m) (Rb w m)) (add (PC m) 2) refl (λ r. (omega arith, r .registers .below (b-of w))) (λ r. omega arith) refl tt
+      then quiet jalr (register (d8-6 w) (add (PC m) 2)) (clear0 (Ra w m)) refl (λ r. (omega arith, omega arith)) (λ r. omega (arith, r .registers .below (a-of w))) refl tt
       -- 8 to 11
       then (λ t e. by-zero t)
       then (λ t e. by-number t)
       then by-port
       then writes multiplyDivide (d5-3 w) _ refl (omega arith) (of-words muldiv muldiv-fits)
       -- 12 to 15
-      then tt
+      then by-interrupt (f-of w)
       then tt
       then tt
       then tt
@@ -191,12 +209,47 @@ module _ (m : Machine) (w : ℕ) where
   by-row (by-e x₀ x₁) made = λ e. did e (made (eqb (e-of w) 0) refl)
   by-row no-rule made = λ e. clash (cc)
 
-pub stepped : (m next : Machine) → step m ≡ to next → Stepped m next (overwritten (fetched m) m) (isOut (fetched m))
-unfolding step choice overwritten
-stepped m next e =
-    let w = fetched m in
-    by-row m w (getD ruleRows (opcode w) no-rule)
-    (along-at m w ruleRows (overwrittenBy w m) (λ op. eqb op 10 && eqb (e-of w) 1) (all-rows m w) (opcode w)) e
+  by-table : {next : Machine} → byRule w m ≡ to next → Stepped m next (overwritten w m) (isOut w)
+  unfolding choice overwritten
+  by-table =
+      by-row (getD ruleRows (opcode w) no-rule) (along-at ruleRows (overwrittenBy w m) (λ op. eqb op 10 && eqb (e-of w) 1) all-rows (opcode w))
+
+-- ---- A line taken
+
+-- some line is pending
+some-line : (s : State) → takesLine s ≡ true → 0 < s .pending
+some-line s e =
+    let none : eqb (s .pending) 0 ≡ false = not-true _ (and-eq-true-iff (isEnabled s) (not (eqb (s .pending) 0)) .0 e .1) in
+    omega (arith, eqb-false (s .pending) 0 none)
+
+taken : (m : Machine) → takesLine (m .state) ≡ true → Makes m (onState lineTaken m) (byTaking (m .state)) false
+taken m e =
+    let p = m .state .pending in
+    let k = lowestLine p in
+    let some = some-line (m .state) e in
+    record {
+      c = line-taken k 0 k (PC m);
+      p = 0x0100;
+      L = m .L;
+      after-is = refl;
+      over = refl;
+      fits = λ r. let l = lowest-below p some (r .pending) in (l, omega arith, omega arith, r .pc);
+      has = λ r. in-again p some (r .pending);
+      goes = λ r. omega arith;
+      port-is = refl;
+      grows = omega arith;
+    }
+
+pub stepped : (m next : Machine) → step m ≡ to next → Stepped m next (overwrittenAt m) (fetchesA isOut m)
+unfolding step
+stepped m next = go (takesLine (m .state)) refl
+  where
+    w : ℕ
+    w = fetched m
+
+    go : (t : Bool) → takesLine (m .state) ≡ t → pick t (taking m) (byRule w m) ≡ to next → Stepped m next (pick t (byTaking (m .state)) (overwritten w m)) (not t && isOut w)
+    go true h e = did m w e (taken m h)
+    go false h e = by-table m w e
 
 -- ---- What the step of w overwrites fits an entry.
 
@@ -218,11 +271,19 @@ overwritten-fits w {m} r =
     (either Fits (eqb (N8 w) 1) (omega arith, r .registers .below (d11-9 w), r .inputs .below 0) (held (d11-9 w) (omega arith)))
     (omega arith, r .outputs .below (N8 w))
     then held (d5-3 w) (omega arith)
+    then either Fits (eqb (f-of w) 3) (held (d5-3 w) (omega arith)) (r .enabled)
     then tt)
     tt (opcode w)
   where
     held : (d : ℕ) → d < 8 → Fits (inRegister d m)
     held d h = (h, r .registers .below d)
+
+pub overwritten-at-fits : (m : Machine) → InRange m → Fits (overwrittenAt m)
+overwritten-at-fits m r = go (takesLine (m .state)) refl
+  where
+    go : (t : Bool) → takesLine (m .state) ≡ t → Fits (pick t (byTaking (m .state)) (overwritten (fetched m) m))
+    go true e = (lowest-below (m .state .pending) (some-line (m .state) e) (r .pending), r .enabled, r .line, r .address)
+    go false e = overwritten-fits (fetched m) r
 
 -- ---- Where what the step of w overwrote is put back, input 0 is that of m if w reads the key, and no other input changes.
 
@@ -235,17 +296,28 @@ module _ (m : Machine) (w : ℕ) (I : List ℕ) where
   by-e-and-port true false = refl
   by-e-and-port false k = refl
 
+  by-f-3 : (t : Bool) → Puts (pick t (inRegister (d5-3 w) m) (enable-flag (m .state .enabled))) false
+  by-f-3 true = refl
+  by-f-3 false = refl
+
   -- the other opcodes
   none-else : (opcode w ≡ 10 → ⊥) → Puts (getD (overwrittenBy w m) (opcode w) nothing) false
   none-else n =
       subst (λ o. Puts o false) (getD-set-other (overwrittenBy w m) 10 (opcode w) nothing nothing n)
       (looked-up (λ o. Puts o false) (set (overwrittenBy w m) 10 nothing)
-      (refl then refl then refl then refl then refl then refl then refl then refl then refl then refl then refl then refl then tt) refl (opcode w))
+      (refl then refl then refl then refl then refl then refl then refl then refl then refl then refl then refl then refl then by-f-3 (eqb (f-of w) 3) then tt) refl (opcode w))
 
-  pub key-put : Puts (overwritten w m) (readsKey w)
+  key-put : Puts (overwritten w m) (readsKey w)
   unfolding overwritten
   key-put = go (eqb (opcode w) 10) refl
     where
       go : (t : Bool) → eqb (opcode w) 10 ≡ t → Puts (getD (overwrittenBy w m) (opcode w) nothing) (t && eqb (e-of w) 0 && eqb (N8 w) 1)
       go true e = rw (eqb-true (opcode w) 10 e) (by-e-and-port (eqb (e-of w) 0) (eqb (N8 w) 1))
       go false e = none-else (eqb-false (opcode w) 10 e)
+
+pub key-put-at : (m : Machine) (I : List ℕ) → inputsPut (overwrittenAt m) I ≡ keyBack m I
+key-put-at m I = go (takesLine (m .state))
+  where
+    go : (t : Bool) → inputsPut (pick t (byTaking (m .state)) (overwritten (fetched m) m)) I ≡ pick (not t && readsKey (fetched m)) (set I 0 (getD (m .I) 0 0)) I
+    go true = refl
+    go false = key-put m (fetched m) I

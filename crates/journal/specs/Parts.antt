@@ -5,12 +5,12 @@ use mathlib.Core.List.{List}
 use Prim.Native.Nat.{ℕ}
 use lib.Dec.{eqb}
 use lib.ListN.{getD}
-use Rattle.word.specs.Fields.{a-of, e-of, N6, N8}
+use Rattle.word.specs.Fields.{a-of, e-of, f-of, N6, N8}
 use Rattle.word.specs.Word.{pick, add, clear0, SE}
 use Rattle.machine.specs.declared.State.{State}
 use Rattle.machine.specs.Machine.{Machine, R, wordAt}
-use Rattle.machine.specs.Step.{d11-9}
-use Rattle.journal.specs.Journal.{Overwritten, register, data-word, data-byte, output-word, key-read, entryWith, overwritten, undo}
+use Rattle.machine.specs.Step.{d5-3, d11-9}
+use Rattle.journal.specs.Journal.{Overwritten, register, data-word, data-byte, output-word, key-read, enable-flag, entryWith, overwritten, undo}
 
 -- what they see, and the rest
 abbrev pub machineWith : State → List ℕ → List ℕ → List ℕ → List ℕ → List ℕ → Machine
@@ -48,3 +48,7 @@ inputBefore w s I = pick (eqb (N8 w) 1) (key-read (d11-9 w) (R s (d11-9 w)) (get
 -- IN and OUT
 abbrev pub portBefore : ℕ → State → List ℕ → List ℕ → Overwritten
 portBefore w s I O = pick (eqb (e-of w) 0) (inputBefore w s I) (output-word (N8 w) (getD O (N8 w) 0))
+
+-- EI, DI, RETI and GETIID
+abbrev pub interruptBefore : ℕ → State → Overwritten
+interruptBefore w s = pick (eqb (f-of w) 3) (registerBefore (d5-3 w) s) (enable-flag (s .enabled))

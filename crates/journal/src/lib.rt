@@ -2,13 +2,13 @@
 ghost use mathlib.Core.Path.{_≡_};
 ghost use Prim.Native.Nat.{_%_};
 ghost use lib.ListN.{length};
-ghost use Rattle.journal.specs.Journal.{coded, entryWith, isOutput};
-ghost use Rattle.journal.specs.Parts.{addressOf, registerBefore, wordBefore, byteBefore, inputBefore, portBefore, IsEntry, IsUndone};
+ghost use Rattle.journal.specs.Journal.{coded, byTaking, entryWith, isOutput};
+ghost use Rattle.journal.specs.Parts.{addressOf, registerBefore, wordBefore, byteBefore, inputBefore, portBefore, interruptBefore, IsEntry, IsUndone};
 use machine::Address;
 use machine::Port;
 use machine::State;
 
-// An entry: PC before the step, what was held, where, what kind of thing held it, and the register of a read of the key.
+// An entry: PC before the step, what was held, where, what kind of thing held it, and the register of a read of the key or the line taken.
 fn coded(pc: u16, v: u16, k: u16, what: u8, which: u8) -> u64
     ensures { λ r. ⌜ r ≡ coded pc v k what which ⌝ }
 {
@@ -89,6 +89,25 @@ fn at_port(w: u16, state: State, inputs: &[u16], outputs: &[u16]) -> u64
     }
 }
 
+// Of EI, DI and RETI, which overwrite the enable flag, and of GETIID.
+fn of_interrupt(w: u16, state: State) -> u64
+    ensures { λ x. ⌜ x ≡ entryWith (state .pc) (interruptBefore w state) ⌝ }
+{
+    if w % 8 == 3 {
+        of_register(state, w / 8)
+    } else {
+        coded(state.pc, state.enabled as u16, 0, 6, 0)
+    }
+}
+
+// The entry of a step that takes a line.
+pub fn line_entry(state: State) -> u64
+    ensures { λ x. ⌜ x ≡ entryWith (state .pc) (byTaking state) ⌝ }
+{
+    let held = (state.enabled as u16) + 256 * (state.line as u16);
+    coded(state.pc, state.return_address, held, 7, state.lowest_line())
+}
+
 // The entry of the step of w.
 pub fn entry(w: u16, state: State, memory: &[u8], inputs: &[u16], outputs: &[u16]) -> u64
     requires { ⌜ (length (now memory) ≡ 65536) × (length (now inputs) ≡ 256) × (length (now outputs) ≡ 256) ⌝ }
@@ -106,6 +125,7 @@ pub fn entry(w: u16, state: State, memory: &[u8], inputs: &[u16], outputs: &[u16
         9 => of_register(state, w / 512),
         10 => at_port(w, state, inputs, outputs),
         11 => of_register(state, w / 8),
+        12 => of_interrupt(w, state),
         _ => coded(state.pc, 0, 0, 0, 0),
     }
 }
@@ -131,6 +151,7 @@ pub fn undo(
     let back = state.retreated((entry % 65536) as u16);
     let v = (entry / 65536 % 65536) as u16;
     let k = (entry / 4294967296 % 65536) as u16;
+    let which = (entry / 72057594037927936 % 256) as u16;
     match entry / 281474976710656 % 256 {
         1 => back.with_register(k, v),
         2 => {
@@ -147,8 +168,12 @@ pub fn undo(
         }
         5 => {
             bus::write_port(inputs, Port(0), k);
-            back.with_register((entry / 72057594037927936 % 256) as u16, v)
+            back.with_register(which, v)
         }
+        6 => back.with_enabled((v % 256) as u8),
+        7 => back.with_taken((k / 256) as u8, v)
+            .with_line((which % 8) as u8)
+            .with_enabled((k % 256) as u8),
         _ => back,
     }
 }

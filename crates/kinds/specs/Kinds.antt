@@ -1,14 +1,15 @@
--- The 30 kinds of instruction.
+-- The 34 kinds of instruction.
 use Prim.Native.Nat.{ℕ}
 use mathlib.Core.List.{List, [], _∷_}
 use lib.ListN.{length}
 use Rattle.kinds.specs.declared.Kind.{Kind}
-use Rattle.kinds.specs.declared.Kind.the-variants.{And, Or, Xor, Not, Add, Sub, Sha, Shl, Cmplt, Cmple, Cmpeq, Cmpltu, Cmpleu, Addi, Ld, St, Ldb, Stb, Jalr, Bz, Bnz, Movi, Movhi, In, Out, Mul, Mulh, Mulhu, Div, Divu}
+use Rattle.kinds.specs.declared.Kind.the-variants.{And, Or, Xor, Not, Add, Sub, Sha, Shl, Cmplt, Cmple, Cmpeq, Cmpltu, Cmpleu, Addi, Ld, St, Ldb, Stb, Jalr, Bz, Bnz, Movi, Movhi, In, Out, Mul, Mulh, Mulhu, Div, Divu, Ei, Di, Reti, Getiid}
 
--- ---- The kinds in the sheet's order, then opcode 11's (02, L6) by f, and each one's place, from 0 (the numbering is ours).
+-- ---- The kinds in the sheet's order, then opcode 11's (02, L6) and opcode 12's (02, L12) by f, and each one's place, from 0 (the
+-- numbering is ours).
 
 abbrev pub kinds : List Kind
-kinds = And ∷ Or ∷ Xor ∷ Not ∷ Add ∷ Sub ∷ Sha ∷ Shl ∷ Cmplt ∷ Cmple ∷ Cmpeq ∷ Cmpltu ∷ Cmpleu ∷ Addi ∷ Ld ∷ St ∷ Ldb ∷ Stb ∷ Jalr ∷ Bz ∷ Bnz ∷ Movi ∷ Movhi ∷ In ∷ Out ∷ Mul ∷ Mulh ∷ Mulhu ∷ Div ∷ Divu ∷ []
+kinds = And ∷ Or ∷ Xor ∷ Not ∷ Add ∷ Sub ∷ Sha ∷ Shl ∷ Cmplt ∷ Cmple ∷ Cmpeq ∷ Cmpltu ∷ Cmpleu ∷ Addi ∷ Ld ∷ St ∷ Ldb ∷ Stb ∷ Jalr ∷ Bz ∷ Bnz ∷ Movi ∷ Movhi ∷ In ∷ Out ∷ Mul ∷ Mulh ∷ Mulhu ∷ Div ∷ Divu ∷ Ei ∷ Di ∷ Reti ∷ Getiid ∷ []
 
 -- how many there are
 abbrev pub kindCount : ℕ
@@ -45,3 +46,7 @@ kindNumber Mulh = 26
 kindNumber Mulhu = 27
 kindNumber Div = 28
 kindNumber Divu = 29
+kindNumber Ei = 30
+kindNumber Di = 31
+kindNumber Reti = 32
+kindNumber Getiid = 33

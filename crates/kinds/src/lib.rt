@@ -5,7 +5,7 @@ ghost use lib.ListN.{length, getD};
 ghost use Rattle.kinds.specs.declared.Kind.the-variants.{And};
 ghost use Rattle.kinds.specs.Kinds.{kinds, kindNumber};
 
-// The 30 kinds of instruction: 25 in the sheet's order, then opcode 11's.
+// The 34 kinds of instruction: 25 in the sheet's order, then opcode 11's and opcode 12's.
 pub enum Kind {
     And,
     Or,
@@ -37,10 +37,14 @@ pub enum Kind {
     Mulhu,
     Div,
     Divu,
+    Ei,
+    Di,
+    Reti,
+    Getiid,
 }
 
 // How many kinds there are.
-pub const COUNT: usize = 30;
+pub const COUNT: usize = 34;
 
 // The kind's place in that order, from 0.
 pub fn kind_number(kind: Kind) -> u8
@@ -77,6 +81,10 @@ pub fn kind_number(kind: Kind) -> u8
         Kind::Mulhu => 27,
         Kind::Div => 28,
         Kind::Divu => 29,
+        Kind::Ei => 30,
+        Kind::Di => 31,
+        Kind::Reti => 32,
+        Kind::Getiid => 33,
     }
 }
 
@@ -112,6 +120,10 @@ const KINDS: [Kind; COUNT] = [
     Kind::Mulhu,
     Kind::Div,
     Kind::Divu,
+    Kind::Ei,
+    Kind::Di,
+    Kind::Reti,
+    Kind::Getiid,
 ];
 
 // The kind of a number.

@@ -52,8 +52,13 @@ module _ (address : ℕ) (i : Instruction) where
   itemsText f [] = []
   itemsText f (t ∷ ts) = itemText f t ++ itemsText f ts
 
+  -- a space before the operands; nothing where there are none
+  abbrev pub operandsText : Field → List Item → List ℕ
+  operandsText f [] = []
+  operandsText f (t ∷ ts) = ascii " " ++ itemsText f (t ∷ ts)
+
   unfoldable pub instructionText : List ℕ
-  instructionText = rowFor i .mnemonic ++ ascii " " ++ itemsText (rowFor i .field) (rowFor i .items)
+  instructionText = rowFor i .mnemonic ++ operandsText (rowFor i .field) (rowFor i .items)
 
 -- `.word` for an unassigned word
 abbrev pub textAs : ℕ → ℕ → Read → List ℕ

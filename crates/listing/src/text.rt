@@ -111,9 +111,19 @@ fn with_instruction(text: Printed, address: u16, i: Instruction) -> Printed
     let table = rows::table();
     let from = rows::ROW_BYTES * row;
     let to = from + rows::mnemonic_length(row);
-    let named = text.with_word(&table[from..to]).with_byte(b' ');
+    let named = text.with_word(&table[from..to]);
     let operands = from + rows::OPERANDS_AT;
-    with_items(named, &table, operands, address, rows::field_of(row), i)
+    if table[operands] == b' ' {
+        return named;
+    }
+    with_items(
+        named.with_byte(b' '),
+        &table,
+        operands,
+        address,
+        rows::field_of(row),
+        i,
+    )
 }
 
 fn with_text(text: Printed, address: u16, word: u16, reading: Reading) -> Printed

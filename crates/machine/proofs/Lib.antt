@@ -3,3 +3,4 @@ pub mod Registers
 pub mod Inputs
 pub mod Runs
 pub mod Answers
+pub mod Lines

@@ -1,14 +1,16 @@
 -- The laws by which a run goes: no budget, a step that can't be made, a step.
 -- Assumes nothing.
 use mathlib.Core.Path.{_≡_, refl, sym, ap, _∙_}
-use mathlib.Core.Bool.{Bool, true, false}
+use mathlib.Core.Bool.{Bool, true, false, and-eq-true-iff}
 use mathlib.Core.List.{List, [], _∷_}
 use Prim.Native.Nat.{ℕ, suc, _+_, _%_, _≤_}
 use native.Mathlib.Omega.{arith}
+use borrow.Author.Tests.{eqb-true}
+use lib.Dec.{eqb}
 use lib.ListN.{length}
 use Rattle.machine.specs.declared.State.{State}
-use Rattle.machine.specs.Machine.{Machine}
-use Rattle.machine.specs.Step.{PC, Next, cannot, to}
+use Rattle.machine.specs.Machine.{Machine, evenPlaces, takesLine}
+use Rattle.machine.specs.Step.{Next, cannot, to}
 use Rattle.machine.specs.Run.{Stepper, Outcome, noPlace, unless, runFrom, traceFrom}
 use Rattle.machine.specs.Held.{outcomeOf}
 
@@ -67,15 +69,29 @@ module _ (v : Stepper) (budget full : ℕ) (m : Machine) where
 abbrev pub unwritten : State → ℕ × ℕ
 unwritten s = (s .journaled, s .board)
 
+-- PC and the return address are even
+abbrev pub Even : State → Type 0
+Even s = (s .pc % 2 ≡ 0) × (s .«return_address» % 2 ≡ 0)
+
+pub even-places : (s : State) → Even s → evenPlaces s ≡ true
+even-places s h = rw (h .0, h .1)
+
+pub places-even : (s : State) → evenPlaces s ≡ true → Even s
+places-even s e =
+    let both = and-eq-true-iff (eqb (s .pc % 2) 0) (eqb (s .«return_address» % 2) 0) .0 e in
+    (eqb-true _ _ (both .0), eqb-true _ _ (both .1))
+
 pub record Lawful (v : Stepper) : Type 0 where
   -- 0 is no reason why a machine can't step
   pub reasons : (m : Machine) (q : ℕ) → v .steps m ≡ cannot q → q ≡ 0 → ⊥
-  -- a step adds 1 to n, keeps an even PC even and drops no entry of L
+  -- a step adds 1 to n, keeps an even PC and an even return address even and drops no entry of L
   pub counts : (m next : Machine) → v .steps m ≡ to next → next .state .n ≡ m .state .n + 1
-  pub even : (m next : Machine) → v .steps m ≡ to next → PC m % 2 ≡ 0 → PC next % 2 ≡ 0
+  pub even : (m next : Machine) → v .steps m ≡ to next → Even (m .state) → Even (next .state)
   pub grows : (m next : Machine) → v .steps m ≡ to next → length (m .L) ≤ length (next .L)
   -- and leaves the count of journal entries and the board
   pub leaves : (m next : Machine) → v .steps m ≡ to next → unwritten (next .state) ≡ unwritten (m .state)
+  -- and, but for the line that it takes, the lines that are pending
+  pub lines : (m next : Machine) → v .steps m ≡ to next → takesLine (m .state) ≡ false → next .state .pending ≡ m .state .pending
 
 -- ---- By what a step function answers
 

@@ -1,7 +1,8 @@
 -- The plain machine (01): its state, and what may be written in it.
-use Prim.Native.Nat.{ℕ, _+_, _-_, _*_, _/_, _%_}
-use mathlib.Core.Bool.{Bool, not}
+use Prim.Native.Nat.{ℕ, zero, suc, _+_, _-_, _*_, _/_, _%_, _^_}
+use mathlib.Core.Bool.{Bool, not, _&&_}
 use mathlib.Core.List.{List, [], _∷_, _++_}
+use lib.Bits.{bitOr}
 use lib.Dec.{eqb}
 use lib.ListN.{getD, set, replicate}
 use Rattle.word.specs.Word.{pick, add}
@@ -10,11 +11,11 @@ use Rattle.machine.specs.declared.Board.{Board}
 use Rattle.machine.specs.declared.Board.the-variants.{TwoMemories, SingleMemory}
 
 -- ---- The register state: R0 to R7 and PC (16 bits each); n, the steps done (32 bits); the count of journal entries (02, L7; 64 bits);
--- the board's number (02, L11; 8 bits).
+-- the board's number (02, L11; 8 bits); an enable flag, a pending byte, a line number (8 bits each) and a return address (02, L12; 16 bits).
 
--- A reset machine has every register, PC and n at zero. The count of journal entries is 0 at a load.
+-- A reset machine has every register, PC and n at zero. The count of journal entries is 0 at a load. L12's four are 0 at reset.
 abbrev pub reset : State
-reset = record { r = replicate 8 0; pc = 0; n = 0; journaled = 0; board = 0 }
+reset = record { r = replicate 8 0; pc = 0; n = 0; journaled = 0; board = 0; enabled = 0; pending = 0; line = 0; «return_address» = 0 }
 
 -- Rk
 abbrev pub R : State → ℕ → ℕ
@@ -22,7 +23,7 @@ R s k = getD (s .r) k 0
 
 -- R0 to R7 become r
 abbrev pub putRegisters : List ℕ → State → State
-putRegisters r s = record { r = r; pc = s .pc; n = s .n; journaled = s .journaled; board = s .board }
+putRegisters r s = record { r = r; pc = s .pc; n = s .n; journaled = s .journaled; board = s .board; enabled = s .enabled; pending = s .pending; line = s .line; «return_address» = s .«return_address» }
 
 -- Rd becomes v
 abbrev pub putR : ℕ → ℕ → State → State
@@ -30,19 +31,31 @@ putR d v s = putRegisters (set (s .r) d v) s
 
 -- PC becomes v
 abbrev pub putPC : ℕ → State → State
-putPC v s = record { r = s .r; pc = v; n = s .n; journaled = s .journaled; board = s .board }
+putPC v s = record { r = s .r; pc = v; n = s .n; journaled = s .journaled; board = s .board; enabled = s .enabled; pending = s .pending; line = s .line; «return_address» = s .«return_address» }
 
 -- n becomes v
 abbrev pub putN : ℕ → State → State
-putN v s = record { r = s .r; pc = s .pc; n = v; journaled = s .journaled; board = s .board }
+putN v s = record { r = s .r; pc = s .pc; n = v; journaled = s .journaled; board = s .board; enabled = s .enabled; pending = s .pending; line = s .line; «return_address» = s .«return_address» }
 
 -- the count of journal entries becomes v
 abbrev pub putJournaled : ℕ → State → State
-putJournaled v s = record { r = s .r; pc = s .pc; n = s .n; journaled = v; board = s .board }
+putJournaled v s = record { r = s .r; pc = s .pc; n = s .n; journaled = v; board = s .board; enabled = s .enabled; pending = s .pending; line = s .line; «return_address» = s .«return_address» }
 
 -- the board's number becomes v
 abbrev pub putBoard : ℕ → State → State
-putBoard v s = record { r = s .r; pc = s .pc; n = s .n; journaled = s .journaled; board = v }
+putBoard v s = record { r = s .r; pc = s .pc; n = s .n; journaled = s .journaled; board = v; enabled = s .enabled; pending = s .pending; line = s .line; «return_address» = s .«return_address» }
+
+-- the enable flag becomes v
+abbrev pub putEnabled : ℕ → State → State
+putEnabled v s = record { r = s .r; pc = s .pc; n = s .n; journaled = s .journaled; board = s .board; enabled = v; pending = s .pending; line = s .line; «return_address» = s .«return_address» }
+
+-- the pending byte becomes v
+abbrev pub putPending : ℕ → State → State
+putPending v s = record { r = s .r; pc = s .pc; n = s .n; journaled = s .journaled; board = s .board; enabled = s .enabled; pending = v; line = s .line; «return_address» = s .«return_address» }
+
+-- the line number and the return address become k and v
+abbrev pub putTaken : ℕ → ℕ → State → State
+putTaken k v s = record { r = s .r; pc = s .pc; n = s .n; journaled = s .journaled; board = s .board; enabled = s .enabled; pending = s .pending; line = k; «return_address» = v }
 
 -- n grows by 1
 abbrev pub count : State → State
@@ -66,6 +79,47 @@ isSingle s = not (eqb (s .board) 0)
 -- a reset machine of a board
 abbrev pub resetOn : Board → State
 resetOn board = putBoard (boardNumber board) reset
+
+-- ---- Knob interrupts (02, L12)
+
+-- enable is off for 0 and on for any other number
+abbrev pub isEnabled : State → Bool
+isEnabled s = not (eqb (s .enabled) 0)
+
+-- bit k of a pending byte, for line k
+abbrev pub bitOf : ℕ → ℕ → ℕ
+bitOf k pending = pending / 2 ^ k % 2
+
+-- line k's bit is set, set or not before
+abbrev pub withLine : ℕ → ℕ → ℕ
+withLine k pending = bitOr pending (2 ^ k)
+
+-- line k's bit is clear
+abbrev pub withoutLine : ℕ → ℕ → ℕ
+withoutLine k pending = pick (eqb (bitOf k pending) 1) (pending - 2 ^ k) pending
+
+-- the lowest line whose bit is set, of so many from line k on; past them all where none is
+unfoldable pub lowestFrom : ℕ → ℕ → ℕ → ℕ
+lowestFrom zero k pending = k
+lowestFrom (suc i) k pending = pick (eqb (bitOf k pending) 1) k (lowestFrom i (suc k) pending)
+
+-- of the eight lines
+abbrev pub lowestLine : ℕ → ℕ
+lowestLine pending = lowestFrom 8 0 pending
+
+-- Before each step's fetch, if enabled and a bit is set, the lowest line is taken:
+abbrev pub takesLine : State → Bool
+takesLine s = isEnabled s && not (eqb (s .pending) 0)
+
+-- its bit clears, its number and PC are kept, PC becomes 0x0100, enable clears.
+abbrev pub lineTaken : State → State
+lineTaken s =
+    let k = lowestLine (s .pending) in
+    putPC 0x0100 (putEnabled 0 (putPending (withoutLine k (s .pending)) (putTaken k (s .pc) s)))
+
+-- PC and the return address are even
+abbrev pub evenPlaces : State → Bool
+evenPlaces s = eqb (s .pc % 2) 0 && eqb (s .«return_address» % 2) 0
 
 -- ---- The machine: program P and data D, 65,536 bytes each; inputs I and outputs O, 256 words of 16 bits each; the log L.
 pub record Machine : Type 0 where

@@ -1,11 +1,11 @@
 -- A run (01, "Runs"), over what steps the machine and what writes a port.
 use Prim.Native.Nat.{ℕ, zero, suc, _+_}
-use mathlib.Core.Bool.{Bool, true, false, _&&_}
+use mathlib.Core.Bool.{Bool, true, false, not, _&&_}
 use mathlib.Core.List.{List, [], _∷_}
 use lib.Dec.{eqb, leb}
 use lib.ListN.{length}
 use Rattle.word.specs.Fields.{opcode, e-of}
-use Rattle.machine.specs.Machine.{Machine}
+use Rattle.machine.specs.Machine.{Machine, takesLine}
 use Rattle.machine.specs.Step.{Next, cannot, to, fetched, step}
 
 -- What a run goes by: what a machine steps to, and whether that step writes a port.
@@ -17,9 +17,13 @@ pub record Stepper : Type 0 where
 abbrev pub isOut : ℕ → Bool
 isOut w = eqb (opcode w) 10 && eqb (e-of w) 1
 
+-- m fetches a word of which the test holds. A machine that takes a line (02, L12) fetches nothing: it writes no port.
+abbrev pub fetchesA : (ℕ → Bool) → Machine → Bool
+fetchesA test m = not (takesLine (m .state)) && test (fetched m)
+
 -- by the rules, as the plain machine goes
 abbrev pub byRules : Stepper
-byRules = record { steps = step; portWrite = λ m. isOut (fetched m) }
+byRules = record { steps = step; portWrite = fetchesA isOut }
 
 -- the step writes a port (the word is OUT), and L, which may grow to `full` entries, has no free place
 unfoldable pub noPlace : Stepper → ℕ → Machine → Bool

@@ -7,7 +7,8 @@ use lib.ListN.{getD}
 use Rattle.word.specs.Fields.{bits, field, opcode, a-of, b-of, e-of, f-of, N6, N8}
 use Rattle.word.specs.Word.{pick, add, clear0, SE, operation, comparison}
 use Rattle.muldiv.specs.Muldiv.{muldiv}
-use Rattle.machine.specs.Machine.{Machine, isSingle, R, putR, putPC, count, onState, putD, readFrom, onInputs, putO, wordAt, putWord, putByte}
+use Rattle.machine.specs.declared.State.{State}
+use Rattle.machine.specs.Machine.{Machine, isSingle, putEnabled, takesLine, lineTaken, R, putR, putPC, count, onState, putD, readFrom, onInputs, putO, wordAt, putWord, putByte}
 
 -- ---- What the rules are made of
 
@@ -28,7 +29,7 @@ A w m = add (Ra w m) (SE 6 (N6 w))
 abbrev pub A' : ℕ → Machine → ℕ
 A' w m = clear0 (A w m)
 
--- the destination d is 5..3 for opcodes 0, 1 and 11, 8..6 for 2, 3, 5, 7, and 11..9 for 9 and IN
+-- the destination d is 5..3 for opcodes 0, 1, 11 and GETIID, 8..6 for 2, 3, 5, 7, and 11..9 for 9 and IN
 abbrev pub d5-3 : ℕ → ℕ
 d5-3 w = field (bits 5 3) w
 
@@ -111,6 +112,25 @@ output w m = putO (N8 w) (Ra w m) m
 unfoldable pub multiplyDivide : Rule
 multiplyDivide w m = write (d5-3 w) (muldiv (f-of w) (Ra w m) (Rb w m)) m
 
+-- EI                  enable=1
+abbrev pub ei : State → State
+ei s = putEnabled 1 s
+
+-- DI                  enable=0
+abbrev pub di : State → State
+di s = putEnabled 0 s
+
+-- RETI                PC=return address; enable=1
+abbrev pub reti : State → State
+reti s = putPC (s .«return_address») (putEnabled 1 s)
+
+-- EI, DI, RETI, GETIID by f, where `put` is GETIID's write: Rd=line number
+abbrev pub interruptRules : (ℕ → State → State) → State → List State
+interruptRules put s = ei s ∷ di s ∷ reti s ∷ put (s .line) s ∷ []
+
+unfoldable pub interrupt : Rule
+interrupt w m = onState (λ s. getD (interruptRules (putR (d5-3 w)) s) (f-of w) s) m
+
 -- ---- The table of opcodes: a rule for the words with one of these f; the same, where those with one of the second f divide by Rb;
 -- one rule; one by e; or none.
 
@@ -139,8 +159,9 @@ ruleRows =
     ∷ by-e input output
     -- 11
     ∷ by-f-dividing (0 ∷ 1 ∷ 2 ∷ 4 ∷ 5 ∷ []) (4 ∷ 5 ∷ []) multiplyDivide
-    -- 12 to 15 unassigned
-    ∷ no-rule
+    -- 12
+    ∷ by-f (0 ∷ 1 ∷ 2 ∷ 3 ∷ []) interrupt
+    -- 13 to 15 unassigned
     ∷ no-rule
     ∷ no-rule
     ∷ no-rule
@@ -191,5 +212,17 @@ stepBy unassigned w m = cannot 1
 stepBy (division r) w m = pick (eqb (Rb w m) 0) (cannot 3) (doing r w m)
 stepBy (rule r) w m = doing r w m
 
+-- Taking a line counts as one step (02, L12).
+abbrev pub taking : Machine → Next
+taking m = to (onState (λ s. count (lineTaken s)) m)
+
+-- A line that is to be taken is taken before the fetch; otherwise `does` is what the word fetched does.
+abbrev pub stepWith : (ℕ → Machine → Next) → Machine → Next
+stepWith does m = pick (takesLine (m .state)) (taking m) (does (fetched m) m)
+
+-- by the rules
+abbrev pub byRule : ℕ → Machine → Next
+byRule w m = stepBy (choice w) w m
+
 unfoldable pub step : Machine → Next
-step m = stepBy (choice (fetched m)) (fetched m) m
+step m = stepWith byRule m

@@ -4,10 +4,11 @@ ghost use Prim.Native.Nat.{_+_, _-_, _%_, _<_};
 ghost use Rattle.word.specs.Fields.{a-of, b-of};
 ghost use Rattle.word.specs.Word.{pick, add};
 ghost use lib.Dec.{eqb};
-ghost use Rattle.machine.specs.Machine.{reset, R, putR, putPC, putN, putJournaled, count, boardNumber, boardOf, resetOn};
+ghost use Rattle.machine.specs.Machine.{reset, R, putR, putPC, putN, putJournaled, count, boardNumber, boardOf, resetOn, lowestLine, withLine, withoutLine, takesLine, lineTaken, evenPlaces, putEnabled, putPending, putTaken};
 
 // R0 to R7, PC, n, the count of steps done, the count of journal entries, and the board: 0 with two memories, any other number the
-// single-memory one.
+// single-memory one. Then interrupts: enabled where it is not 0, a pending byte with bit k for line k, the number of the line last taken and the
+// address to return to.
 #[repr(C)]
 pub struct State {
     pub r: [u16; 8],
@@ -15,6 +16,10 @@ pub struct State {
     pub n: u32,
     pub journaled: u64,
     pub board: u8,
+    pub enabled: u8,
+    pub pending: u8,
+    pub line: u8,
+    pub return_address: u16,
 }
 
 // The board that a load names: instructions are fetched from program memory, or from data memory, the only one.
@@ -82,6 +87,14 @@ fn board_number(board: Board) -> u8
     }
 }
 
+// A pending byte without its lowest line.
+fn without_lowest(pending: u8) -> u8
+    requires { ⌜ 0 < pending ⌝ }
+    ensures { λ p. ⌜ p ≡ withoutLine (lowestLine pending) pending ⌝ }
+{
+    pending & (pending - 1)
+}
+
 // The board that a number names.
 pub fn board_of(number: u8) -> Board
     ensures { λ r. ⌜ r ≡ boardOf number ⌝ }
@@ -116,6 +129,10 @@ impl State {
             n: 0,
             journaled: 0,
             board: number,
+            enabled: 0,
+            pending: 0,
+            line: 0,
+            return_address: 0,
         }
     }
 
@@ -173,6 +190,10 @@ impl State {
             n: self.n,
             journaled: self.journaled,
             board: self.board,
+            enabled: self.enabled,
+            pending: self.pending,
+            line: self.line,
+            return_address: self.return_address,
         }
     }
 
@@ -187,6 +208,10 @@ impl State {
             n: self.n,
             journaled: self.journaled,
             board: self.board,
+            enabled: self.enabled,
+            pending: self.pending,
+            line: self.line,
+            return_address: self.return_address,
         }
     }
 
@@ -216,6 +241,10 @@ impl State {
             n: v,
             journaled: self.journaled,
             board: self.board,
+            enabled: self.enabled,
+            pending: self.pending,
+            line: self.line,
+            return_address: self.return_address,
         }
     }
 
@@ -236,6 +265,112 @@ impl State {
             n: self.n,
             journaled: v,
             board: self.board,
+            enabled: self.enabled,
+            pending: self.pending,
+            line: self.line,
+            return_address: self.return_address,
+        }
+    }
+
+    // A line is to be taken (02, L12). `&` makes both tests, so that the answer has no branch.
+    pub fn takes_line(self) -> bool
+        ensures { λ r. ⌜ r ≡ takesLine self ⌝ }
+    {
+        (self.enabled != 0) & (self.pending != 0)
+    }
+
+    // PC and the return address are even; no branch either.
+    pub fn is_even(self) -> bool
+        ensures { λ r. ⌜ r ≡ evenPlaces self ⌝ }
+    {
+        (self.pc % 2 == 0) & (self.return_address % 2 == 0)
+    }
+
+    // The lowest pending line; 8 where none is pending.
+    pub fn lowest_line(self) -> u8
+        ensures { λ k. ⌜ k ≡ lowestLine (self .pending) ⌝ }
+    {
+        u8::trailing_zeros(self.pending) as u8
+    }
+
+    // The lowest pending line is taken, and one step more is done.
+    pub fn line_taken(self) -> Self
+        requires { ⌜ (self .n < 4294967295) × (0 < self .pending) ⌝ }
+        ensures { λ s. ⌜ s ≡ count (lineTaken self) ⌝ }
+    {
+        let r = self.r;
+        let line = self.lowest_line();
+        let pending = without_lowest(self.pending);
+        State {
+            r,
+            pc: 0x0100,
+            n: self.n + 1,
+            journaled: self.journaled,
+            board: self.board,
+            enabled: 0,
+            pending,
+            line,
+            return_address: self.pc,
+        }
+    }
+
+    pub fn with_enabled(self, v: u8) -> Self
+        ensures { λ s. ⌜ s ≡ putEnabled v self ⌝ }
+    {
+        let r = self.r;
+        State {
+            r,
+            pc: self.pc,
+            n: self.n,
+            journaled: self.journaled,
+            board: self.board,
+            enabled: v,
+            pending: self.pending,
+            line: self.line,
+            return_address: self.return_address,
+        }
+    }
+
+    pub fn with_pending(self, v: u8) -> Self
+        ensures { λ s. ⌜ s ≡ putPending v self ⌝ }
+    {
+        let r = self.r;
+        State {
+            r,
+            pc: self.pc,
+            n: self.n,
+            journaled: self.journaled,
+            board: self.board,
+            enabled: self.enabled,
+            pending: v,
+            line: self.line,
+            return_address: self.return_address,
+        }
+    }
+
+    // The line's bit is set, set or not before.
+    pub fn with_line(self, line: u8) -> Self
+        requires { ⌜ line < 8 ⌝ }
+        ensures { λ s. ⌜ s ≡ putPending (withLine line (self .pending)) self ⌝ }
+    {
+        self.with_pending(self.pending | (1 << line))
+    }
+
+    // The line number and the return address.
+    pub fn with_taken(self, line: u8, return_address: u16) -> Self
+        ensures { λ s. ⌜ s ≡ putTaken line «return_address» self ⌝ }
+    {
+        let r = self.r;
+        State {
+            r,
+            pc: self.pc,
+            n: self.n,
+            journaled: self.journaled,
+            board: self.board,
+            enabled: self.enabled,
+            pending: self.pending,
+            line,
+            return_address,
         }
     }
 }

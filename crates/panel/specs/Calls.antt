@@ -1,13 +1,17 @@
--- What setting an input and the window reply and leave, of what they are given (01, "Set", "The window", "Refusal table").
+-- What setting an input, raising a line and the window reply and leave, of what they are given (01, "Set", "The window", "Refusal table").
 use Prim.Native.Nat.{ℕ, _+_}
 use mathlib.Core.Bool.{Bool}
 use mathlib.Core.List.{List, []}
-use lib.Dec.{eqb, leb}
+use lib.Dec.{eqb, leb, ltb}
 use lib.ListN.{length, set, take, drop}
 use Rattle.refusal.specs.Refusals.{refusalNumber, Verdict, accepted, refused}
 use Rattle.word.specs.Word.{pick}
+use Rattle.machine.specs.declared.State.{State}
+use Rattle.machine.specs.Machine.{withLine, putPending}
 use Rattle.panel.specs.declared.Setting.{Setting}
 use Rattle.panel.specs.declared.Setting.the-variants.{Done, Refused}
+use Rattle.panel.specs.declared.Raising.{Raising}
+use Rattle.panel.specs.declared.Raising.the-variants.{Done as RaiseDone, Refused as RaiseRefused}
 
 -- ---- Setting an input
 
@@ -30,6 +34,23 @@ setLeft g =
     pick (eqb (length (g .I)) 256)
     (record { reply = accepted; I = set (g .I) (g .port) (g .value) })
     (record { reply = refused 1; I = g .I })
+
+-- ---- Raising a line (02, L12)
+
+abbrev pub shownRaising : Raising → Verdict
+shownRaising RaiseDone = accepted
+shownRaising (RaiseRefused r) = refused (refusalNumber r)
+
+pub record RaiseLeft : Type 0 where
+  pub reply : Verdict
+  pub state : State
+
+-- Raising a line sets its bit. 16: line over 7; then the state is as handed.
+unfoldable pub raiseLeft : State → ℕ → RaiseLeft
+raiseLeft s line =
+    pick (ltb line 8)
+    (record { reply = accepted; state = putPending (withLine line (s .pending)) s })
+    (record { reply = refused 16; state = s })
 
 -- ---- The window
 

@@ -1,6 +1,6 @@
-// What a host does at the panel besides runs: setting an input, and the window on a memory.
+// What a host does at the panel besides runs: setting an input, raising a line, and the window on a memory.
 ghost use mathlib.Core.Path.{_≡_};
-ghost use Rattle.panel.specs.Calls.{SetLeft, setLeft, shownSetting, partOf, windowOf};
+ghost use Rattle.panel.specs.Calls.{SetLeft, setLeft, shownSetting, RaiseLeft, raiseLeft, shownRaising, partOf, windowOf};
 use machine::Port;
 use machine::State;
 use refusal::Refusal;
@@ -20,6 +20,33 @@ pub fn set_input(inputs: &mut [u16], port: Port, value: u16) -> Setting
     let at = port.0 as usize;
     inputs[at] = value;
     Setting::Done
+}
+
+pub enum Raising {
+    Done,
+    Refused(Refusal),
+}
+
+// What raising a line replies: the state, as handed where it is refused, and the reply.
+pub struct Raised {
+    pub state: State,
+    pub reply: Raising,
+}
+
+// The line's bit is set in the pending byte.
+pub fn raise(state: State, line: u8) -> Raised
+    ensures { λ r. ⌜ _≡_ {A = RaiseLeft} (record { reply = shownRaising (r .reply); state = r .state }) (raiseLeft state line) ⌝ }
+{
+    if 7 < line {
+        return Raised {
+            state,
+            reply: Raising::Refused(Refusal::LineNumber),
+        };
+    }
+    Raised {
+        state: state.with_line(line),
+        reply: Raising::Done,
+    }
 }
 
 fn part(bytes: &[u8], start: usize, count: usize) -> &[u8]

@@ -47,7 +47,7 @@ fold-starts counts all = record { all = all; here = omega arith; few = unused-mo
 
 module _ {counts : List ℕ} {at : ℕ} {u : Usage} (f : Folding counts at u) where
   more-few : {m : ℕ} → at * 4294967295 ≤ m → AtMost m u
-  more-few l = record { kinds = λ j. omega (arith, f .few .kinds j, l); reads = λ j. omega (arith, f .few .reads j, l); writes = λ j. omega (arith, f .few .writes j, l) }
+  more-few l = record { taken = omega (arith, f .few .taken, l); kinds = λ j. omega (arith, f .few .kinds j, l); reads = λ j. omega (arith, f .few .reads j, l); writes = λ j. omega (arith, f .few .writes j, l) }
 
   -- 64 places where nothing is counted
   pub fold-skips : at + 64 ≤ 17408 → NoneFrom 64 at counts → Folding counts (at + 64) u
@@ -71,7 +71,7 @@ module _ {counts : List ℕ} {at : ℕ} {u : Usage} (f : Folding counts at u) wh
         }
       where
         most : {x : Usage} → AtMost (at * 4294967295 + n) x → AtMost ((at + 1) * 4294967295) x
-        most a = record { kinds = λ j. omega (arith, a .kinds j); reads = λ j. omega (arith, a .reads j); writes = λ j. omega (arith, a .writes j) }
+        most a = record { taken = omega (arith, a .taken); kinds = λ j. omega (arith, a .kinds j); reads = λ j. omega (arith, a .reads j); writes = λ j. omega (arith, a .writes j) }
 
   -- all places are counted
   pub fold-ends : 17408 ≤ at → u ≡ folded counts

@@ -11,13 +11,13 @@ use Rattle.word.specs.Word.{pick}
 use Rattle.isa.specs.Masks.{masksOf}
 use Rattle.usage.specs.declared.Usage.{Usage}
 use Rattle.usage.specs.Usage.{wordIs, counted}
-use Rattle.usage.specs.Counting.{counters, raisedFrom}
+use Rattle.usage.specs.Counting.{usageWith, raisedFrom}
 use Rattle.usage.proofs.Raised.{raised-length, raised-once}
 use Rattle.usage.proofs.Sums.{Sized, AtMost}
 use Rattle.places.specs.Places.{countedSteps, Room}
 
-together : {k k' r r' w w' : List ℕ} → k ≡ k' → r ≡ r' → w ≡ w' → counters k r w ≡ counters k' r' w'
-together p q s = λ i. counters (p i) (q i) (s i)
+together : {t : ℕ} {k k' r r' w w' : List ℕ} → k ≡ k' → r ≡ r' → w ≡ w' → usageWith t k r w ≡ usageWith t k' r' w'
+together {t} p q s = λ i. usageWith t (p i) (q i) (s i)
 
 pub steps-once : (w : ℕ) (u : Usage) → countedSteps 1 w u ≡ counted (wordIs w) (masksOf w) u
 steps-once w u = together (raised-once 0 _ (u .kinds)) (raised-once 0 _ (u .reads)) (raised-once 0 _ (u .writes))
@@ -73,7 +73,7 @@ raised-most n k m t (x ∷ xs) h zero = omega (arith, h 0, few (t k))
 raised-most n k m t (x ∷ xs) h (suc j) = raised-most n (suc k) m t xs (λ j. h (suc j)) j
 
 pub steps-most : (n w : ℕ) {m : ℕ} {u : Usage} → AtMost m u → AtMost (m + n) (countedSteps n w u)
-steps-most n w a = record { kinds = raised-most n 0 _ _ _ (a .kinds); reads = raised-most n 0 _ _ _ (a .reads); writes = raised-most n 0 _ _ _ (a .writes) }
+steps-most n w a = record { taken = omega (arith, a .taken); kinds = raised-most n 0 _ _ _ (a .kinds); reads = raised-most n 0 _ _ _ (a .reads); writes = raised-most n 0 _ _ _ (a .writes) }
 
 pub room : {m n : ℕ} {u : Usage} → m + n < 18446744073709551616 → AtMost m u → Room n u
 room l a = record { kinds = λ k. omega (arith, a .kinds k); reads = λ k. omega (arith, a .reads k); writes = λ k. omega (arith, a .writes k) }

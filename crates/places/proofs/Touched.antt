@@ -21,7 +21,7 @@ use Rattle.isa.specs.Masks.{inMask, masksAs, masksOf}
 use Rattle.isa.proofs.Every.{listed}
 use Rattle.usage.specs.declared.Usage.{Usage}
 use Rattle.usage.specs.Usage.{isKind}
-use Rattle.usage.specs.Counting.{counters, eitherOf, raised}
+use Rattle.usage.specs.Counting.{usageWith, eitherOf, raised}
 use Rattle.usage.proofs.Functions.{table, at}
 use Rattle.usage.proofs.InMasks.{in-none}
 use Rattle.usage.proofs.Raised.{raised-nowhere, raised-either, raised-same}
@@ -30,7 +30,7 @@ use Rattle.places.specs.Places.{raisedBy, countedSteps, numberOf, readsB
 
 abbrev pub touched : List ℕ
 touched =
-    10 ∷ 10 ∷ 10 ∷ 9 ∷ 10 ∷ 10 ∷ 10 ∷ 10 ∷ 10 ∷ 10 ∷ 10 ∷ 10 ∷ 10 ∷ 65 ∷ 65 ∷ 2 ∷ 65 ∷ 2 ∷ 65 ∷ 1 ∷ 1 ∷ 512 ∷ 513 ∷ 512 ∷ 1 ∷ 10 ∷ 10 ∷ 10 ∷ 10 ∷ 10 ∷ []
+    10 ∷ 10 ∷ 10 ∷ 9 ∷ 10 ∷ 10 ∷ 10 ∷ 10 ∷ 10 ∷ 10 ∷ 10 ∷ 10 ∷ 10 ∷ 65 ∷ 65 ∷ 2 ∷ 65 ∷ 2 ∷ 65 ∷ 1 ∷ 1 ∷ 512 ∷ 513 ∷ 512 ∷ 1 ∷ 10 ∷ 10 ∷ 10 ∷ 10 ∷ 10 ∷ 0 ∷ 0 ∷ 0 ∷ 8 ∷ []
 
 -- n steps of a word whose kind has the number k
 abbrev pub stepsBy : ℕ → ℕ → ℕ → Usage → Usage
@@ -50,7 +50,7 @@ by-kind k n w u =
     ∙ ap (λ j. byKind j n w u) (listed k .1)
 
 none : (n w : ℕ) (u : Usage) → raisedBy n nowhere nowhere nowhere u ≡ u
-none n w u = λ i. counters (raised-nowhere n 0 nowhere (u .kinds) (λ j l. refl) i) (raised-nowhere n 0 nowhere (u .reads) (λ j l. refl) i) (raised-nowhere n 0 nowhere (u .writes) (λ j l. refl) i)
+none n w u = λ i. usageWith (u .taken) (raised-nowhere n 0 nowhere (u .kinds) (λ j l. refl) i) (raised-nowhere n 0 nowhere (u .reads) (λ j l. refl) i) (raised-nowhere n 0 nowhere (u .writes) (λ j l. refl) i)
 
 -- ---- By what the word reads as
 

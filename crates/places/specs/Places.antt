@@ -12,13 +12,13 @@ use Rattle.isa.specs.Layouts.{entryNumber}
 use Rattle.isa.specs.Masks.{inMask, masksOf}
 use Rattle.usage.specs.declared.Usage.{Usage}
 use Rattle.usage.specs.Usage.{wordIs, unused}
-use Rattle.usage.specs.Counting.{counters, eitherOf, raised}
+use Rattle.usage.specs.Counting.{usageWith, eitherOf, raised}
 
 -- ---- n steps of a word
 
 -- n more at the places that each list's test tells
 abbrev pub raisedBy : ℕ → (ℕ → Bool) → (ℕ → Bool) → (ℕ → Bool) → Usage → Usage
-raisedBy n kind reads writes u = counters (raised n kind (u .kinds)) (raised n reads (u .reads)) (raised n writes (u .writes))
+raisedBy n kind reads writes u = usageWith (u .taken) (raised n kind (u .kinds)) (raised n reads (u .reads)) (raised n writes (u .writes))
 
 -- n steps more of the word w: `counted`, n times
 abbrev pub countedSteps : ℕ → ℕ → Usage → Usage
@@ -47,8 +47,7 @@ writesBy weight w j = pick (eqb weight 0) false (eqb (w / weight % 8) j)
 
 -- ---- Places
 
--- A word of an opcode whose kinds f tells apart (0, 1, 11, and 12, which is to be one) has a place of its own; the others go by their
--- upper ten bits.
+-- A word of an opcode whose kinds f tells apart (0, 1, 11 and 12) has a place of its own; the others go by their upper ten bits.
 unfoldable pub placeOf : ℕ → ℕ
 placeOf w =
     let op = w / 4096 in
@@ -70,10 +69,14 @@ foldedFrom p (n ∷ ns) u = foldedFrom (suc p) ns (countedSteps n (wordOf p) u)
 abbrev pub folded : List ℕ → Usage
 folded counts = foldedFrom 0 counts unused
 
--- ---- A run's counts: u, or where it has all places, what is counted there
+-- so many lines taken, and these counts
+abbrev pub withTaken : ℕ → Usage → Usage
+withTaken taken u = usageWith taken (u .kinds) (u .reads) (u .writes)
+
+-- ---- A run's counts: u, or where it has all places, what is counted there; lines taken are counted in u
 
 abbrev pub tallied : List ℕ → Usage → Usage
-tallied counts u = pick (ltb (length counts) 17408) u (folded counts)
+tallied counts u = pick (ltb (length counts) 17408) u (withTaken (u .taken) (folded counts))
 
 -- nothing is counted yet
 abbrev pub Cleared : List ℕ → Type 0

@@ -5,7 +5,7 @@ ghost use Prim.Native.Nat.{_+_, _<_, _≤_};
 ghost use lib.Dec.{eqb};
 ghost use lib.ListN.{length, getD};
 ghost use Rattle.usage.specs.Counting.{counters, raised};
-ghost use Rattle.places.specs.Places.{countedSteps, Fits, Room, readsBy, writesBy, placeOf, wordOf, NoneFrom, folded};
+ghost use Rattle.places.specs.Places.{withTaken, countedSteps, Fits, Room, readsBy, writesBy, placeOf, wordOf, NoneFrom, folded};
 use usage::Usage;
 
 // How many places there are: 1,024 by the upper ten bits, and 4,096 for each of the opcodes 0, 1, 11 and 12.
@@ -44,6 +44,10 @@ const TOUCHED: [u16; kinds::COUNT] = [
     10, // MULHU
     10, // DIV
     10, // DIVU
+    0, // EI
+    0, // DI
+    0, // RETI
+    8, // GETIID
 ];
 
 // n more at k.
@@ -182,10 +186,10 @@ fn can_skip(counts: &[u32], from: usize) -> bool
     }
 }
 
-// The counts of all places.
-pub fn fold(counts: &[u32]) -> Usage
+// The counts of all places, where so many lines were taken.
+pub fn fold(counts: &[u32], taken: u64) -> Usage
     requires { ⌜ length (now counts) ≡ 17408 ⌝ }
-    ensures { λ r. ⌜ r ≡ folded (now (counts .entry)) ⌝ }
+    ensures { λ r. ⌜ r ≡ withTaken taken (folded (now (counts .entry))) ⌝ }
 {
     let mut kinds = [0u64; kinds::COUNT];
     let mut reads = [0u64; 8];
@@ -201,6 +205,7 @@ pub fn fold(counts: &[u32]) -> Usage
     }
     Usage {
         kinds,
+        taken,
         reads,
         writes,
     }

@@ -1,5 +1,5 @@
 -- The file of case c (docs/CONFORMANCE.md), of each sort: as under "The file of case c", as under "Keys", as under "The single-memory
--- board", and as for a table from 128 on.
+-- board", as for a table from 128 on, as under "Knob interrupts", and as for a table from 160 on.
 use Prim.Native.Nat.{ℕ, _+_, _-_, _*_, _/_, _%_}
 use mathlib.Core.List.{List, [], _∷_}
 use lib.Dec.{ltb, eqb}
@@ -8,9 +8,10 @@ use Rattle.word.specs.Word.{pick, flag}
 use Rattle.numbers.specs.Numbers.{numberOf}
 use Rattle.player.specs.Lists.{places}
 use Rattle.player.specs.declared.file.Sort.{Sort}
-use Rattle.player.specs.declared.file.Sort.the-variants.{Any, Keys, Stores, LowPorts}
+use Rattle.player.specs.declared.file.Sort.the-variants.{Any, Keys, Stores, LowPorts, Knobs, Enabling}
 
--- W = 1 + number(c, 0) mod 200, C = number(c, 1) mod 300; under "Keys" and "The single-memory board" W is 32
+-- W = 1 + number(c, 0) mod 200, C = number(c, 1) mod 300; under "Keys" and "The single-memory board" W is 32, under "Knob
+-- interrupts" 136
 abbrev pub anyW : ℕ → ℕ
 anyW c = 1 + numberOf c 0 % 200
 
@@ -19,6 +20,8 @@ W Any c = anyW c
 W Keys c = 32
 W Stores c = 32
 W LowPorts c = anyW c
+W Knobs c = 136
+W Enabling c = anyW c
 
 abbrev pub C : ℕ → ℕ
 C c = numberOf c 1 % 300
@@ -63,11 +66,29 @@ storeWord c j =
 unfoldable pub lowPortWord : ℕ → ℕ → ℕ
 lowPortWord c j = anyWord c j / 256 * 256 + numberOf c (4000 + j) % 4
 
+-- f of an EI, DI or GETIID, for k = (x / 8) mod 4: 1 where it is 2, 3 where it is 3, else 0
+abbrev pub interruptF : ℕ → ℕ
+interruptF k = pick (eqb k 2) 1 (pick (eqb k 3) 3 0)
+
+-- 49,152 + 8 · (x mod 8) + f
+abbrev pub interruptWord : ℕ → ℕ
+interruptWord x = 49152 + 8 * (x % 8) + interruptF (x / 8 % 4)
+
+-- For a table from 160 on: where number(c, 4,000 + j) mod 4 is 0 word j is such a one; else it is as above.
+unfoldable pub enablingWord : ℕ → ℕ → ℕ
+enablingWord c j = pick (eqb (numberOf c (4000 + j) % 4) 0) (interruptWord (numberOf c (1000 + j))) (anyWord c j)
+
+-- Under "Knob interrupts" so too, but words 30 and 31 are those of "Keys", and word 135 is 49,154, a RETI.
+unfoldable pub knobWord : ℕ → ℕ → ℕ
+knobWord c j = pick (eqb j 30) 32993 (pick (eqb j 31) 33248 (pick (eqb j 135) 49154 (enablingWord c j)))
+
 unfoldable pub programWord : Sort → ℕ → ℕ → ℕ
 programWord Any c j = anyWord c j
 programWord Keys c j = keyWord c j
 programWord Stores c j = storeWord c j
 programWord LowPorts c j = lowPortWord c j
+programWord Knobs c j = knobWord c j
+programWord Enabling c j = enablingWord c j
 
 -- the bytes of a number under 65,536, the low one first; others are 0
 abbrev pub bytesOf : ℕ → List ℕ

@@ -4,16 +4,19 @@ ghost use Prim.Native.Nat.{_<_};
 ghost use lib.Dec.{eqb};
 ghost use lib.ListN.{getD};
 ghost use Rattle.word.specs.Word.{flag};
-ghost use Rattle.player.specs.File.{anyW, W, C, damageOf, lengthOf, header, anyWord, loopWord, keyWord, storeWord, lowPortWord, programWord, byteOf, fileByte, fileOf};
+ghost use Rattle.player.specs.File.{anyW, W, C, damageOf, lengthOf, header, anyWord, loopWord, keyWord, storeWord, lowPortWord, interruptF, interruptWord, enablingWord, knobWord, programWord, byteOf, fileByte, fileOf};
 use crate::lent::File;
 use numbers::number;
 
-// The sort of a file, by its program: a case's, one of "Keys", one of "The single-memory board", or one for a table from 128 on.
+// The sort of a file, by its program: a case's, one of "Keys", of "The single-memory board" or of "Knob interrupts", or one for a table
+// from 128 or from 160 on.
 pub enum Sort {
     Any,
     Keys,
     Stores,
     LowPorts,
+    Knobs,
+    Enabling,
 }
 
 // A damage that is none.
@@ -41,6 +44,8 @@ fn words(sort: Sort, c: u16) -> u16
         Sort::Keys => 32,
         Sort::Stores => 32,
         Sort::LowPorts => any_words(c),
+        Sort::Knobs => 136,
+        Sort::Enabling => any_words(c),
     }
 }
 
@@ -127,6 +132,48 @@ fn low_port_word(c: u16, j: u16) -> u16
     any_word(c, j) / 256 * 256 + number(c, 4000 + j) % 4
 }
 
+// f of an EI, DI or GETIID, by k from 0 to 3.
+fn interrupt_f(k: u16) -> u16
+    ensures { λ r. ⌜ (r ≡ interruptF k) × (r < 4) ⌝ }
+{
+    match k {
+        2 => 1,
+        3 => 3,
+        _ => 0,
+    }
+}
+
+fn interrupt_word(x: u16) -> u16
+    ensures { λ r. ⌜ r ≡ interruptWord x ⌝ }
+{
+    49152 + 8 * (x % 8) + interrupt_f(x / 8 % 4)
+}
+
+// An EI, DI or GETIID, or any word.
+fn enabling_word(c: u16, j: u16) -> u16
+    requires { ⌜ j < 200 ⌝ }
+    ensures { λ r. ⌜ r ≡ enablingWord c j ⌝ }
+{
+    if number(c, 4000 + j) % 4 == 0 {
+        interrupt_word(number(c, 1000 + j))
+    } else {
+        any_word(c, j)
+    }
+}
+
+// The same, but for a BZ and a BNZ of R0 to address 0 and a RETI.
+fn knob_word(c: u16, j: u16) -> u16
+    requires { ⌜ j < 200 ⌝ }
+    ensures { λ r. ⌜ r ≡ knobWord c j ⌝ }
+{
+    match j {
+        30 => 32993,
+        31 => 33248,
+        135 => 49154,
+        _ => enabling_word(c, j),
+    }
+}
+
 // Word j of the program.
 fn program_word(sort: Sort, c: u16, j: u16) -> u16
     requires { ⌜ j < 200 ⌝ }
@@ -137,6 +184,8 @@ fn program_word(sort: Sort, c: u16, j: u16) -> u16
         Sort::Keys => key_word(c, j),
         Sort::Stores => store_word(c, j),
         Sort::LowPorts => low_port_word(c, j),
+        Sort::Knobs => knob_word(c, j),
+        Sort::Enabling => enabling_word(c, j),
     }
 }
 

@@ -34,3 +34,14 @@ pub fn left(
     let digest = digest::of_all(state, program, memory, inputs, outputs, log);
     last_field(digest as u64);
 }
+
+// The line of what a state has for interrupts, after call i.
+pub fn lines(c: u16, i: u16, state: State) {
+    text(b"lines");
+    field(c as u64);
+    field(i as u64);
+    field(state.enabled as u64);
+    field(state.pending as u64);
+    field(state.line as u64);
+    last_field(state.return_address as u64);
+}

@@ -2,7 +2,7 @@
 -- accepted or refused with a number.
 use Prim.Native.Nat.{ℕ}
 use Rattle.refusal.specs.declared.Refusal.{Refusal}
-use Rattle.refusal.specs.declared.Refusal.the-variants.{LentLength, ShortFile, LargePart, PartOutside, OddPc, StepCount, InstructionPart, LongFile, ShortDestination, TextLine, TextName, TextValue, FullSheet, ShortJournal, SmallBoard}
+use Rattle.refusal.specs.declared.Refusal.the-variants.{LentLength, ShortFile, LargePart, PartOutside, OddPc, StepCount, InstructionPart, LongFile, ShortDestination, TextLine, TextName, TextValue, FullSheet, ShortJournal, SmallBoard, LineNumber}
 
 abbrev pub refusalNumber : Refusal → ℕ
 -- P or D not 65,536 bytes, or I or O not 256 words (set looks at I only)
@@ -13,7 +13,7 @@ refusalNumber ShortFile = 2
 refusalNumber LargePart = 3
 -- an offset or part end outside its bounds
 refusalNumber PartOutside = 4
--- PC odd
+-- PC odd, or the return address (02, L12)
 refusalNumber OddPc = 5
 -- n plus budget over 4,294,967,295
 refusalNumber StepCount = 6
@@ -35,6 +35,8 @@ refusalNumber FullSheet = 13
 refusalNumber ShortJournal = 14
 -- single-memory board and 2W plus C over 65,536 (02, L11)
 refusalNumber SmallBoard = 15
+-- line over 7 (02, L12)
+refusalNumber LineNumber = 16
 
 -- whether a call is accepted: it is, or it is refused with this number
 pub data Verdict : Type 0 where

@@ -18,6 +18,7 @@ pub enum Refusal {
     FullSheet,
     ShortJournal,
     SmallBoard,
+    LineNumber,
 }
 
 // The refusal's number in the table.
@@ -40,5 +41,6 @@ pub fn number(refusal: Refusal) -> u8
         Refusal::FullSheet => 13,
         Refusal::ShortJournal => 14,
         Refusal::SmallBoard => 15,
+        Refusal::LineNumber => 16,
     }
 }

@@ -12,12 +12,12 @@ use Rattle.isa.specs.Instructions.{WriteReply, writeOf}
 use Rattle.replies.specs.declared.SisaWord.{SisaWord}
 use Rattle.replies.specs.Sisa.{sisaWord, sisaWrite}
 
-pub write-refused : (kind a b d : ℕ) (n : ℤ) {k : ℕ} → 29 < kind → k ≡ 7 → record { refusal = k; word = 0 } ≡ sisaWrite kind a b d n
+pub write-refused : (kind a b d : ℕ) (n : ℤ) {k : ℕ} → 33 < kind → k ≡ 7 → record { refusal = k; word = 0 } ≡ sisaWrite kind a b d n
 unfolding sisaWrite
 write-refused kind a b d n h e = rw (e, lt-leb _ _ h)
 
 -- k and m are the kind and the number as `isa::write` is handed them
-pub write-meets : (kind a b d : ℕ) (n : ℤ) (k : Kind) (m : ℤ) {written : WriteReply} {r : SisaWord} → kind ≤ 29
+pub write-meets : (kind a b d : ℕ) (n : ℤ) (k : Kind) (m : ℤ) {written : WriteReply} {r : SisaWord} → kind ≤ 33
     → k ≡ getD kinds kind And
     → m ≡ n
     → written ≡ writeOf (record { kind = k; a = a; b = b; d = d; n = m })

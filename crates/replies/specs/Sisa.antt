@@ -20,7 +20,7 @@ use Rattle.machine.specs.declared.State.{State}
 use Rattle.machine.specs.Machine.{boardOf}
 use Rattle.machine.specs.Run.{Stepper}
 use Rattle.machine.specs.Slices.{Slice, before, after}
-use Rattle.panel.specs.Calls.{SetGiven, SetLeft, setLeft, windowOf}
+use Rattle.panel.specs.Calls.{SetGiven, SetLeft, setLeft, raiseLeft, windowOf}
 use Rattle.image.specs.Image.{LoadGiven, LoadLeft, loadLeft, fileLent}
 use Rattle.save.specs.Saved.{SaveReply, saved, save-refused, SaveGiven, SaveLeft, saveLeft, lentToSave}
 use Rattle.assembler.specs.Text.{Reply, words, text-refused, AssembleLeft, assembleLeft}
@@ -40,6 +40,7 @@ use Rattle.replies.specs.declared.SisaInstruction.{SisaInstruction}
 use Rattle.replies.specs.declared.SisaWord.{SisaWord}
 use Rattle.replies.specs.declared.SisaWindow.{SisaWindow}
 use Rattle.replies.specs.declared.SisaFed.{SisaFed}
+use Rattle.replies.specs.declared.SisaRaised.{SisaRaised}
 
 -- 0, or the refusal's number
 abbrev pub verdictNumber : Verdict → ℕ
@@ -128,6 +129,14 @@ sisaSetLeft g = setInNumbers (setLeft g)
 abbrev pub SisaSets : Slice → ℕ → ℕ → ℕ → Type 0
 SisaSets inputs port value r =
     _≡_ {A = SisaSetLeft} (record { refusal = r; I = after inputs }) (sisaSetLeft (record { I = before inputs; port = port; value = value }))
+
+-- ---- sisa_raise
+
+abbrev pub sisaRaised : Verdict → State → SisaRaised
+sisaRaised reply s = record { state = s; refusal = verdictNumber reply }
+
+unfoldable pub sisaRaise : State → ℕ → SisaRaised
+sisaRaise s line = let l = raiseLeft s line in sisaRaised (l .reply) (l .state)
 
 -- ---- sisa_run_by_rules, sisa_run_by_table, both with a journal, and sisa_host_step
 
@@ -242,10 +251,10 @@ abbrev pub sisaWord : WriteReply → SisaWord
 sisaWord (word w) = record { refusal = 0; word = w }
 sisaWord (write-refused k) = record { refusal = k; word = 0 }
 
--- A kind over 29 is refused with 7; the others are the kinds, in their order.
+-- A kind over 33 is refused with 7; the others are the kinds, in their order.
 unfoldable pub sisaWrite : ℕ → ℕ → ℕ → ℕ → ℤ → SisaWord
 sisaWrite kind a b d n =
-    sisaWord (pick (leb kind 29) (writeOf (record { kind = getD kinds kind And; a = a; b = b; d = d; n = n })) (write-refused 7))
+    sisaWord (pick (leb kind 33) (writeOf (record { kind = getD kinds kind And; a = a; b = b; d = d; n = n })) (write-refused 7))
 
 -- ---- sisa_feed
 

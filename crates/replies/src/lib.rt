@@ -5,13 +5,13 @@ ghost use Rattle.word.specs.Word.{pick};
 ghost use Rattle.image.specs.Image.{shownLoading};
 ghost use Rattle.save.specs.Saved.{shownSaving};
 ghost use Rattle.assembler.specs.Passes.{shownAssembly};
-ghost use Rattle.panel.specs.Calls.{shownSetting};
+ghost use Rattle.panel.specs.Calls.{shownSetting, shownRaising};
 ghost use Rattle.run.specs.Runs.{shownAnswer};
 ghost use Rattle.sheet.specs.Sheet.{shownFeeding};
 ghost use Rattle.back.specs.Backs.{shownGoing};
 ghost use Rattle.isa.specs.Instructions.{shownWriting};
 ghost use Rattle.isa.specs.Masks.{shownDecoded};
-ghost use Rattle.replies.specs.Sisa.{sisaLoad, sisaSaved, sisaAssembly, verdictNumber, sisaRun, sisaInstruction, sisaWord, sisaWrite, sisaFed, sisaBack};
+ghost use Rattle.replies.specs.Sisa.{sisaLoad, sisaSaved, sisaAssembly, verdictNumber, sisaRun, sisaInstruction, sisaWord, sisaWrite, sisaFed, sisaBack, sisaRaised};
 use assembler::Assembly;
 use back::Backed;
 use back::Going;
@@ -22,6 +22,8 @@ use isa::Instruction;
 use isa::Reading;
 use isa::Writing;
 use machine::State;
+use panel::Raised;
+use panel::Raising;
 use panel::Setting;
 use refusal::Refusal;
 use run::Answer;
@@ -105,6 +107,12 @@ pub struct SisaFed {
 }
 
 #[repr(C)]
+pub struct SisaRaised {
+    pub state: State,
+    pub refusal: u8,
+}
+
+#[repr(C)]
 pub struct SisaAssembly {
     pub refusal: u8,
     pub line: u32,
@@ -167,6 +175,20 @@ pub fn set(setting: Setting) -> u8
     match setting {
         Setting::Done => 0,
         Setting::Refused(refusal) => refusal::number(refusal),
+    }
+}
+
+pub fn raised(raised: Raised) -> SisaRaised
+    ensures { λ r. ⌜ r ≡ sisaRaised (shownRaising (raised .reply)) (raised .state) ⌝ }
+{
+    let state = raised.state;
+    let reply = raised.reply;
+    match reply {
+        Raising::Done => SisaRaised { state, refusal: 0 },
+        Raising::Refused(refusal) => SisaRaised {
+            state,
+            refusal: refusal::number(refusal),
+        },
     }
 }
 
@@ -260,11 +282,11 @@ fn word(writing: Writing) -> SisaWord
     }
 }
 
-// The instruction that has these numbers, written. There are 30 kinds.
+// The instruction that has these numbers, written. There are 34 kinds.
 pub fn write(kind: u8, a: u8, b: u8, d: u8, n: i16) -> SisaWord
     ensures { λ r. ⌜ r ≡ sisaWrite kind a b d n ⌝ }
 {
-    if 29 < kind {
+    if 33 < kind {
         return SisaWord {
             refusal: refusal::number(Refusal::InstructionPart),
             word: 0,

@@ -25,7 +25,7 @@ isAssigned (division r) = true
 isAssigned unassigned = false
 
 abbrev assignedBy : ℕ → ℕ → Bool
-assignedBy op f = pick (ltb 11 op) false (pick (eqb op 1) (below6But 2 f) (pick (eqb op 11) (below6But 3 f) true))
+assignedBy op f = pick (ltb 12 op) false (pick (eqb op 1) (below6But 2 f) (pick (eqb op 11) (below6But 3 f) (pick (eqb op 12) (ltb f 4) true)))
 
 abbrev agrees : ℕ → ℕ → ℕ → Bool
 agrees e op f = Bool·beq (isAssigned (ruleInRow (getD ruleRows op no-rule) e f)) (assignedBy op f)
@@ -91,17 +91,14 @@ module _ (op w : ℕ) (small : w < 65536) (has : w / 4096 ≡ op) where
       in-row (getD ruleRows (opcode w) no-rule) (e-of w) (f-of w)
       ∙ ap₂ (λ t i. pick t (choiceIn (getD ruleRows i no-rule) (e-of w) (f-of w)) unassigned) (assigned-is w small ∙ ap (λ i. assignedBy i (f-of w)) o) o
 
-  pub past-11 : 11 < op → choice w ≡ unassigned
-  past-11 l =
-      chosen
-      ∙ ap (λ t. pick (pick t false (pick (eqb op 1) (below6But 2 (f-of w)) (pick (eqb op 11) (below6But 3 (f-of w)) true))) (choiceIn (getD ruleRows op no-rule) (e-of w) (f-of w)) unassigned)
-      (lt-ltb 11 op l)
+  pub past-12 : 12 < op → choice w ≡ unassigned
+  past-12 l = chosen ∙ rw (lt-ltb 12 op l)
 
--- an opcode with a gap among its f, where the code's test says t
-pub by-its-f : (op gap w : ℕ) (x : Choice) {t : Bool} → w < 65536 → w / 4096 ≡ op → below6But gap (w % 8) ≡ t
-    → pick (assignedBy op (f-of w)) (choiceIn (getD ruleRows op no-rule) (e-of w) (f-of w)) unassigned ≡ pick (below6But gap (f-of w)) x unassigned
+-- an opcode with some f only, where the code's test of f says t
+pub by-its-f : (op : ℕ) (has-f : ℕ → Bool) (w : ℕ) (x : Choice) {t : Bool} → w < 65536 → w / 4096 ≡ op → has-f (w % 8) ≡ t
+    → pick (assignedBy op (f-of w)) (choiceIn (getD ruleRows op no-rule) (e-of w) (f-of w)) unassigned ≡ pick (has-f (f-of w)) x unassigned
     → choice w ≡ pick t x unassigned
-by-its-f op gap w x small has e s = chosen op w small has ∙ s ∙ ap (λ t. pick t x unassigned) (ap (below6But gap) (sym (f-is w)) ∙ e)
+by-its-f op has-f w x small has e s = chosen op w small has ∙ s ∙ ap (λ t. pick t x unassigned) (ap has-f (sym (f-is w)) ∙ e)
 
 module _ (w : ℕ) (small : w < 65536) where
   pub at-no-port : (w / 4096 ≡ 10 → ⊥) → isOut w ≡ false

@@ -5,15 +5,16 @@ use mathlib.Core.Bool.{Bool, true, false, _&&_}
 use mathlib.Core.List.{List}
 use Prim.Native.Nat.{ℕ, _+_, _*_, _%_}
 use lib.Dec.{eqb}
-use Rattle.word.specs.Fields.{e-of, N8}
+use lib.ListN.{List·getD-map}
+use Rattle.word.specs.Fields.{e-of, f-of, N8}
 use Rattle.word.specs.Word.{pick, add, SE}
 use Rattle.machine.specs.declared.State.{State}
 use Rattle.machine.specs.declared.Stepped.{Stepped}
 use Rattle.machine.specs.Machine.{Machine, putR, putPC, count, onState, putD}
-use Rattle.machine.specs.Step.{PC, d11-9, write, jump, Rule, Choice, rule, division, unassigned, choice, cannot, doing, stepBy, bz, bnz, movi, movhi}
+use Rattle.machine.specs.Step.{PC, d5-3, d11-9, write, jump, Rule, Choice, rule, division, unassigned, choice, cannot, doing, stepBy, bz, bnz, movi, movhi, interruptRules, interrupt}
 use Rattle.machine.specs.Run.{Outcome}
 use Rattle.machine.specs.Held.{outcomeOf}
-use Rattle.rules.specs.Parts.{advancedOf, RuleMeets, raOf, rbOf, targetOf, branchOf, moveOf}
+use Rattle.rules.specs.Parts.{advancedOf, RuleMeets, raOf, rbOf, targetOf, branchOf, moveOf, interruptOf}
 
 -- PC = PC+2 is done
 abbrev on : Machine → Machine
@@ -143,3 +144,11 @@ branches w m = ap (onState count) (by-e (eqb (e-of w) 0)) ∙ go (eqb (e-of w) 0
     go true false a = refl
     go false true a = refl
     go false false a = refl
+
+-- ---- The rule by f of opcode 12: the count may come before it
+
+pub interrupts : (w : ℕ) (m : Machine) → onState count (interrupt w (on m)) ≡ onState (λ u. interruptOf w (advancedOf u)) m
+unfolding interrupt
+interrupts w m =
+    let s = on m .state in
+    ap (λ t. onState (λ u. t) m) (sym (List·getD-map count (interruptRules (putR (d5-3 w)) s) (f-of w) s))

@@ -10,7 +10,7 @@ use Rattle.word.specs.Word.{pick, add, clear0, SE}
 use Rattle.machine.specs.declared.State.{State}
 use Rattle.machine.specs.declared.Stepped.{Stepped}
 use Rattle.machine.specs.Machine.{Machine, R, putR, putPC, count, onState, putD, wordAt}
-use Rattle.machine.specs.Step.{d8-6, among, choice, stepBy}
+use Rattle.machine.specs.Step.{d5-3, d8-6, among, interruptRules, choice, stepBy}
 use Rattle.machine.specs.Held.{outcomeOf}
 
 -- ---- A step of w with the opcode op, from the state s
@@ -64,7 +64,7 @@ moveOf w s = pick (eqb (e-of w) 0) (SE 8 (N8 w)) (raOf w s % 256 + N8 w * 256)
 abbrev pub targetOf : ℕ → ℕ → ℕ
 targetOf w pc = add (add pc 2) (SE 8 (N8 w) * 2)
 
--- ---- The state after a rule that names PC, from the one with PC+2 and the count
+-- ---- The state after a rule that names PC or enable, from the one with PC+2 and the count
 
 -- JALR
 abbrev pub linkOf : ℕ → State → State → State
@@ -75,3 +75,7 @@ abbrev pub branchOf : ℕ → State → State → State
 branchOf w s next =
     let there = putPC (targetOf w (s .pc)) next in
     pick (eqb (raOf w s) 0) (pick (eqb (e-of w) 0) there next) (pick (eqb (e-of w) 0) next there)
+
+-- EI, DI, RETI and GETIID, by f
+abbrev pub interruptOf : ℕ → State → State
+interruptOf w next = getD (interruptRules (putR (d5-3 w)) next) (f-of w) next

@@ -55,6 +55,18 @@ fn product(w: u16, state: State, next: State, entries: usize) -> Stepped
     }
 }
 
+// The step of a word with opcode 12: unassigned where f is over 3.
+fn interrupt(w: u16, state: State, next: State, entries: usize) -> Stepped
+    requires { ⌜ Begun 12 w state next ⌝ }
+    ensures { λ r. ⌜ ((D : List ℕ) → RuleMeets w state D entries r D) ⌝ }
+{
+    if w % 8 < 4 {
+        Stepped::done(rule::interrupted(w, next), entries)
+    } else {
+        Stepped::stopped(1, state, entries)
+    }
+}
+
 // The step of a word with an opcode other than 0, 1 and 10. (The opcode is handed on, so that the tests of it are compiled to one switch.)
 fn by_rule(op: u16, w: u16, state: State, next: State, memory: &mut [u8], entries: usize) -> Stepped
     requires { ⌜ Begun op w state next ⌝ }
@@ -78,6 +90,7 @@ fn by_rule(op: u16, w: u16, state: State, next: State, memory: &mut [u8], entrie
         8 => Stepped::done(rule::branch(w, state, next), entries),
         9 => Stepped::done(rule::moved(w, state, next), entries),
         11 => product(w, state, next, entries),
+        12 => interrupt(w, state, next, entries),
         _ => Stepped::stopped(1, state, entries),
     }
 }

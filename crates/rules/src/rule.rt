@@ -6,7 +6,7 @@ ghost use Rattle.word.specs.Word.{add, clear0, SE, operation, comparison};
 ghost use Rattle.muldiv.specs.Muldiv.{muldiv};
 ghost use Rattle.machine.specs.Machine.{putR, readFrom, putWord, putByte};
 ghost use Rattle.machine.specs.Step.{d5-3, d8-6, d11-9};
-ghost use Rattle.rules.specs.Parts.{dividesByZero, raOf, rbOf, sumOf, wordOf, byteOf, branchOf, linkOf, moveOf};
+ghost use Rattle.rules.specs.Parts.{dividesByZero, raOf, rbOf, sumOf, wordOf, byteOf, branchOf, linkOf, moveOf, interruptOf};
 use machine::Address;
 use machine::Port;
 use machine::State;
@@ -142,4 +142,17 @@ pub fn input(w: u16, next: State, inputs: &mut [u16]) -> State
 {
     let port = Port((w % 256) as u8);
     next.with_register(w / 512, bus::read_input(inputs, port))
+}
+
+// Opcode 12, by f: EI, DI, RETI, GETIID.
+pub fn interrupted(w: u16, next: State) -> State
+    ensures { λ r. ⌜ r ≡ interruptOf w next ⌝ }
+{
+    match w % 8 {
+        0 => next.with_enabled(1),
+        1 => next.with_enabled(0),
+        2 => next.with_enabled(1).with_pc(next.return_address),
+        3 => next.with_register(w / 8, next.line as u16),
+        _ => next,
+    }
 }

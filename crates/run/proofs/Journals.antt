@@ -7,7 +7,7 @@ use Prim.Native.Nat.{ℕ, _+_, _-_, min, _≤_}
 use native.Mathlib.Omega.{arith}
 use lib.ListN.{length}
 use Rattle.machine.specs.declared.State.{State}
-use Rattle.machine.specs.Machine.{putJournaled}
+use Rattle.machine.specs.Machine.{evenPlaces, putJournaled}
 use Rattle.machine.specs.Run.{Stepper}
 use Rattle.run.specs.Runs.{Journal, no-journal, lent-journal, Given, given, journalIf, startIn, allowedIn, allowed, countedIn, acceptedCounted}
 
@@ -47,7 +47,7 @@ abbrev pub started : Given → Given
 started g = given (startIn (g .journal) (g .state)) (g .P) (g .D) (g .I) (g .O) (allowed g) (g .log) (g .journal)
 
 pub record Started (g : Given) : Type 0 where
-  pub pc : started g .state .pc ≡ g .state .pc
+  pub places : evenPlaces (started g .state) ≡ evenPlaces (g .state)
   pub n : started g .state .n ≡ g .state .n
   pub few : started g .budget ≤ g .budget
   pub starts : started (started g) ≡ started g
@@ -57,8 +57,8 @@ pub is-started : (g : Given) → Started g
 is-started g = by-journal (g .journal)
   where
     by-journal : (j : Journal) → Started (given (g .state) (g .P) (g .D) (g .I) (g .O) (g .budget) (g .log) j)
-    by-journal no-journal = record { pc = refl; n = refl; few = omega arith; starts = refl; same = λ v. refl }
+    by-journal no-journal = record { places = refl; n = refl; few = omega arith; starts = refl; same = λ v. refl }
     by-journal (lent-journal xs) =
         let places = length xs - g .state .journaled in
         let again : min (min (g .budget) places) places ≡ min (g .budget) places = omega arith in
-        record { pc = refl; n = refl; few = omega arith; starts = rw again; same = λ v. rw again }
+        record { places = refl; n = refl; few = omega arith; starts = rw again; same = λ v. rw again }

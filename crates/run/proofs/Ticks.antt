@@ -14,7 +14,7 @@ use Rattle.machine.specs.Run.{Stepper, Outcome, noPlace, unless, runFrom, trace
 use Rattle.machine.proofs.Runs.{Lawful}
 use Rattle.usage.specs.Usage.{usageOf, ticksOf}
 use Rattle.usage.specs.Counting.{Few, ticksCounted}
-use Rattle.usage.proofs.Sums.{AtMost, counted-most, unused-most}
+use Rattle.usage.proofs.Sums.{AtMost, step-most, unused-most}
 use Rattle.usage.proofs.Timed.{ticks-counted}
 use Rattle.run.specs.Runs.{Given, allowed, machineAt, outcomeOn, traceOn, acceptedLeft, verdictOn, CountedLeft, countedBy, countedLeft, CountedMeets}
 use Rattle.run.specs.Parts.{ticksBy}
@@ -52,7 +52,7 @@ traced v (suc budget) full m = go (traced v budget full) (unless (noPlace v full
 trace-most : (ms : List Machine) → AtMost (length ms) (usageOf ms)
 unfolding usageOf
 trace-most [] = unused-most
-trace-most (m ∷ ms) = let one : length ms + 1 ≡ suc (length ms) = omega arith in subst (λ n. AtMost n (usageOf (m ∷ ms))) one (counted-most _ _ (trace-most ms))
+trace-most (m ∷ ms) = let one : length ms + 1 ≡ suc (length ms) = omega arith in subst (λ n. AtMost n (usageOf (m ∷ ms))) one (step-most m (trace-most ms))
 
 -- ---- A run
 

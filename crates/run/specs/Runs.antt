@@ -2,13 +2,13 @@
 use mathlib.Core.Path.{_≡_}
 use mathlib.Core.Bool.{Bool, true, false}
 use mathlib.Core.List.{List, [], _++_, map}
-use Prim.Native.Nat.{ℕ, _+_, _-_, _%_, min}
+use Prim.Native.Nat.{ℕ, _+_, _-_, min}
 use lib.Dec.{eqb, leb}
 use lib.ListN.{length, take, drop}
 use Rattle.refusal.specs.Refusals.{refusalNumber, Verdict, accepted, refused}
 use Rattle.word.specs.Word.{pick}
 use Rattle.machine.specs.declared.State.{State}
-use Rattle.machine.specs.Machine.{Machine, putJournaled}
+use Rattle.machine.specs.Machine.{Machine, evenPlaces, putJournaled}
 use Rattle.machine.specs.Lengths.{lengthsFit}
 use Rattle.machine.specs.Slices.{Slice, before, after}
 use Rattle.machine.specs.Run.{Stepper, Outcome, run, trace}
@@ -69,15 +69,15 @@ left reply state P D I O log journal =
 
 -- ---- Refusals: run 1, 5, 6, in order
 
--- 1: the lengths. 5: PC odd. 6: n plus budget over 4,294,967,295.
-unfoldable pub verdict : ℕ → ℕ → List ℕ → List ℕ → List ℕ → List ℕ → ℕ → Verdict
-verdict pc n P D I O budget =
+-- 1: the lengths. 5: PC or the return address odd (02, L12). 6: n plus budget over 4,294,967,295.
+unfoldable pub verdict : State → List ℕ → List ℕ → List ℕ → List ℕ → ℕ → Verdict
+verdict s P D I O budget =
     pick (lengthsFit P D I O)
-    (pick (eqb (pc % 2) 0) (pick (leb (n + budget) 4294967295) accepted (refused 6)) (refused 5))
+    (pick (evenPlaces s) (pick (leb (s .n + budget) 4294967295) accepted (refused 6)) (refused 5))
     (refused 1)
 
 abbrev pub verdictOn : Given → Verdict
-verdictOn g = verdict (g .state .pc) (g .state .n) (g .P) (g .D) (g .I) (g .O) (g .budget)
+verdictOn g = verdict (g .state) (g .P) (g .D) (g .I) (g .O) (g .budget)
 
 abbrev pub shownVerdict : Check → Verdict
 shownVerdict Accepted = accepted

@@ -57,12 +57,12 @@ pub fn checked(
     outputs: &[u16],
     budget: u32,
 ) -> Check
-    ensures { λ r. ⌜ shownVerdict r ≡ verdict (state .pc) (state .n) (now (program .entry)) (now (memory .entry)) (now (inputs .entry)) (now (outputs .entry)) budget ⌝ }
+    ensures { λ r. ⌜ shownVerdict r ≡ verdict state (now (program .entry)) (now (memory .entry)) (now (inputs .entry)) (now (outputs .entry)) budget ⌝ }
 {
     if !bus::lengths_fit(program, memory, inputs, outputs) {
         return Check::Refused(Refusal::LentLength);
     }
-    if state.pc % 2 != 0 {
+    if !state.is_even() {
         return Check::Refused(Refusal::OddPc);
     }
     if 4294967295 - state.n < budget {

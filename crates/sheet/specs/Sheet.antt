@@ -14,7 +14,7 @@ use Rattle.sheet.specs.declared.Feeding.{Feeding}
 use Rattle.sheet.specs.declared.Feeding.the-variants.{Taken, Refused}
 
 abbrev pub empty : Sheet
-empty = record { kinds = replicate kindCount 0; reads = replicate 8 0; writes = replicate 8 0; runs = 0 }
+empty = record { kinds = replicate kindCount 0; taken = 0; reads = replicate 8 0; writes = replicate 8 0; runs = 0 }
 
 -- counts added place by place, modulo 2^64
 unfoldable pub sums : List ℕ → List ℕ → List ℕ
@@ -24,7 +24,8 @@ sums (x ∷ xs) (y ∷ ys) = (x + y) % 2 ^ 64 ∷ sums xs ys
 
 -- the sheet with the counts of an accepted run
 abbrev pub withRun : Sheet → Usage → Sheet
-withRun s u = record { kinds = sums (s .kinds) (u .kinds); reads = sums (s .reads) (u .reads); writes = sums (s .writes) (u .writes); runs = s .runs + 1 }
+withRun s u =
+    record { kinds = sums (s .kinds) (u .kinds); taken = (s .taken + u .taken) % 2 ^ 64; reads = sums (s .reads) (u .reads); writes = sums (s .writes) (u .writes); runs = s .runs + 1 }
 
 abbrev pub shownFeeding : Feeding → Verdict
 shownFeeding Taken = accepted

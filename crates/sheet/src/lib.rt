@@ -12,6 +12,7 @@ use usage::Usage;
 #[repr(C)]
 pub struct Sheet {
     pub kinds: [u64; kinds::COUNT],
+    pub taken: u64,
     pub reads: [u64; 8],
     pub writes: [u64; 8],
     pub runs: u16,
@@ -34,6 +35,7 @@ impl Sheet {
     {
         Self {
             kinds: [0; kinds::COUNT],
+            taken: 0,
             reads: [0; 8],
             writes: [0; 8],
             runs: 0,
@@ -69,6 +71,7 @@ fn with_run(sheet: Sheet, usage: Usage) -> Sheet
     add_counts(&mut writes, &more_writes);
     Sheet {
         kinds: kinds,
+        taken: wrapping_add_u64(sheet.taken, usage.taken),
         reads: reads,
         writes: writes,
         runs: sheet.runs + 1,

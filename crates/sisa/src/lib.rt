@@ -4,7 +4,7 @@ ghost use mathlib.Core.Path.{_≡_};
 ghost use Rattle.machine.specs.Run.{byRules};
 ghost use Rattle.control.specs.Control.{byTable};
 ghost use Rattle.isa.specs.Masks.{decodingOf};
-ghost use Rattle.replies.specs.Sisa.{SisaLoads, SisaSaves, SisaAssembles, SisaSets, SisaRuns, SisaRunsJournaled, SisaGoesBack, sisaInstruction, sisaWrite, sisaFeed, SisaShows};
+ghost use Rattle.replies.specs.Sisa.{SisaLoads, SisaSaves, SisaAssembles, SisaSets, SisaRuns, SisaRunsJournaled, SisaGoesBack, sisaInstruction, sisaWrite, sisaFeed, sisaRaise, SisaShows};
 use machine::Port;
 use machine::State;
 use replies::SisaAssembly;
@@ -12,6 +12,7 @@ use replies::SisaBack;
 use replies::SisaFed;
 use replies::SisaInstruction;
 use replies::SisaLoad;
+use replies::SisaRaised;
 use replies::SisaRun;
 use replies::SisaSaved;
 use replies::SisaWindow;
@@ -170,6 +171,14 @@ pub extern "C" fn sisa_step_back(
 {
     let backed = back::step_back(state, program, memory, inputs, outputs, journal, k);
     replies::back(backed)
+}
+
+#[no_mangle]
+pub extern "C" fn sisa_raise(state: State, line: u8) -> SisaRaised
+    ensures { λ r. ⌜ r ≡ sisaRaise state line ⌝ }
+{
+    let raised = panel::raise(state, line);
+    replies::raised(raised)
 }
 
 // A run_refusal that is not 0: a refused run.

@@ -121,6 +121,11 @@ table =
     ∷ row (ascii "MULHU") d-a-b number
     ∷ row (ascii "DIV") d-a-b number
     ∷ row (ascii "DIVU") d-a-b number
+    -- 02, L12: GETIID alone with an operand, its register
+    ∷ row (ascii "EI") [] number
+    ∷ row (ascii "DI") [] number
+    ∷ row (ascii "RETI") [] number
+    ∷ row (ascii "GETIID") (Rd ∷ []) number
     ∷ row (ascii ".word") (N ∷ []) number
     ∷ []
 

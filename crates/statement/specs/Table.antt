@@ -11,11 +11,11 @@ use Rattle.token.specs.Ascii.{byte, ascii}
 use Rattle.statement.specs.Syntax.{Item, register, punctuation, N, Field, number, eight-bits, target}
 
 abbrev pub rowText : List ℕ
-rowText = ascii "AND   d,a,b OR    d,a,b XOR   d,a,b NOT   d,a   ADD   d,a,b SUB   d,a,b SHA   d,a,b SHL   d,a,b CMPLT d,a,b CMPLE d,a,b CMPEQ d,a,b CMPLTUd,a,b CMPLEUd,a,b ADDI  d,a,n LD    d,n(a)ST    n(a),bLDB   d,n(a)STB   n(a),bJALR  d,a   BZ    a,n   BNZ   a,n   MOVI  d,n   MOVHI d,n   IN    d,n   OUT   n,a   MUL   d,a,b MULH  d,a,b MULHU d,a,b DIV   d,a,b DIVU  d,a,b .word n     "
+rowText = ascii "AND   d,a,b OR    d,a,b XOR   d,a,b NOT   d,a   ADD   d,a,b SUB   d,a,b SHA   d,a,b SHL   d,a,b CMPLT d,a,b CMPLE d,a,b CMPEQ d,a,b CMPLTUd,a,b CMPLEUd,a,b ADDI  d,a,n LD    d,n(a)ST    n(a),bLDB   d,n(a)STB   n(a),bJALR  d,a   BZ    a,n   BNZ   a,n   MOVI  d,n   MOVHI d,n   IN    d,n   OUT   n,a   MUL   d,a,b MULH  d,a,b MULHU d,a,b DIV   d,a,b DIVU  d,a,b EI          DI          RETI        GETIIDd     .word n     "
 
 -- the bytes of each mnemonic
 abbrev pub mnemonicLengths : List ℕ
-mnemonicLengths = 3 ∷ 2 ∷ 3 ∷ 3 ∷ 3 ∷ 3 ∷ 3 ∷ 3 ∷ 5 ∷ 5 ∷ 5 ∷ 6 ∷ 6 ∷ 4 ∷ 2 ∷ 2 ∷ 3 ∷ 3 ∷ 4 ∷ 2 ∷ 3 ∷ 4 ∷ 5 ∷ 2 ∷ 3 ∷ 3 ∷ 4 ∷ 5 ∷ 3 ∷ 4 ∷ 5 ∷ []
+mnemonicLengths = 3 ∷ 2 ∷ 3 ∷ 3 ∷ 3 ∷ 3 ∷ 3 ∷ 3 ∷ 5 ∷ 5 ∷ 5 ∷ 6 ∷ 6 ∷ 4 ∷ 2 ∷ 2 ∷ 3 ∷ 3 ∷ 4 ∷ 2 ∷ 3 ∷ 4 ∷ 5 ∷ 2 ∷ 3 ∷ 3 ∷ 4 ∷ 5 ∷ 3 ∷ 4 ∷ 2 ∷ 2 ∷ 4 ∷ 6 ∷ 5 ∷ []
 
 unfoldable pub itemOf : ℕ → Item
 itemOf c =

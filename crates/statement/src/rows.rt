@@ -7,20 +7,20 @@ ghost use Rattle.statement.specs.Syntax.{table, rowAt};
 ghost use Rattle.statement.specs.Reading.{rowOf};
 ghost use Rattle.statement.specs.Table.{rowText, mnemonicLengths, fieldOf};
 
-pub const ROWS: usize = 31;
+pub const ROWS: usize = 35;
 
 // In the text of the table a row has 12 bytes: six for the mnemonic, six for its operands.
 pub const ROW_BYTES: usize = 12;
 
 pub const OPERANDS_AT: usize = 6;
 
-const TABLE_BYTES: usize = 372;
+const TABLE_BYTES: usize = 420;
 
 // The text of the table.
 pub fn table() -> [u8; TABLE_BYTES]
     ensures { λ r. ⌜ r ≡ rowText ⌝ }
 {
-    *b"AND   d,a,b OR    d,a,b XOR   d,a,b NOT   d,a   ADD   d,a,b SUB   d,a,b SHA   d,a,b SHL   d,a,b CMPLT d,a,b CMPLE d,a,b CMPEQ d,a,b CMPLTUd,a,b CMPLEUd,a,b ADDI  d,a,n LD    d,n(a)ST    n(a),bLDB   d,n(a)STB   n(a),bJALR  d,a   BZ    a,n   BNZ   a,n   MOVI  d,n   MOVHI d,n   IN    d,n   OUT   n,a   MUL   d,a,b MULH  d,a,b MULHU d,a,b DIV   d,a,b DIVU  d,a,b .word n     "
+    *b"AND   d,a,b OR    d,a,b XOR   d,a,b NOT   d,a   ADD   d,a,b SUB   d,a,b SHA   d,a,b SHL   d,a,b CMPLT d,a,b CMPLE d,a,b CMPEQ d,a,b CMPLTUd,a,b CMPLEUd,a,b ADDI  d,a,n LD    d,n(a)ST    n(a),bLDB   d,n(a)STB   n(a),bJALR  d,a   BZ    a,n   BNZ   a,n   MOVI  d,n   MOVHI d,n   IN    d,n   OUT   n,a   MUL   d,a,b MULH  d,a,b MULHU d,a,b DIV   d,a,b DIVU  d,a,b EI          DI          RETI        GETIIDd     .word n     "
 }
 
 // The bytes of each mnemonic.
@@ -55,6 +55,10 @@ const LENGTHS: [u8; ROWS] = [
     5,
     3,
     4,
+    2,
+    2,
+    4,
+    6,
     5,
 ];
 

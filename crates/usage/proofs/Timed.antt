@@ -1,7 +1,7 @@
 -- The ticks of a trace, from its steps and counts.
 -- Assumes nothing.
 use mathlib.Core.Path.{_≡_, refl, sym, ap, subst, _∙_}
-use mathlib.Core.Bool.{Bool, true, false, _||_}
+use mathlib.Core.Bool.{Bool, true, false, not, _&&_, _||_}
 use mathlib.Core.List.{List, [], _∷_}
 use Prim.Native.Nat.{ℕ, zero, suc, _+_, _*_, _<_, _≤_}
 use native.Mathlib.Nat.{zero-add}
@@ -16,7 +16,7 @@ use Rattle.kinds.specs.Kinds.{kinds, kindNumber}
 use Rattle.isa.specs.declared.rows.Entry.{Entry}
 use Rattle.isa.specs.declared.rows.Entry.the-variants.{Unassigned, Assigned}
 use Rattle.isa.specs.Sheet.{kindAt}
-use Rattle.machine.specs.Machine.{Machine}
+use Rattle.machine.specs.Machine.{Machine, takesLine}
 use Rattle.machine.specs.Step.{fetched}
 use Rattle.usage.specs.Usage.{isKind, doesKind, addedFrom, usageOf, ticksAt, ticksOf}
 use Rattle.usage.specs.Counting.{ticksCounted}
@@ -56,11 +56,17 @@ one-tick : (e : Entry) → pick (isKind e 14 || isKind e 15 || isKind e 16 || is
 one-tick Unassigned = refl
 one-tick (Assigned k) = one-more (kindNumber k)
 
+-- a machine that takes a line does no kind
+no-tick : (t : Bool) (e : Entry) → let is : ℕ → Bool = λ j. not t && isKind e j in
+    pick (is 14 || is 15 || is 16 || is 17) 4 3 ≡ 3 + flag (is 14) + flag (is 15) + flag (is 16) + flag (is 17)
+no-tick true e = refl
+no-tick false e = one-tick e
+
 pub ticks-counted : (ms : List Machine) → ticksOf ms ≡ ticksCounted (length ms) (usageOf ms .kinds)
 unfolding ticksOf usageOf
 ticks-counted [] = refl
 ticks-counted (m ∷ ms) =
     let xs = usageOf ms .kinds in
     let l : length xs ≡ length kinds = trace-sized ms .kinds in
-    let at : (k : ℕ) → k < 30 → getD (addedFrom 0 (doesKind m) xs) k 0 ≡ getD xs k 0 + flag (doesKind m k) = λ k h. added-at 0 k (doesKind m) xs (omega arith) ∙ ap (λ j. getD xs k 0 + flag (doesKind m j)) (zero-add k) in
-    omega (arith, ticks-counted ms, one-tick (kindAt (opcode (fetched m)) (e-of (fetched m)) (f-of (fetched m))), at 14 (omega arith), at 15 (omega arith), at 16 (omega arith), at 17 (omega arith))
+    let at : (k : ℕ) → k < length kinds → getD (addedFrom 0 (doesKind m) xs) k 0 ≡ getD xs k 0 + flag (doesKind m k) = λ k h. added-at 0 k (doesKind m) xs (omega arith) ∙ ap (λ j. getD xs k 0 + flag (doesKind m j)) (zero-add k) in
+    omega (arith, ticks-counted ms, no-tick (takesLine (m .state)) (kindAt (opcode (fetched m)) (e-of (fetched m)) (f-of (fetched m))), at 14 (omega arith), at 15 (omega arith), at 16 (omega arith), at 17 (omega arith))

@@ -5,16 +5,14 @@ use mathlib.Core.List.{List, [], _∷_, _++_}
 use Prim.Native.Nat.{_+_}
 use native.Mathlib.Omega.{arith}
 use Rattle.machine.specs.Machine.{Machine}
-use Rattle.usage.specs.Usage.{doesKind, masksAt, counted, usageOf, ticksOf, plusUsage}
-use Rattle.usage.proofs.Sums.{plus-counted, counted-plus, trace-sized, unused-plus}
+use Rattle.usage.specs.Usage.{stepCounted, usageOf, ticksOf, plusUsage}
+use Rattle.usage.proofs.Sums.{plus-step, step-plus, trace-sized, unused-plus}
 
 pub usage-append : (ms ns : List Machine) → usageOf (ms ++ ns) ≡ plusUsage (usageOf ms) (usageOf ns)
 unfolding usageOf
 usage-append [] ns = sym (unused-plus (trace-sized ns))
 usage-append (m ∷ ms) ns =
-    ap (counted (doesKind m) (masksAt m)) (usage-append ms ns)
-    ∙ sym (plus-counted (doesKind m) (masksAt m) (usageOf ms) (usageOf ns))
-    ∙ sym (counted-plus (doesKind m) (masksAt m) (usageOf ms) (usageOf ns))
+    ap (stepCounted m) (usage-append ms ns) ∙ sym (plus-step m (usageOf ms) (usageOf ns)) ∙ sym (step-plus m (usageOf ms) (usageOf ns))
 
 pub ticks-append : (ms ns : List Machine) → ticksOf (ms ++ ns) ≡ ticksOf ms + ticksOf ns
 unfolding ticksOf

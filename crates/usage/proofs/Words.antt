@@ -1,16 +1,17 @@
 -- What a step of a word counts, by opcode, e and f: tests of the numbers that stand in the word, and no masks.
 -- Assumes nothing.
 use mathlib.Core.Path.{_≡_, refl, sym, _∙_, ap}
-use mathlib.Core.Bool.{Bool, true, false}
+use mathlib.Core.Bool.{Bool, true, false, not, _&&_}
 use mathlib.Core.List.{List, map}
 use Prim.Native.Nat.{ℕ, _+_, _%_, _^_, _<_, _≤_}
+use native.Mathlib.Nat.{add-zero}
 use native.Mathlib.Omega.{arith}
 use borrow.Author.Tests.{ne-eqb, le-ltb}
 use lib.Bits.{bitOr}
 use lib.Dec.{eqb, ltb}
 use lib.ListN.{length, getD, List·getD-map}
 use Rattle.word.specs.Fields.{Bits, bits, field, opcode, e-of, f-of, a-of, b-of}
-use Rattle.word.specs.Word.{pick}
+use Rattle.word.specs.Word.{pick, flag}
 use Rattle.kinds.specs.declared.Kind.{Kind}
 use Rattle.kinds.specs.declared.Kind.the-variants.{And, Not}
 use Rattle.kinds.specs.Kinds.{kinds, kindNumber}
@@ -21,8 +22,10 @@ use Rattle.isa.specs.Sheet.{sheetLine, kindAt}
 use Rattle.isa.specs.Masks.{inMask, registerMask, readsDestination, readsOf, masksAs, masksOf}
 use Rattle.isa.proofs.Every.{entry-few}
 use Rattle.usage.specs.declared.Usage.{Usage}
-use Rattle.usage.specs.Usage.{isKind, wordIs, added, countedBy, counted}
-use Rattle.usage.specs.Counting.{counters, countedThree}
+use Rattle.machine.specs.Machine.{Machine, takesLine}
+use Rattle.machine.specs.Step.{fetched}
+use Rattle.usage.specs.Usage.{isKind, wordIs, added, countedBy, counted, tookLines, stepCounted}
+use Rattle.usage.specs.Counting.{usageWith, counters, countedThree}
 use Rattle.usage.proofs.Added.{added-nowhere}
 use Rattle.usage.proofs.InMasks.{in-none, in-one, in-or}
 use Rattle.usage.proofs.Functions.{table, at}
@@ -72,11 +75,28 @@ none : (xs : List ℕ) → added nowhere xs ≡ xs
 none xs = added-nowhere 0 nowhere xs (λ j l. refl)
 
 uncounted : (u : Usage) → countedBy nowhere nowhere nowhere u ≡ u
-uncounted u = λ i. counters (none (u .kinds) i) (none (u .reads) i) (none (u .writes) i)
+uncounted u = λ i. usageWith (u .taken) (none (u .kinds) i) (none (u .reads) i) (none (u .writes) i)
 
 after-is : (x : Entry) (w : ℕ) (u : Usage) → after x w u ≡ counted (isKind x) (masksAs x w) u
 after-is (Assigned k) w u = sym (λ i. countedBy (eqb (kindNumber k)) (λ j. in-reads k w j i) (λ j. in-part (sheetLine k .format .d) w j i) u)
 after-is Unassigned w u = sym ((λ i. countedBy nowhere (λ j. in-none j i) (λ j. in-none j i) u) ∙ uncounted u)
+
+-- ---- The step of a machine
+
+by-test : (t : Bool) (w : ℕ) (u : Usage)
+    → tookLines (flag t) (counted (λ j. not t && wordIs w j) (pick t (record { reads = 0; writes = 0 }) (masksOf w)) u)
+    ≡ pick t (tookLines 1 u) (counted (wordIs w) (masksOf w) u)
+by-test true w u = ap (tookLines 1) ((λ i. countedBy nowhere (λ j. in-none j i) (λ j. in-none j i) u) ∙ uncounted u)
+by-test false w u = let x = counted (wordIs w) (masksOf w) u in λ i. usageWith (add-zero (x .taken) i) (x .kinds) (x .reads) (x .writes)
+
+module _ (m : Machine) (u : Usage) where
+  -- one that takes a line counts that line and nothing else
+  pub taking-counted : takesLine (m .state) ≡ true → stepCounted m u ≡ tookLines 1 u
+  taking-counted e = by-test (takesLine (m .state)) (fetched m) u ∙ ap (λ t. pick t (tookLines 1 u) (counted (wordIs (fetched m)) (masksOf (fetched m)) u)) e
+
+  -- any other counts its word
+  pub fetching-counted : takesLine (m .state) ≡ false → stepCounted m u ≡ counted (wordIs (fetched m)) (masksOf (fetched m)) u
+  fetching-counted e = by-test (takesLine (m .state)) (fetched m) u ∙ ap (λ t. pick t (tookLines 1 u) (counted (wordIs (fetched m)) (masksOf (fetched m)) u)) e
 
 -- at the opcode, e and f of w
 pub of-word : (w op e f : ℕ) (u : Usage) → opcode w ≡ op → e-of w ≡ e → f-of w ≡ f → after (kindAt op e f) w u ≡ counted (wordIs w) (masksOf w) u
@@ -90,6 +110,10 @@ module _ {K' X' : List ℕ} (K X Y : List ℕ) (s t : ℕ → Bool) (e : (K' ≡
 
   pub writing : counters K' Y X' ≡ countedBy s nowhere t (counters K Y X)
   writing = λ i. counters (e .0 i) (sym (none Y) i) (e .1 i)
+
+-- and of none
+pub neither : {K' : List ℕ} (K X Y : List ℕ) (s : ℕ → Bool) → K' ≡ added s K → counters K' X Y ≡ countedBy s nowhere nowhere (counters K X Y)
+neither K X Y s e = λ i. counters (e i) (sym (none X) i) (sym (none Y) i)
 
 -- ---- What the code counts at an opcode, where e or f choose by number
 
@@ -132,10 +156,20 @@ move w u p q =
     sym (λ i. countedBy (eqb (21 + e-of w)) (q i) (eqb (a-of w)) u)
     ∙ row 9 (λ e f w u. countedBy (eqb (21 + e)) (pick (eqb e 1) (eqb (a-of w)) nowhere) (eqb (a-of w)) u) refl w u p
 
--- from 12 on
-unassigned : (op e f : ℕ) → op < 16 → 12 ≤ op → kindAt op e f ≡ Unassigned
-unfolding table kindAt
-unassigned op e f l h = rw (le-ltb op 12 h) at (at {A = Entry} 16 (λ op. pick (ltb op 12) Unassigned (kindAt op e f)) (λ op. Unassigned) refl op l)
+-- opcode 12: EI, DI and RETI touch no register, GETIID writes d
+abbrev interrupting : ℕ → ℕ → Usage → Usage
+interrupting f w u =
+    pick (ltb f 3) (countedBy (eqb (30 + f)) nowhere nowhere u)
+    (pick (eqb f 3) (countedBy (eqb 33) nowhere (eqb (field (bits 5 3) w)) u) u)
 
-pub past-11 : (w : ℕ) (u : Usage) → 12 ≤ opcode w → u ≡ counted (wordIs w) (masksOf w) u
-past-11 w u h = ap (λ x. after x w u) (sym (unassigned (opcode w) (e-of w) (f-of w) (omega arith) h)) ∙ of-word w _ _ _ u refl refl refl
+pub interrupt : (w : ℕ) (u : Usage) {v : Usage} → opcode w ≡ 12 → interrupting (w % 8) w u ≡ v → v ≡ counted (wordIs w) (masksOf w) u
+unfolding table kindAt
+interrupt w u p q = sym q ∙ row 12 (λ e f. interrupting f) refl w u p
+
+-- from 13 on
+unassigned : (op e f : ℕ) → op < 16 → 13 ≤ op → kindAt op e f ≡ Unassigned
+unfolding table kindAt
+unassigned op e f l h = rw (le-ltb op 13 h) at (at {A = Entry} 16 (λ op. pick (ltb op 13) Unassigned (kindAt op e f)) (λ op. Unassigned) refl op l)
+
+pub past-12 : (w : ℕ) (u : Usage) → 13 ≤ opcode w → u ≡ counted (wordIs w) (masksOf w) u
+past-12 w u h = ap (λ x. after x w u) (sym (unassigned (opcode w) (e-of w) (f-of w) (omega arith) h)) ∙ of-word w _ _ _ u refl refl refl

@@ -9,9 +9,13 @@ use Rattle.kinds.specs.Kinds.{kinds}
 use Rattle.usage.specs.declared.Usage.{Usage}
 use Rattle.usage.specs.Usage.{countedBy}
 
--- what the three lists of counters hold
+-- what the count of lines taken and the three lists of counters hold
+abbrev pub usageWith : ℕ → List ℕ → List ℕ → List ℕ → Usage
+usageWith taken kinds reads writes = record { kinds = kinds; taken = taken; reads = reads; writes = writes }
+
+-- where no line was taken
 abbrev pub counters : List ℕ → List ℕ → List ℕ → Usage
-counters kinds reads writes = record { kinds = kinds; reads = reads; writes = writes }
+counters kinds reads writes = usageWith 0 kinds reads writes
 
 -- one step more fits each counter
 abbrev pub Below : List ℕ → Type 0

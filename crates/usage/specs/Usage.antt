@@ -1,5 +1,5 @@
--- The counts of a run (02, L5): over its trace, the machines before each step that it took, steps by kind, and reads and writes by
--- register; and its ticks (L9).
+-- The counts of a run (02, L5): over its trace, the machines before each step that it took, steps by kind, lines taken (L12), and reads and
+-- writes by register; and its ticks (L9).
 use Prim.Native.Nat.{ℕ, suc, _+_}
 use mathlib.Core.Bool.{Bool, false, _||_}
 use mathlib.Core.List.{List, [], _∷_}
@@ -14,8 +14,9 @@ use Rattle.isa.specs.declared.rows.Entry.{Entry}
 use Rattle.isa.specs.declared.rows.Entry.the-variants.{Unassigned, Assigned}
 use Rattle.isa.specs.Sheet.{kindAt}
 use Rattle.isa.specs.Masks.{Masks, inMask, masksOf}
-use Rattle.machine.specs.Machine.{Machine}
+use Rattle.machine.specs.Machine.{Machine, takesLine}
 use Rattle.machine.specs.Step.{fetched}
+use Rattle.machine.specs.Run.{fetchesA}
 use Rattle.usage.specs.declared.Usage.{Usage}
 
 -- ---- What a machine does next
@@ -28,13 +29,13 @@ isKind Unassigned j = false
 abbrev pub wordIs : ℕ → ℕ → Bool
 wordIs w j = isKind (kindAt (opcode w) (e-of w) (f-of w)) j
 
--- m does an instruction of the kind with number j next
+-- m does an instruction of the kind with number j next; where it takes a line (02, L12), it does none
 abbrev pub doesKind : Machine → ℕ → Bool
-doesKind m j = wordIs (fetched m) j
+doesKind m j = fetchesA (λ w. wordIs w j) m
 
--- the masks of what m does next: those of the word fetched
+-- the masks of what m does next: those of the word fetched; taking a line reads and writes no register
 abbrev pub masksAt : Machine → Masks
-masksAt m = masksOf (fetched m)
+masksAt m = pick (takesLine (m .state)) (record { reads = 0; writes = 0 }) (masksOf (fetched m))
 
 -- ---- Counts
 
@@ -48,21 +49,30 @@ added test xs = addedFrom 0 test xs
 
 -- 1 more at the places that each list's test tells
 abbrev pub countedBy : (ℕ → Bool) → (ℕ → Bool) → (ℕ → Bool) → Usage → Usage
-countedBy kind reads writes u = record { kinds = added kind (u .kinds); reads = added reads (u .reads); writes = added writes (u .writes) }
+countedBy kind reads writes u =
+    record { kinds = added kind (u .kinds); taken = u .taken; reads = added reads (u .reads); writes = added writes (u .writes) }
 
 -- one step more: `kinds` counts it by its kind's number, `reads` and `writes` once for each register in its masks
 abbrev pub counted : (ℕ → Bool) → Masks → Usage → Usage
 counted kind masks u = countedBy kind (inMask (masks .reads)) (inMask (masks .writes)) u
 
+-- so many lines taken more
+abbrev pub tookLines : ℕ → Usage → Usage
+tookLines k u = record { kinds = u .kinds; taken = u .taken + k; reads = u .reads; writes = u .writes }
+
 abbrev pub unused : Usage
-unused = record { kinds = replicate kindCount 0; reads = replicate 8 0; writes = replicate 8 0 }
+unused = record { kinds = replicate kindCount 0; taken = 0; reads = replicate 8 0; writes = replicate 8 0 }
+
+-- the step of m counted; taking a line has a count of its own
+abbrev pub stepCounted : Machine → Usage → Usage
+stepCounted m u = tookLines (flag (takesLine (m .state))) (counted (doesKind m) (masksAt m) u)
 
 -- the counts of a trace
 unfoldable pub usageOf : List Machine → Usage
 usageOf [] = unused
-usageOf (m ∷ ms) = counted (doesKind m) (masksAt m) (usageOf ms)
+usageOf (m ∷ ms) = stepCounted m (usageOf ms)
 
--- ---- Ticks (02, L9): the multicycle board takes 3 an instruction, and 4 for LD, ST, LDB and STB
+-- ---- Ticks (02, L9): the multicycle board takes 3 an instruction, and 4 for LD, ST, LDB and STB; taking a line takes 3 (L12)
 
 -- m does an instruction of the kind k next
 abbrev pub does : Kind → Machine → Bool
@@ -88,6 +98,7 @@ abbrev pub plusUsage : Usage → Usage → Usage
 plusUsage u v =
     record {
       kinds = plusCounts (u .kinds) (v .kinds);
+      taken = u .taken + v .taken;
       reads = plusCounts (u .reads) (v .reads);
       writes = plusCounts (u .writes) (v .writes);
     }

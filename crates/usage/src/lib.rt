@@ -1,4 +1,4 @@
-// The counts of a run: steps by kind, and reads and writes by register.
+// The counts of a run: steps by kind, lines taken, and reads and writes by register.
 ghost use mathlib.Core.Path.{_≡_};
 ghost use Prim.Native.Nat.{_<_, _≤_};
 ghost use lib.Dec.{eqb};
@@ -11,6 +11,7 @@ ghost use Rattle.usage.specs.Counting.{counters, Below, Countable, eithe
 #[repr(C)]
 pub struct Usage {
     pub kinds: [u64; kinds::COUNT],
+    pub taken: u64,
     pub reads: [u64; 8],
     pub writes: [u64; 8],
 }
@@ -21,6 +22,7 @@ impl Usage {
     {
         Self {
             kinds: [0; kinds::COUNT],
+            taken: 0,
             reads: [0; 8],
             writes: [0; 8],
         }
@@ -28,7 +30,7 @@ impl Usage {
 }
 
 // Where an opcode's f has no kind.
-const NO: u8 = 30;
+const NO: u8 = 34;
 
 // Opcode 1 by f: CMPLT, CMPLE, -, CMPEQ, CMPLTU, CMPLEU, -, -.
 const COMPARISONS: [u8; 8] = [8, 9, NO, 10, 11, 12, NO, NO];
@@ -141,6 +143,15 @@ pub fn tally(w: u16, kinds: &mut [u64; kinds::COUNT], reads: &mut [u64; 8], writ
             }
         }
         11 => abd(MULDIVS[f] as usize, a, b, d, kinds, reads, writes),
+        12 => {
+            if f < 3 {
+                add(kinds, 30 + f)
+            } else {
+                if f == 3 {
+                    one(33, d, kinds, writes)
+                }
+            }
+        }
         _ => {}
     }
 }

@@ -8,6 +8,7 @@ mod calls;
 mod files;
 mod host;
 mod keys;
+mod knobs;
 mod runs;
 mod saves;
 mod tables;
@@ -17,6 +18,7 @@ pub use boards::storing_file;
 pub use calls::lines;
 pub use files::file;
 pub use keys::key_file;
+pub use knobs::knob_file;
 pub use tables::{file as table_file, lines as table_lines, table};
 
 use std::fmt;

@@ -1,13 +1,13 @@
 //! The step by a control table, the paper's or any other.
 //!
 //! "Except by f in units 0 and 1, the table engine learns only from this word
-//! what to do." L6: "unit 5, which selects by f" too. A value that a field doesn't
-//! list "stands for the number 0", "bit 15 says nothing, and what a step reads it
-//! reads before it stores" (docs/CONFORMANCE.md).
+//! what to do." L6: "unit 5, which selects by f" too, and L12: "bit 15 leaves the
+//! choice to f". A value that a field doesn't list "stands for the number 0, [...]
+//! and what a step reads it reads before it stores" (docs/CONFORMANCE.md).
 
 use crate::machine::{
-    branch_target, comparison, data_word, divides_by_zero, e, extension, f, log_entry, opcode,
-    operation, store_data_word, take_input, Places, State, Stepped,
+    branch_target, comparison, data_word, divides_by_zero, e, extension, f, interrupt, log_entry,
+    opcode, operation, store_data_word, take_input, Places, State, Stepped,
 };
 use crate::number::{bit_0_cleared, bits, modulo16, sign_extend, unsigned};
 
@@ -28,7 +28,8 @@ pub const TABLE: Table = [
     0x4263, 0x4283, // 9
     0x4013, 0x4C00, // 10
     0x40A1, 0x40A1, // 11
-    0, 0, 0, 0, 0, 0, 0, 0, // 12 to 15
+    0xC001, 0xC001, // 12
+    0, 0, 0, 0, 0, 0, // 13 to 15
 ];
 
 /// The table's own word for an instruction word.
@@ -41,9 +42,17 @@ fn unit(c: u16) -> i64 {
     bits(c, 7, 5)
 }
 
-/// "Bit 14: assigned, in unit 1 also by f." By L6 in unit 5 too.
+/// L12: "bit 15 leaves the choice to f". The other fields but the destination then
+/// say nothing (docs/CONFORMANCE.md).
+fn leaves_to_f(c: u16) -> bool {
+    bits(c, 15, 15) == 1
+}
+
+/// "Bit 14: assigned, in unit 1 also by f." By L6 in unit 5 too, and by L12 where
+/// bit 15 is set.
 pub fn assigned(c: u16, w: u16) -> bool {
     let by_f = match unit(c) {
+        _ if leaves_to_f(c) => matches!(f(w), 0..=3),
         1 => comparison(f(w), 0, 0).is_some(),
         5 => extension(f(w), 0, 1).is_some(),
         _ => true,
@@ -55,12 +64,12 @@ pub fn assigned(c: u16, w: u16) -> bool {
 /// choose is zero, whatever its other fields are" (docs/CONFORMANCE.md)
 pub fn zero_divisor(c: u16, w: u16, state: &State) -> bool {
     let (_, rb) = operands(w, state);
-    unit(c) == 5 && divides_by_zero(f(w), second_operand(c, w, rb))
+    !leaves_to_f(c) && unit(c) == 5 && divides_by_zero(f(w), second_operand(c, w, rb))
 }
 
 /// "Bits 11..10 store: ... 3 port from Ra."
 pub fn writes_port(c: u16) -> bool {
-    bits(c, 11, 10) == 3
+    !leaves_to_f(c) && bits(c, 11, 10) == 3
 }
 
 /// "Bits 9..8 second operand: 0 Rb, 1 SE(N6), 2 SE(N8)."
@@ -160,11 +169,41 @@ fn next(c: u16, w: u16, x: &Read, pc: u16) -> u16 {
     }
 }
 
-/// One step, with the control word as an argument; None if unassigned, or on a
-/// zero divisor.
+/// "Bits 1..0 destination: 0 none, 1 bits 5..3, 2 bits 8..6, 3 bits 11..9."
+fn write_register(c: u16, w: u16, value: u16, after: &mut State) {
+    match bits(c, 1, 0) {
+        1 => after.r[bits(w, 5, 3) as usize] = value,
+        2 => after.r[bits(w, 8, 6) as usize] = value,
+        3 => after.r[bits(w, 11, 9) as usize] = value,
+        _ => {}
+    }
+}
+
+/// The step where bit 15 leaves the choice to f: EI, DI, RETI, and GETIID, whose
+/// number goes to the destination.
+fn step_by_f(c: u16, w: u16, state: State) -> Stepped {
+    let mut after = State {
+        n: state.n.wrapping_add(1),
+        pc: modulo16(i64::from(state.pc) + 2),
+        ..state
+    };
+    if let Some(number) = interrupt(f(w), &mut after) {
+        write_register(c, w, number, &mut after);
+    }
+    Stepped {
+        state: after,
+        entry: None,
+    }
+}
+
+/// The instruction, with the control word as an argument; None if unassigned, or on
+/// a zero divisor.
 pub fn step(c: u16, w: u16, state: State, places: &mut Places) -> Option<Stepped> {
     if !assigned(c, w) || zero_divisor(c, w, &state) {
         return None;
+    }
+    if leaves_to_f(c) {
+        return Some(step_by_f(c, w, state));
     }
     // "Registers are read before any is written." So is memory.
     let x = Read::of(c, w, &state);
@@ -175,13 +214,7 @@ pub fn step(c: u16, w: u16, state: State, places: &mut Places) -> Option<Stepped
         pc: next(c, w, &x, state.pc),
         ..state
     };
-    // "Bits 1..0 destination: 0 none, 1 bits 5..3, 2 bits 8..6, 3 bits 11..9."
-    match bits(c, 1, 0) {
-        1 => after.r[bits(w, 5, 3) as usize] = result,
-        2 => after.r[bits(w, 8, 6) as usize] = result,
-        3 => after.r[bits(w, 11, 9) as usize] = result,
-        _ => {}
-    }
+    write_register(c, w, result, &mut after);
     Some(Stepped {
         state: after,
         entry,

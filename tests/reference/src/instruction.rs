@@ -2,11 +2,11 @@
 
 use crate::number::{bits, sign_extend};
 
-/// L6: "30 kinds"
-pub const KINDS: usize = 30;
+/// L12: "the kinds become 34"
+pub const KINDS: usize = 34;
 
 /// The kinds, numbered 0 to 24 in the order of the sheet's second table, then 25
-/// to 29 in that of L6.
+/// to 29 in that of L6 and 30 to 33 in that of L12.
 #[derive(Clone, Copy, Debug, PartialEq, Eq)]
 pub enum Kind {
     And = 0,
@@ -39,6 +39,10 @@ pub enum Kind {
     Mulhu = 27,
     Div = 28,
     Divu = 29,
+    Ei = 30,
+    Di = 31,
+    Reti = 32,
+    Getiid = 33,
 }
 
 impl Kind {
@@ -91,6 +95,10 @@ enum Form {
     DUnsignedN8,
     /// 1R: cccc aaa e nnnnnnnn, N8 unsigned (OUT)
     AUnsignedN8,
+    /// 3R without registers: cccc 000 000 000 fff (EI, DI, RETI)
+    F,
+    /// 3R with d alone: cccc 000 000 ddd fff (GETIID)
+    D3,
 }
 
 #[derive(Clone, Copy)]
@@ -111,7 +119,8 @@ const fn row(kind: Kind, opcode: i32, select: Select, form: Form) -> Row {
 }
 
 /// The sheet's second table: mnemonic, op. code, e or F, format. Then L6's five,
-/// "a three-register format like opcode 0".
+/// "a three-register format like opcode 0", and L12's four, "opcode 12, f = 0, 1, 2,
+/// 3, destination bits 5..3".
 const SHEET: [Row; KINDS] = [
     row(Kind::And, 0, Select::F(0), Form::Abd),
     row(Kind::Or, 0, Select::F(1), Form::Abd),
@@ -143,6 +152,10 @@ const SHEET: [Row; KINDS] = [
     row(Kind::Mulhu, 11, Select::F(2), Form::Abd),
     row(Kind::Div, 11, Select::F(4), Form::Abd),
     row(Kind::Divu, 11, Select::F(5), Form::Abd),
+    row(Kind::Ei, 12, Select::F(0), Form::F),
+    row(Kind::Di, 12, Select::F(1), Form::F),
+    row(Kind::Reti, 12, Select::F(2), Form::F),
+    row(Kind::Getiid, 12, Select::F(3), Form::D3),
 ];
 
 /// Whether a word is of this row's kind.
@@ -157,7 +170,7 @@ fn is_of(row: &Row, w: u16) -> bool {
 
 /// "Every 16-bit word reads as one of the [...] instructions or as unassigned"
 /// (demand 2); None is unassigned. Unused parts are 0: NOT's b and JALR's bits
-/// 5..0 are ignored.
+/// 5..0 are ignored. L12: "Unused bits are written 0 and ignored when read".
 pub fn read(w: u16) -> Option<Instruction> {
     let row = SHEET.iter().find(|row| is_of(row, w))?;
     let bits_11_9 = bits(w, 11, 9) as i32;
@@ -176,6 +189,8 @@ pub fn read(w: u16) -> Option<Instruction> {
         Form::DSignedN8 => (0, 0, bits_11_9, signed_n8),
         Form::DUnsignedN8 => (0, 0, bits_11_9, unsigned_n8),
         Form::AUnsignedN8 => (bits_11_9, 0, 0, unsigned_n8),
+        Form::F => (0, 0, 0, 0),
+        Form::D3 => (0, 0, bits_5_3, 0),
     };
     Some(Instruction {
         kind: row.kind,
@@ -204,6 +219,8 @@ fn in_range(x: &Instruction, form: Form) -> bool {
         Form::DSignedN8 => unused(x.a) && unused(x.b) && register(x.d) && signed_n8,
         Form::DUnsignedN8 => unused(x.a) && unused(x.b) && register(x.d) && unsigned_n8,
         Form::AUnsignedN8 => register(x.a) && unused(x.b) && unused(x.d) && unsigned_n8,
+        Form::F => unused(x.a) && unused(x.b) && unused(x.d) && unused(x.n),
+        Form::D3 => unused(x.a) && unused(x.b) && register(x.d) && unused(x.n),
     }
 }
 
@@ -230,11 +247,13 @@ pub fn write(x: Instruction) -> Result<u16, u8> {
         Form::Ad2 => x.a * 512 + x.d * 64,
         Form::ASignedN8 | Form::AUnsignedN8 => x.a * 512 + e * 256 + n8,
         Form::DSignedN8 | Form::DUnsignedN8 => x.d * 512 + e * 256 + n8,
+        Form::F => f,
+        Form::D3 => x.d * 8 + f,
     };
     Ok((row.opcode * 4_096 + rest) as u16)
 }
 
-/// The same with the kind by its number: "a kind over 29 is refused with 7"
+/// The same with the kind by its number: "a kind over 33 is refused with 7"
 /// (docs/CONFORMANCE.md, and so the header).
 pub fn write_numbered(kind: u8, a: i32, b: i32, d: i32, n: i32) -> Result<u16, u8> {
     let kind = Kind::from_number(kind).ok_or(7)?;

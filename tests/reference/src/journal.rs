@@ -1,10 +1,10 @@
-//! The journal that a run may keep, as document 02's requests L7 and L8 say, and
-//! its entries' coding.
+//! The journal that a run may keep, as document 02's requests L7, L8 and L12 say,
+//! and its entries' coding.
 //!
-//! Sentences in quotation marks are L7's unless L8 is named before them.
+//! Sentences in quotation marks are L7's unless another is named before them.
 
 use crate::instruction::{read, Instruction, Kind};
-use crate::machine::{data_word, reads_key, store_data_word, Places, State};
+use crate::machine::{data_word, lowest_line, reads_key, store_data_word, taken, Places, State};
 use crate::masks::{masks, registers};
 use crate::number::modulo16;
 
@@ -44,10 +44,40 @@ enum Overwritten {
     DataWord(u16, u16),
     DataByte(u16, u8),
     Output(u8, u16),
+    /// The enable flag.
+    Enabled(u8),
+    /// This line was taken.
+    Taken {
+        k: u8,
+        was: Interrupt,
+    },
+}
+
+/// What taking a line overwrites besides the line's bit and PC.
+#[derive(Clone, Copy, Debug, PartialEq, Eq)]
+struct Interrupt {
+    enabled: u8,
+    line: u8,
+    return_address: u16,
 }
 
 impl Overwritten {
-    /// By a step on this word, which is possible.
+    /// By the step from here, which is possible.
+    fn from(state: &State, places: &Places) -> Overwritten {
+        match taken(*state).and(lowest_line(state.pending)) {
+            Some(k) => Overwritten::Taken {
+                k,
+                was: Interrupt {
+                    enabled: state.enabled,
+                    line: state.line,
+                    return_address: state.return_address,
+                },
+            },
+            None => Overwritten::by(places.fetch(state), state, places),
+        }
+    }
+
+    /// By a step on this word.
     fn by(w: u16, state: &State, places: &Places) -> Overwritten {
         let Some(x) = read(w) else {
             return Overwritten::Nothing;
@@ -62,6 +92,7 @@ impl Overwritten {
                 Overwritten::DataByte(at, places.d[usize::from(at)])
             }
             Kind::Out => Overwritten::Output(x.n as u8, places.o[x.n as usize]),
+            Kind::Ei | Kind::Di | Kind::Reti => Overwritten::Enabled(state.enabled),
             Kind::In if reads_key(x.n as u8) => {
                 Overwritten::RegisterAndStatus(x.d as u8, state.r[x.d as usize], places.i[0])
             }
@@ -73,7 +104,8 @@ impl Overwritten {
     }
 
     /// Puts it back. L8: "Stepping back past such a read gives input 0 what it held
-    /// before the read, even if it was set since."
+    /// before the read, even if it was set since." L12: "Stepping back restores
+    /// these; a raise in between stays".
     fn put_back(self, state: &mut State, places: &mut Places) {
         match self {
             Overwritten::Nothing => {}
@@ -85,6 +117,13 @@ impl Overwritten {
             Overwritten::DataWord(even, value) => store_data_word(places.d, even, value),
             Overwritten::DataByte(at, value) => places.d[usize::from(at)] = value,
             Overwritten::Output(port, value) => places.o[usize::from(port)] = value,
+            Overwritten::Enabled(enabled) => state.enabled = enabled,
+            Overwritten::Taken { k, was } => {
+                state.pending |= 2_u8.pow(k.into());
+                state.enabled = was.enabled;
+                state.line = was.line;
+                state.return_address = was.return_address;
+            }
         }
     }
 }
@@ -102,7 +141,7 @@ struct Parts {
 
 impl Parts {
     /// From the lowest bit on: 4 bits that say what was overwritten, 16 of PC, 12
-    /// for a register or port, 16 and 16 more.
+    /// for a register, port, flag or line, 16 and 16 more.
     fn coded(&self) -> u64 {
         let (what, small, first, second) = match self.overwritten {
             Overwritten::Nothing => (0, 0, 0, 0),
@@ -111,6 +150,11 @@ impl Parts {
             Overwritten::DataByte(at, value) => (3, 0, u16::from(value), at),
             Overwritten::Output(port, value) => (4, port, value, 0),
             Overwritten::RegisterAndStatus(k, value, status) => (5, k, value, status),
+            Overwritten::Enabled(enabled) => (6, enabled, 0, 0),
+            Overwritten::Taken { k, was } => {
+                let bytes = 256 * u16::from(was.enabled) + u16::from(was.line);
+                (7, k, was.return_address, bytes)
+            }
         };
         let rest = u64::from(small) + 4_096 * (u64::from(first) + 65_536 * u64::from(second));
         what + 16 * (u64::from(self.pc) + 65_536 * rest)
@@ -130,6 +174,15 @@ impl Parts {
                 3 => Overwritten::DataByte(second, (first % 256) as u8),
                 4 => Overwritten::Output((small % 256) as u8, first),
                 5 => Overwritten::RegisterAndStatus((small % 8) as u8, first, second),
+                6 => Overwritten::Enabled((small % 256) as u8),
+                7 => Overwritten::Taken {
+                    k: (small % 8) as u8,
+                    was: Interrupt {
+                        enabled: (second / 256) as u8,
+                        line: (second % 256) as u8,
+                        return_address: first,
+                    },
+                },
                 _ => Overwritten::Nothing,
             },
         }
@@ -140,7 +193,7 @@ impl Parts {
 pub fn entry(state: &State, places: &Places) -> u64 {
     let parts = Parts {
         pc: state.pc,
-        overwritten: Overwritten::by(places.fetch(state), state, places),
+        overwritten: Overwritten::from(state, places),
     };
     parts.coded()
 }
@@ -150,7 +203,7 @@ pub fn is_output(entry: u64) -> bool {
     matches!(Parts::of(entry).overwritten, Overwritten::Output(..))
 }
 
-/// Takes registers, PC, n, data, outputs and input 0 back by an entry, any number.
+/// Takes the state, data, outputs and input 0 back by an entry, any number.
 pub fn undo(entry: u64, state: &mut State, places: &mut Places) {
     let parts = Parts::of(entry);
     parts.overwritten.put_back(state, places);

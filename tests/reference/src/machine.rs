@@ -19,6 +19,14 @@ pub struct State {
     /// L11: "The board is named at load [...] and kept in the state." A host may
     /// hand in any byte.
     pub board: u8,
+    /// L12: "an enable flag", off for 0 and on for any other byte (the issue).
+    pub enabled: u8,
+    /// L12: "a pending byte (bit k for line k)"
+    pub pending: u8,
+    /// L12: "a line number"
+    pub line: u8,
+    /// L12: "a return address"
+    pub return_address: u16,
 }
 
 /// The boards: L11's "new board fetches from data memory [...]; older boards stay in
@@ -52,7 +60,7 @@ impl Memories {
 
 impl State {
     /// "A reset machine has every register, PC and n at zero." L7's count is
-    /// "from 0 at a load". Of an older board.
+    /// "from 0 at a load", and L12's fields are "all 0 at reset". Of an older board.
     pub fn reset() -> State {
         State {
             r: [0; 8],
@@ -60,6 +68,10 @@ impl State {
             n: 0,
             journaled: 0,
             board: 0,
+            enabled: 0,
+            pending: 0,
+            line: 0,
+            return_address: 0,
         }
     }
 
@@ -141,15 +153,17 @@ pub fn f(w: u16) -> i64 {
     bits(w, 2, 0)
 }
 
-/// Whether w is one of the 30 instructions.
+/// Whether w is one of the 34 instructions.
 pub fn assigned(w: u16) -> bool {
     match opcode(w) {
         // "f = 2, 6, 7 unassigned"
         1 => comparison(f(w), 0, 0).is_some(),
         // L6: "3, 6 and 7 stay unassigned"
         11 => extension(f(w), 0, 1).is_some(),
-        // "11 to 15 | unassigned", 11 no more
-        12..=15 => false,
+        // L12: "f = 0, 1, 2, 3, [...] other f unassigned"
+        12 => matches!(f(w), 0..=3),
+        // "11 to 15 | unassigned", 11 and 12 no more
+        13..=15 => false,
         _ => true,
     }
 }
@@ -278,6 +292,47 @@ pub fn branch_target(pc: u16, w: u16) -> u16 {
     modulo16(i64::from(pc) + 2 + 2 * n8)
 }
 
+/// What a state becomes by taking a line, if there is one to take. L12: "Before each
+/// step's fetch, if enabled and a bit is set, the lowest line is taken: its bit
+/// clears, its number and PC are kept, PC becomes 0x0100, enable clears. Taking
+/// counts as one step".
+pub fn taken(state: State) -> Option<State> {
+    let k = lowest_line(state.pending).filter(|_| state.enabled != 0)?;
+    Some(State {
+        pending: state.pending - 2_u8.pow(k.into()),
+        line: k,
+        return_address: state.pc,
+        pc: 0x0100,
+        enabled: 0,
+        n: state.n.wrapping_add(1),
+        ..state
+    })
+}
+
+/// The lowest line whose bit is set.
+pub fn lowest_line(pending: u8) -> Option<u8> {
+    (0..8).find(|&k| bits(pending.into(), k.into(), k.into()) == 1)
+}
+
+/// What EI, DI, RETI and GETIID do, by f, to a state whose PC is already PC+2: the
+/// number that GETIID reads.
+pub fn interrupt(f: i64, after: &mut State) -> Option<u16> {
+    match f {
+        // L12: "EI and DI set and clear enable."
+        0 => after.enabled = 1,
+        1 => after.enabled = 0,
+        // L12: "RETI returns and sets enable."
+        2 => {
+            after.pc = after.return_address;
+            after.enabled = 1;
+        }
+        // L12: "GETIID reads the number."
+        3 => return Some(after.line.into()),
+        _ => {}
+    }
+    None
+}
+
 /// The fields of w, and the registers that a and b name.
 struct Fields {
     ra: u16,
@@ -297,7 +352,8 @@ impl Fields {
             ra: state.r[bits(w, 11, 9) as usize],
             rb: state.r[bits(w, 8, 6) as usize],
             // "The destination d is 5..3 for opcodes 0 and 1, 8..6 for 2, 3,
-            // 5, 7, and 11..9 for 9 and IN." L6's opcode 11 is "like opcode 0".
+            // 5, 7, and 11..9 for 9 and IN." L6's opcode 11 is "like opcode 0",
+            // and L12's 12 has "destination bits 5..3".
             d_5_3: bits(w, 5, 3) as usize,
             d_8_6: bits(w, 8, 6) as usize,
             d_11_9: bits(w, 11, 9) as usize,
@@ -310,9 +366,17 @@ impl Fields {
     }
 }
 
-/// One step, or None: "If w is unassigned, no step is possible." L6: "the plain
-/// machine so widened, which can't step on a zero divisor".
+/// One step: a line is taken, or the instruction at PC is done.
 pub fn step(state: State, places: &mut Places) -> Option<Stepped> {
+    match taken(state) {
+        Some(state) => Some(Stepped { state, entry: None }),
+        None => instruction(state, places),
+    }
+}
+
+/// The instruction at PC, or None: "If w is unassigned, no step is possible." L6:
+/// "the plain machine so widened, which can't step on a zero divisor".
+fn instruction(state: State, places: &mut Places) -> Option<Stepped> {
     let w = places.fetch(&state);
     if !assigned(w) || zero_divisor(w, &state) {
         return None;
@@ -331,6 +395,11 @@ pub fn step(state: State, places: &mut Places) -> Option<Stepped> {
         3..=6 => access_memory(w, &x, places.d, &mut after),
         7 | 8 => break_sequence(w, &x, state.pc, &mut after),
         9 => move_immediate(w, &x, &mut after),
+        12 => {
+            if let Some(number) = interrupt(f(w), &mut after) {
+                after.r[x.d_5_3] = number;
+            }
+        }
         _ => entry = access_port(w, &x, state.n, places, &mut after),
     }
     Some(Stepped {

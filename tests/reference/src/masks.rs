@@ -52,6 +52,9 @@ fn touched(x: Instruction) -> (u8, u8) {
         Kind::Out => (a, 0),
         // Document 000: "Rd Ra FUNC Rb"
         Kind::Mul | Kind::Mulh | Kind::Mulhu | Kind::Div | Kind::Divu => (a | b, d),
+        // L12: "GETIID reads the number", into Rd
+        Kind::Ei | Kind::Di | Kind::Reti => (0, 0),
+        Kind::Getiid => (0, d),
     }
 }
 

@@ -42,8 +42,13 @@ impl Engine<'_> {
         }
     }
 
-    /// The stop that the word at PC gives, "in this order", if any.
-    fn stop(self, w: u16, state: &State, free_place: bool) -> Option<u8> {
+    /// The stop before the next step, "in this order", if any. L12: taking a line
+    /// "needs only budget".
+    fn stop(self, state: &State, places: &Places, free_place: bool) -> Option<u8> {
+        if machine::taken(*state).is_some() {
+            return None;
+        }
+        let w = places.fetch(state);
         // "word unassigned, stop 1"
         if !self.assigned(w) {
             return Some(1);
@@ -56,11 +61,13 @@ impl Engine<'_> {
         (self.writes_port(w) && !free_place).then_some(2)
     }
 
-    /// One step; None if the word at PC is unassigned or divides by zero.
+    /// One step; None if the word at PC is unassigned or divides by zero. Taking a
+    /// line is no matter of a table.
     pub fn step(self, state: State, places: &mut Places) -> Option<Stepped> {
-        match self {
-            Engine::Rules => machine::step(state, places),
-            Engine::Table(table) => {
+        match (self, machine::taken(state)) {
+            (Engine::Rules, _) => machine::step(state, places),
+            (_, Some(state)) => Some(Stepped { state, entry: None }),
+            (Engine::Table(table), None) => {
                 let w = places.fetch(&state);
                 control::step(control_word(table, w), w, state, places)
             }
@@ -130,8 +137,15 @@ impl Returned {
         }
     }
 
-    /// Counts a step on this word.
-    fn count(&mut self, w: u16) {
+    /// Counts the step from here.
+    fn count(&mut self, state: State, places: &Places) {
+        if machine::taken(state).is_some() {
+            // L12: "one step of 3 ticks", which "has a count in the usage sheet"
+            self.usage.taken += 1;
+            self.ticks += 3;
+            return;
+        }
+        let w = places.fetch(&state);
         self.usage.count(w);
         self.ticks += ticks(w);
     }
@@ -140,7 +154,7 @@ impl Returned {
     /// sum of these over the steps the plain machine took".
     fn count_steps(&mut self, mut state: State, places: &mut Places) {
         for _ in 0..self.reply.steps() {
-            self.count(places.fetch(&state));
+            self.count(state, places);
             state = machine::step(state, places).map_or(state, |stepped| stepped.state);
         }
     }
@@ -150,9 +164,9 @@ impl Returned {
 pub(crate) fn admit(state: State, lent: Lent<'_>) -> Result<Places<'_>, u8> {
     // "1 | P or D not 65,536 bytes, or I or O not 256 words"
     let places = Places::of(lent).ok_or(1)?;
-    // "5 | PC odd"
-    match state.pc % 2 {
-        0 => Ok(places),
+    // "5 | PC odd"; L12: "An odd return address is refused like an odd PC."
+    match (state.pc % 2, state.return_address % 2) {
+        (0, 0) => Ok(places),
         _ => Err(5),
     }
 }
@@ -207,9 +221,8 @@ fn admitted(
         if steps == budget || journal::is_full(&journal, &state) {
             break 0;
         }
-        let w = places.fetch(&state);
         let free_place = (entries as usize) < log.len();
-        if let Some(stop) = engine.stop(w, &state, free_place) {
+        if let Some(stop) = engine.stop(&state, places, free_place) {
             break stop;
         }
         let overwritten = journal.as_ref().map(|_| journal::entry(&state, places));

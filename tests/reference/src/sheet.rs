@@ -1,6 +1,6 @@
-//! The usage sheet for a show, as document 02's request L5 says.
+//! The usage sheet for a show, as document 02's requests L5 and L12 say.
 //!
-//! Sentences in quotation marks are that request's.
+//! Sentences in quotation marks are L5's.
 
 use crate::instruction::KINDS;
 use crate::usage::Usage;
@@ -9,6 +9,8 @@ use crate::usage::Usage;
 #[derive(Clone, Copy, Debug, PartialEq, Eq)]
 pub struct Sheet {
     pub kinds: [u64; KINDS],
+    /// L12: taking "has a count in the usage sheet that joins the kind sum".
+    pub taken: u64,
     pub reads: [u64; 8],
     pub writes: [u64; 8],
     pub runs: u16,
@@ -25,6 +27,7 @@ impl Sheet {
     pub fn empty() -> Sheet {
         Sheet {
             kinds: [0; KINDS],
+            taken: 0,
             reads: [0; 8],
             writes: [0; 8],
             runs: 0,
@@ -49,6 +52,7 @@ impl Sheet {
     fn with(self, usage: Usage, runs: u16) -> Sheet {
         Sheet {
             kinds: sums(self.kinds, usage.kinds),
+            taken: sum(self.taken, usage.taken),
             reads: sums(self.reads, usage.reads),
             writes: sums(self.writes, usage.writes),
             runs,
@@ -56,10 +60,12 @@ impl Sheet {
     }
 }
 
-/// "feeding adds them modulo 2^64"
 fn sums<const COUNT: usize>(sheet: [u64; COUNT], run: [u64; COUNT]) -> [u64; COUNT] {
-    std::array::from_fn(|k| {
-        let sum = u128::from(sheet[k]) + u128::from(run[k]);
-        (sum % (1 << 64)) as u64
-    })
+    std::array::from_fn(|k| sum(sheet[k], run[k]))
+}
+
+/// "feeding adds them modulo 2^64"
+fn sum(sheet: u64, run: u64) -> u64 {
+    let sum = u128::from(sheet) + u128::from(run);
+    (sum % (1 << 64)) as u64
 }

@@ -1,17 +1,31 @@
-//! The counts of a run, as document 02's request L5 says.
+//! The counts of a run, as document 02's requests L5 and L12 say.
 //!
-//! Sentences in quotation marks are that request's.
+//! Sentences in quotation marks are L5's.
 
 use crate::instruction::{read, KINDS};
 use crate::masks::{masks, registers};
 
 /// "count steps by kind and reads and writes by register in 64-bit numbers";
-/// kinds by their numbers. The default is no step counted.
-#[derive(Clone, Copy, Debug, Default, PartialEq, Eq)]
+/// kinds by their numbers.
+#[derive(Clone, Copy, Debug, PartialEq, Eq)]
 pub struct Usage {
     pub kinds: [u64; KINDS],
+    /// Lines taken: steps of no kind.
+    pub taken: u64,
     pub reads: [u64; 8],
     pub writes: [u64; 8],
+}
+
+/// No step counted.
+impl Default for Usage {
+    fn default() -> Usage {
+        Usage {
+            kinds: [0; KINDS],
+            taken: 0,
+            reads: [0; 8],
+            writes: [0; 8],
+        }
+    }
 }
 
 impl Usage {

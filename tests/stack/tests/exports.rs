@@ -23,16 +23,22 @@ const RESET: State = State {
     n: 0,
     journaled: 0,
     board: 0,
+    enabled: 0,
+    pending: 0,
+    line: 0,
+    return_address: 0,
 };
 
-/// A loop with all 30 kinds of instruction; a semicolon stands for a newline.
+/// A loop with all 34 kinds of instruction, RETI back to address 0; a semicolon stands
+/// for a newline.
 const EVERY_KIND: &str =
     "MOVI R7, 3; loop: MOVI R6, next; JALR R5, R6; next: MOVHI R4, 0x5A; IN R3, 9; \
     AND R0, R3, R4; OR R1, R3, R4; XOR R2, R3, R4; NOT R3, R3; ADD R4, R3, R4; SUB R5, R3, R4; \
     SHA R0, R3, R4; SHL R1, R3, R4; CMPLT R2, R3, R4; CMPLE R2, R3, R4; CMPEQ R2, R3, R4; \
     CMPLTU R2, R3, R4; CMPLEU R2, R3, R4; ADDI R3, R3, 31; LD R0, -2(R3); ST 4(R3), R1; \
     LDB R0, -1(R3); STB 3(R4), R1; MUL R0, R3, R4; MULH R1, R3, R4; MULHU R2, R3, R4; \
-    DIV R0, R3, R7; DIVU R1, R3, R7; OUT 255, R0; BZ R7, loop; BNZ R7, loop";
+    DIV R0, R3, R7; DIVU R1, R3, R7; OUT 255, R0; EI; GETIID R2; DI; BZ R7, loop; \
+    BNZ R7, last; last: RETI";
 
 /// What a host lends.
 struct World {
@@ -172,7 +178,23 @@ fn runs(export: &'static str, run: fn(State, u32, &mut Lent) -> ffi::Run) -> Vec
                 && reply.usage.kinds.iter().all(|&count| count > 0)
         }));
     }
+    calls.push(call(export, "eight lines taken", move || {
+        let (mut world, state) = with_lines();
+        run(state, 16, &mut world.lent()).usage.taken == 8
+    }));
     calls
+}
+
+/// A RETI where lines are taken, and all of them pending.
+fn with_lines() -> (World, State) {
+    let mut world = World::new(0);
+    world.program[0x100..0x102].copy_from_slice(&0xC002_u16.to_le_bytes());
+    let state = State {
+        enabled: 1,
+        pending: 255,
+        ..RESET
+    };
+    (world, state)
 }
 
 fn by_rules_with_journal(state: State, budget: u32, lent: &mut Lent) -> ffi::Run {
@@ -204,20 +226,38 @@ fn back(steps: u32, at_once: u64) -> Call {
     })
 }
 
-fn host_step() -> Call {
-    call("sisa_host_step", "every word", || {
-        every_word(|world| ffi::host_step(&mut RESET.clone(), &mut world.lent()).refusal)
+/// Back over eight lines taken.
+fn back_over_lines() -> Call {
+    let (mut world, start) = with_lines();
+    let mut journal = vec![0; 16];
+    let ran = ffi::run_by_table_with_journal(start, 16, &mut world.lent(), &mut journal);
+    assert_eq!((ran.refusal, ran.steps), (0, 16));
+    call("sisa_step_back", "16 steps, eight lines taken", move || {
+        ffi::step_back(ran.state, &mut world.lent(), &journal, 16).state == start
     })
+}
+
+fn host_steps() -> Vec<Call> {
+    let words = call("sisa_host_step", "every word", || {
+        every_word(|world| ffi::host_step(&mut RESET.clone(), &mut world.lent()).refusal)
+    });
+    let line = call("sisa_host_step", "a line taken", || {
+        let (mut world, mut state) = with_lines();
+        ffi::host_step(&mut state, &mut world.lent()).usage.taken == 1
+    });
+    vec![words, line]
 }
 
 fn feeding() -> Call {
     let counts = Usage {
-        kinds: [u64::MAX; 30],
+        kinds: [u64::MAX; 34],
+        taken: u64::MAX,
         reads: [1; 8],
         writes: [2; 8],
     };
     let sheet = Sheet {
-        kinds: [3; 30],
+        kinds: [3; 34],
+        taken: 3,
         reads: [4; 8],
         writes: [5; 8],
         runs: 65_534,
@@ -233,7 +273,7 @@ fn instructions() -> Vec<Call> {
         (0..=u16::MAX).filter(assigned).count() > 32_768
     });
     let write = call("sisa_write", "every kind", || {
-        (0..30).all(|kind| ffi::write(kind, 0, 0, 0, 0).refusal == 0)
+        (0..34).all(|kind| ffi::write(kind, 0, 0, 0, 0).refusal == 0)
     });
     vec![read, write]
 }
@@ -247,7 +287,10 @@ fn panel() -> Vec<Call> {
     let window = call("sisa_window", "to the end of the data memory", move || {
         ffi::window(&[], &memory, 1, 16, MEMORY_BYTES - 16).count == MEMORY_BYTES - 16
     });
-    vec![set, window]
+    let raise = call("sisa_raise", "every line", || {
+        (0..=u8::MAX).all(|line| (ffi::raise(RESET, line).refusal == 16) == (line > 7))
+    });
+    vec![set, window, raise]
 }
 
 fn calls() -> Vec<Call> {
@@ -257,8 +300,9 @@ fn calls() -> Vec<Call> {
     all.extend(runs("sisa_run_by_table", ffi::run_by_table));
     all.extend(runs("sisa_run_by_rules_with_journal", by_rules_with_journal));
     all.extend(runs("sisa_run_by_table_with_journal", by_table_with_journal));
-    all.extend([back(100, 1), back(LONG_RUN, LONG_RUN.into())]);
-    all.extend([host_step(), feeding()]);
+    all.extend([back(100, 1), back(LONG_RUN, LONG_RUN.into()), back_over_lines()]);
+    all.extend(host_steps());
+    all.push(feeding());
     all.extend(instructions());
     all.extend(panel());
     all

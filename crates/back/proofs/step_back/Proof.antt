@@ -11,13 +11,13 @@ returns c = refused-left _ (refuses-1 _ (c .before .lengths-fit .ensures) (c .if
 returns-2 : tie.Need-returns-2
 returns-2 c =
     let l = c .before .before in
-    refused-left _ (refuses-5 _ (l .before .lengths-fit .ensures) (l .if1 .left) (c .if2 .taken))
+    refused-left _ (refuses-5 _ (l .before .lengths-fit .ensures) (l .if1 .left) (c .before .is-even .ensures) (c .if2 .taken))
 
 returns-3 : tie.Need-returns-3
 returns-3 c =
     let held = c .before in
     let l = held .before .before .before in
-    refused-left _ (refuses-14 _ (l .before .lengths-fit .ensures) (l .if1 .left) (held .before .if2 .left) (held .steps-held .ensures) (c .if3 .taken))
+    refused-left _ (refuses-14 _ (l .before .lengths-fit .ensures) (l .if1 .left) (held .before .before .is-even .ensures) (held .before .if2 .left) (held .steps-held .ensures) (c .if3 .taken))
 
 go-back-requires : tie.Need-go-back-requires
 go-back-requires c κs =
@@ -27,7 +27,7 @@ go-back-requires c κs =
     let a = l .before .before .before .before .before .before .before .before .before .before .args in
     can-go
     (record { state = a .state; P = a .program .now; D = a .memory .now; I = a .inputs .now; O = a .outputs .now; journal = a .journal .now; k = a .k })
-    (passing _ (l .before .lengths-fit .ensures) (l .if1 .left) (held .before .if2 .left) (held .steps-held .ensures) (tests .if3 .left))
+    (passing _ (l .before .lengths-fit .ensures) (l .if1 .left) (held .before .before .is-even .ensures) (held .before .if2 .left) (held .steps-held .ensures) (tests .if3 .left))
 
 returns-4 : tie.Need-returns-4
 returns-4 c =
@@ -36,7 +36,7 @@ returns-4 c =
     let held = tests .before in
     let l = held .before .before .before in
     gone-left _
-    (accepts _ (passing _ (l .before .lengths-fit .ensures) (l .if1 .left) (held .before .if2 .left) (held .steps-held .ensures) (tests .if3 .left)))
+    (accepts _ (passing _ (l .before .lengths-fit .ensures) (l .if1 .left) (held .before .before .is-even .ensures) (held .before .if2 .left) (held .steps-held .ensures) (tests .if3 .left)))
     (gone .go-back .ensures)
 
 pub step-back-spec : {M : Type 1} → statement M
@@ -48,6 +48,7 @@ step-back-spec =
     (λ c. search needs)
     (λ c. search needs)
     returns
+    (λ c κs. search needs)
     (λ c. search needs)
     (λ c. search needs)
     (λ c. search needs)

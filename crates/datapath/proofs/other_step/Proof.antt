@@ -21,7 +21,7 @@ moved-done : (c w : ℕ) (h : Held) {t after : State} (r : Stepped) → h .entri
     → Moved c w (h .state) after
     → Leaves (controlStep c w) (writesPort c) h r (h .D) (h .I) (h .O) (h .log)
 moved-done c w h r filled er et g =
-    answered r _ er (data-done c w h (g .is-assigned) (g .no-zero) filled (g .no-port) (et ∙ sym (g .state _ _)) (sym (g .no-store _)) (sym (g .no-read _)))
+    answered r _ er (data-done c w h (g .by-fields) (g .is-assigned) (g .no-zero) filled (g .no-port) (et ∙ sym (g .state _ _)) (sym (g .no-store _)) (sym (g .no-read _)))
 
 returns : tie.Need-returns
 returns c =
@@ -31,7 +31,7 @@ returns c =
     let a = start .args in
     let g = store-group (a .control) (a .w) (a .state) (sym (t .before .is-store .ensures) ∙ t .if1 .taken) in
     answered (c .done .result) _ (c .done .ensures)
-    (data-done (a .control) (a .w) _ (g .is-assigned) (g .no-zero) (start .pre .filled) (g .no-port)
+    (data-done (a .control) (a .w) _ (g .by-fields) (g .is-assigned) (g .no-zero) (start .pre .filled) (g .no-port)
     (c .before .advanced .ensures ∙ sym (g .state _ _))
     (stored .store .ensures ∙ ap (λ u. storedData (a .control) (R (a .state) (b-of (a .w))) u (a .memory .now)) (sym (g .address)))
     (sym (g .no-read _)))

@@ -10,7 +10,7 @@ run-requires c κs = zeros 17408
 
 returns : tie.Need-returns
 returns c =
-    let r = c .before .before .before .before .before .before .before .before .before .before .before .before .before .before in
+    let r = c .before .before .before .before .before .before .before .before .before .before .before .before .before .before .before in
     counts-long _ _ (r .run .last .1 .1 .1 .1 .1 .1 .1 .1 .1 .1 .1 .0) (r .run .result .usage) (r .run .ensures) (search needs) (c .fold .ensures)
 
 pub long-spec : {M : Type 1} → statement M

@@ -7,7 +7,7 @@ use Rattle.word.specs.Word.{clear0}
 use Rattle.machine.specs.Machine.{putWord, putByte}
 use Rattle.machine.specs.Step.{d8-6, d11-9, addi, ld, st, ldb, stb, jalr}
 use Rattle.rules.specs.Parts.{rbOf, sumOf, wordOf, byteOf, linkOf, branchOf, moveOf}
-use Rattle.rules.proofs.Choices.{past-from, chosen, past-11}
+use Rattle.rules.proofs.Choices.{past-from, chosen, past-12}
 use Rattle.rules.proofs.Effects.{wrote, stored, jumped, stopped, moves, branches}
 use Rattle.rules.proofs.by_rule.Statement.{statement}
 use Rattle.rules.proofs.by_rule.Tie as tie
@@ -78,15 +78,19 @@ returns-9 : tie.Need-returns-9
 returns-9 c = c .product .ensures _
 
 returns-10 : tie.Need-returns-10
-returns-10 c =
+returns-10 c = c .interrupt .ensures _
+
+returns-11 : tie.Need-returns-11
+returns-11 c =
     let start = c .before .before .before in
     let w = start .args .w in
-    stopped (past-11 _ w (start .fits .w .fits) (start .pre .0 .opcode) (omega (arith, past-from 2 8 (start .args .op) (start .pre .1 .0 .0) (c .before .match .rest .0), c .before .match .rest .1, start .pre .1 .0 .1))) (c .stopped .ensures)
+    stopped (past-12 _ w (start .fits .w .fits) (start .pre .0 .opcode) (omega (arith, past-from 2 8 (start .args .op) (start .pre .1 .0 .0) (c .before .match .rest .0 .0), c .before .match .rest .0 .1, c .before .match .rest .1, start .pre .1 .0 .1))) (c .stopped .ensures)
 
 pub by-rule-spec : {M : Type 1} → statement M
 by-rule-spec =
     tie.close
     (tie.spec
+    (λ c κs. search needs)
     (λ c κs. search needs)
     (λ c κs. search needs)
     (λ c κs. search needs)
@@ -118,4 +122,5 @@ by-rule-spec =
     returns-7
     returns-8
     returns-9
-    returns-10)
+    returns-10
+    returns-11)

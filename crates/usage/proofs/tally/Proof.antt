@@ -4,12 +4,12 @@ use mathlib.Core.Path.{refl, _∙_}
 use Prim.Native.Nat.{_%_}
 use native.Mathlib.Omega.{arith}
 use borrow.Author.Needs.{needs}
-use borrow.Author.Tests.{eq-eqb, ne-eqb}
+use borrow.Author.Tests.{eq-eqb, ne-eqb, lt-ltb, le-ltb}
 use Rattle.word.proofs.Tables.{past}
 use Rattle.isa.specs.Sheet.{comparisonKinds, muldivKinds, kindAt}
 use Rattle.usage.specs.Counting.{counters}
 use Rattle.usage.proofs.Functions.{table}
-use Rattle.usage.proofs.Words.{of-word, reading, writing, number-few, operation, by-f, branch, move, past-11}
+use Rattle.usage.proofs.Words.{of-word, reading, writing, neither, number-few, operation, by-f, branch, move, interrupt, past-12}
 use Rattle.usage.proofs.tally.Statement.{statement}
 use Rattle.usage.proofs.tally.Tie as tie
 
@@ -27,6 +27,9 @@ abd-requires-3 c κs = ((number-few muldivKinds (c .before .before .before .befo
 
 add-requires : tie.Need-add-requires
 add-requires c κs = (omega arith, c .before .before .before .before .before .before .pre .reads _)
+
+add-requires-2 : tie.Need-add-requires-2
+add-requires-2 c κs = (omega arith, c .before .before .before .pre .kinds _)
 
 returns : tie.Need-returns
 unfolding kindAt
@@ -87,7 +90,18 @@ unfolding table kindAt
 returns-15 c = c .abd3 .ensures ∙ by-f 11 muldivKinds refl _ _ (omega arith)
 
 returns-16 : tie.Need-returns-16
-returns-16 c = past-11 _ _ (omega (arith, past 12 _ (c .match .rest)))
+returns-16 c = neither _ _ _ _ (c .add2 .ensures) ∙ interrupt _ _ (omega arith) (rw (lt-ltb _ 3 (c .before .before .if4 .taken)))
+
+returns-17 : tie.Need-returns-17
+returns-17 c =
+    writing _ _ _ _ _ (c .one5 .ensures)
+    ∙ interrupt _ _ (omega arith) (rw (le-ltb _ 3 (c .before .before .before .before .if4 .left), eq-eqb _ 3 (c .before .before .before .if5 .taken)))
+
+returns-18 : tie.Need-returns-18
+returns-18 c = interrupt _ _ (omega arith) (rw (le-ltb _ 3 (c .before .if4 .left), ne-eqb _ 3 (c .if5 .left)))
+
+returns-19 : tie.Need-returns-19
+returns-19 c = past-12 _ _ (omega (arith, past 13 _ (c .match .rest)))
 
 pub tally-spec : {M : Type 1} → statement M
 tally-spec =
@@ -119,6 +133,9 @@ tally-spec =
     (λ c. search needs)
     cast-abd-2
     abd-requires-3
+    (λ c. search needs)
+    add-requires-2
+    (λ c κs. search needs)
     returns
     returns-2
     returns-3
@@ -134,4 +151,7 @@ tally-spec =
     returns-13
     returns-14
     returns-15
-    returns-16)
+    returns-16
+    returns-17
+    returns-18
+    returns-19)

@@ -7,7 +7,8 @@ use crate::instruction::{write, Instruction, Kind, KINDS};
 use crate::number::{modulo16, signed, unsigned};
 
 /// The sheet's column "Assembler", then document 000's "MNEMO Rd, Ra, Rb" for
-/// L6's five, and "`.word` gives a word". Ra, Rb and Rd stand for registers and
+/// L6's five, L12's four, "GETIID alone with an operand, its register", and "`.word`
+/// gives a word". Ra, Rb and Rd stand for registers and
 /// N6, N8 and N16 for operands; every other token stands for itself.
 const SYNTAX: [(&str, Option<Kind>); KINDS + 1] = [
     ("AND Rd, Ra, Rb", Some(Kind::And)),
@@ -40,6 +41,10 @@ const SYNTAX: [(&str, Option<Kind>); KINDS + 1] = [
     ("MULHU Rd, Ra, Rb", Some(Kind::Mulhu)),
     ("DIV Rd, Ra, Rb", Some(Kind::Div)),
     ("DIVU Rd, Ra, Rb", Some(Kind::Divu)),
+    ("EI", Some(Kind::Ei)),
+    ("DI", Some(Kind::Di)),
+    ("RETI", Some(Kind::Reti)),
+    ("GETIID Rd", Some(Kind::Getiid)),
     (".word N16", None),
 ];
 

@@ -1,6 +1,7 @@
 //! "Going back"
 
 use super::host::Host;
+use super::knobs::{is_of_knobs, lines_line};
 use super::runs::numbers_of_returned;
 use super::{number, Call};
 use crate::back::{step_back, Back};
@@ -14,7 +15,8 @@ pub struct Calls {
     pub count: u64,
     /// A call is a set where number(c, q) mod 8 is below this.
     pub sets: u64,
-    /// The port of a set is number(c, q + 1) mod this.
+    /// The port of a set is number(c, q + 1) mod this. Where it is 0, a raise comes in
+    /// place of a set.
     pub ports: u64,
 }
 
@@ -49,14 +51,15 @@ impl Host {
             q: 7_000 + 16 * j,
         };
         (0..calls.count)
-            .map(|j| self.call_with_journal(call(j), calls, &mut journal))
+            .flat_map(|j| self.call_with_journal(call(j), calls, &mut journal))
             .collect()
     }
 
-    fn call_with_journal(&mut self, call: Call, calls: &Calls, journal: &mut [u64]) -> String {
+    fn call_with_journal(&mut self, call: Call, calls: &Calls, journal: &mut [u64]) -> Vec<String> {
         match call.number(0) % 8 {
+            sort if sort < calls.sets && calls.ports == 0 => self.raise(call),
             // "all inputs lent"
-            sort if sort < calls.sets => self.set(call, calls.ports, PORTS),
+            sort if sort < calls.sets => vec![self.set(call, calls.ports, PORTS)],
             0..=3 => self.journaled(call, "rules", run_by_rules, journal),
             4 | 5 => self.journaled(call, "table", run_by_table, journal),
             _ => self.back(call, journal),
@@ -64,7 +67,13 @@ impl Host {
     }
 
     /// "journal ENGINE c j REFUSAL STOP STEPS ENTRIES TICKS USAGE JOURNALED DIGEST"
-    fn journaled(&mut self, call: Call, engine: &str, run: RunBy, journal: &mut [u64]) -> String {
+    fn journaled(
+        &mut self,
+        call: Call,
+        engine: &str,
+        run: RunBy,
+        journal: &mut [u64],
+    ) -> Vec<String> {
         let journal = match call.number(3) % 16 {
             // "the run is one without a journal"
             5 => None,
@@ -76,11 +85,17 @@ impl Host {
         let numbers = numbers_of_returned(&returned);
         let state = returned.reply.state();
         let (journaled, digest) = (state.journaled, self.digest(state));
-        format!("journal {engine} {call} {numbers} {journaled} {digest}")
+        let line = format!("journal {engine} {call} {numbers} {journaled} {digest}");
+        let mut lines = vec![line];
+        if is_of_knobs(call.c) {
+            lines.push(self.feed(call, &returned));
+        }
+        lines.extend(lines_line(call, state));
+        lines
     }
 
     /// "back c j REFUSAL FALLEN JOURNALED DIGEST"
-    fn back(&mut self, call: Call, journal: &[u64]) -> String {
+    fn back(&mut self, call: Call, journal: &[u64]) -> Vec<String> {
         let k = match call.number(2) % 4 {
             0 => self.kept.journaled,
             1 => self.kept.journaled + 1,
@@ -95,6 +110,10 @@ impl Host {
         }
         let (state, refusal, fallen) = (back.state(), back.refusal(), back.fallen());
         let (journaled, digest) = (state.journaled, self.digest(state));
-        format!("back {call} {refusal} {fallen} {journaled} {digest}")
+        let mut lines = vec![format!(
+            "back {call} {refusal} {fallen} {journaled} {digest}"
+        )];
+        lines.extend(lines_line(call, state));
+        lines
     }
 }

@@ -28,6 +28,7 @@ pub fn lines() -> Vec<String> {
     lines.extend(printed());
     lines.extend(host.keys());
     lines.extend(host.boards());
+    lines.extend(host.knobs());
     lines
 }
 
@@ -122,7 +123,7 @@ fn instruction(call: Call) -> String {
     // "N modulo 65,536"
     let shown = format!("{assigned} {kind} {a} {b} {d} {}", n.rem_euclid(65_536));
     match (found, call.number(2) % 8) {
-        (None, _) => kind = (call.number(3) % 32) as u8,
+        (None, _) => kind = (call.number(3) % 40) as u8,
         (_, 0) => a += 8,
         (_, 1) => b += 1,
         (_, 2) => d += 1,

@@ -1,5 +1,6 @@
 //! The host: what it lends, the state and the sheet it keeps, and its loads.
 
+use super::knobs::is_of_knobs;
 use super::{Call, Digest};
 use crate::load::load;
 use crate::machine::{Lent, Memories, State, MEMORY, PORTS};
@@ -82,6 +83,7 @@ impl Host {
             1 => state.n = n,
             2 => memory = 65_535,
             3 => outputs = 255,
+            6 if is_of_knobs(call.c) => state.return_address = state.return_address.wrapping_add(1),
             _ => {}
         }
         Handed {

@@ -2,7 +2,6 @@
 
 use super::host::Host;
 use super::{number, Call, Digest};
-use crate::instruction::KINDS;
 use crate::run::{host_step, run_by_rules, run_by_table, Reply, Returned};
 use crate::sheet::Sheet;
 use crate::usage::Usage;
@@ -24,7 +23,7 @@ pub fn first_sheet(c: u64) -> Sheet {
         // "and 1, with each count k, from 0 in the digest's order, 2^64 - 1 -
         // number(c, 600 + k)"
         1 => {
-            let counts = sheet.kinds.iter_mut();
+            let counts = sheet.kinds.iter_mut().chain([&mut sheet.taken]);
             let counts = counts.chain(&mut sheet.reads).chain(&mut sheet.writes);
             for (k, count) in counts.enumerate() {
                 *count = u64::MAX - number(c, 600 + k as u64);
@@ -38,22 +37,28 @@ pub fn first_sheet(c: u64) -> Sheet {
 /// "REFUSAL STOP STEPS ENTRIES TICKS USAGE", the last "the digest of the counts
 /// that the call reported"
 pub fn numbers_of_returned(returned: &Returned) -> String {
-    let Usage {
-        kinds,
-        reads,
-        writes,
-    } = returned.usage;
-    let (ticks, counts) = (returned.ticks, digest(kinds, reads, writes));
+    let (ticks, counts) = (returned.ticks, digest(returned.usage));
     format!("{} {ticks} {counts}", numbers_of(returned.reply))
 }
 
 /// "The digest of counts"
-fn digest(kinds: [u64; KINDS], reads: [u64; 8], writes: [u64; 8]) -> u64 {
+fn digest(counts: Usage) -> u64 {
     let mut digest = Digest::default();
-    digest.take_halves(&kinds);
-    digest.take_halves(&reads);
-    digest.take_halves(&writes);
+    digest.take_halves(&counts.kinds);
+    digest.take_halves(&[counts.taken]);
+    digest.take_halves(&counts.reads);
+    digest.take_halves(&counts.writes);
     digest.value()
+}
+
+/// The same of a sheet.
+fn digest_of_sheet(sheet: Sheet) -> u64 {
+    digest(Usage {
+        kinds: sheet.kinds,
+        taken: sheet.taken,
+        reads: sheet.reads,
+        writes: sheet.writes,
+    })
 }
 
 /// "REFUSAL STOP STEPS ENTRIES"; the last three "are 0 where the call is
@@ -84,17 +89,16 @@ impl Host {
         let numbers = numbers_of_returned(&returned);
         let left = self.digest(reply.state());
         let run = format!("run {engine} {call} {numbers} {left}");
-        // "whether it was accepted or refused, what the call returned is fed"
-        let fed = self.sheet.feed(reply.refusal(), returned.usage);
+        vec![run, self.feed(call, &returned)]
+    }
+
+    /// "whether it was accepted or refused, what the call returned is fed": "fed c i
+    /// REFUSAL RUNS COUNTS"
+    pub fn feed(&mut self, call: Call, returned: &Returned) -> String {
+        let fed = self.sheet.feed(returned.reply.refusal(), returned.usage);
         self.sheet = fed.sheet;
-        let Sheet {
-            kinds,
-            reads,
-            writes,
-            runs,
-        } = fed.sheet;
-        let counts = digest(kinds, reads, writes);
-        vec![run, format!("fed {call} {} {runs} {counts}", fed.refusal)]
+        let (runs, counts) = (fed.sheet.runs, digest_of_sheet(fed.sheet));
+        format!("fed {call} {} {runs} {counts}", fed.refusal)
     }
 
     fn run_by(&mut self, by: By, call: Call) -> Returned {

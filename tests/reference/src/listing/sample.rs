@@ -16,15 +16,23 @@ const TWO_REGISTERS: [u16; 6] = [0x2000, 0x3000, 0x4000, 0x5000, 0x6000, 0x7000]
 /// BZ, BNZ, MOVI, MOVHI, IN, OUT
 const ONE_REGISTER: [u16; 6] = [0x8000, 0x8100, 0x9000, 0x9100, 0xA000, 0xA100];
 
+/// EI, DI, RETI, GETIID, with every bit set that they ignore but for those of
+/// GETIID's register, and without.
+const OF_LINES: [u16; 8] = [
+    0xC000, 0xC001, 0xC002, 0xC003, 0xCFF8, 0xCFF9, 0xCFFA, 0xCFC3,
+];
+
 /// -32, -31, -2, -1, 0, 1, 30, 31
 const N6: [u16; 8] = [0x20, 0x21, 0x3E, 0x3F, 0, 1, 0x1E, 0x1F];
 
 /// -128, -127, -2, -1, 0, 1, 126, 127; unsigned also 128, 129, 254, 255
 const N8: [u16; 8] = [0x80, 0x81, 0xFE, 0xFF, 0, 1, 0x7E, 0x7F];
 
-/// Opcode 1 with f = 2, 6, 7; opcode 11 with f = 3, 6, 7; opcodes 12 to 15.
-const UNASSIGNED: [u16; 10] = [
-    0x1002, 0x129E, 0x1FFF, 0xB003, 0xB29E, 0xBFFF, 0xC123, 0xD000, 0xE9AB, 0xF000,
+/// Opcode 1 with f = 2, 6, 7; opcode 11 with f = 3, 6, 7; opcode 12 with f = 4, 5,
+/// 6, 7; opcodes 13 to 15.
+const UNASSIGNED: [u16; 13] = [
+    0x1002, 0x129E, 0x1FFF, 0xB003, 0xB29E, 0xBFFF, 0xC004, 0xC125, 0xC00E, 0xCFFF, 0xD000, 0xE9AB,
+    0xF000,
 ];
 
 /// Each kind's word with these registers, in the order of their bits, and edge
@@ -43,6 +51,8 @@ fn words() -> Vec<u16> {
     words.extend((0..8).flat_map(|k| every_kind([k, k + 3, k + 5], k)));
     // One register in all places.
     words.extend((0..8).flat_map(|k| every_kind([k, k, k], k)));
+    words.extend(OF_LINES);
+    words.extend((1..8).map(|k| 0xC003 + 8 * k));
     words.extend(UNASSIGNED);
     words.extend((0..100).map(|k| number(2_000, k) as u16));
     // Zero words are listed too.

@@ -6,6 +6,7 @@ use reference::assemble::{assemble, Refused};
 use reference::back::{step_back, Back};
 use reference::load::load;
 use reference::machine::{self, Memories, State};
+use reference::raise::raise;
 use reference::run::{host_step, run_by_rules, run_by_table, Engine, Reply, Returned};
 use reference::save::save;
 use reference::set::set;
@@ -52,6 +53,7 @@ pub enum Call {
     Journaled(Engine<'static>, State, u32),
     HostStep(State),
     Back(State, u64),
+    Raise(State, u8),
     Window(u8, usize, usize),
     /// Into these bytes, but for the guards before and after.
     Save(State, Bytes),
@@ -77,6 +79,7 @@ impl Call {
         match *self {
             Call::Run(_, state, _) | Call::Journaled(_, state, _) => Some(state),
             Call::HostStep(state) | Call::Back(state, _) | Call::Save(state, _) => Some(state),
+            Call::Raise(state, _) => Some(state),
             _ => None,
         }
     }
@@ -108,6 +111,7 @@ pub enum Answer {
     Run(ffi::Run),
     HostStep(ffi::State, ffi::Answer),
     Back(ffi::Back),
+    Raise(ffi::Raised),
     Window(ffi::Window),
     /// And all bytes as the call left them.
     Save(ffi::Saved, Bytes),
@@ -122,6 +126,7 @@ impl Answer {
             Answer::Run(run) => run.refusal,
             Answer::HostStep(_, answer) => answer.refusal,
             Answer::Back(back) => back.refusal,
+            Answer::Raise(raised) => raised.refusal,
             Answer::Window(_) => 0,
             Answer::Save(saved, _) => saved.refusal,
             Answer::Assemble(assembly) => assembly.refusal,
@@ -145,6 +150,10 @@ pub fn header_state(state: State) -> ffi::State {
         n: state.n,
         journaled: state.journaled,
         board: state.board,
+        enabled: state.enabled,
+        pending: state.pending,
+        line: state.line,
+        return_address: state.return_address,
     }
 }
 
@@ -156,12 +165,17 @@ pub fn plain_state(state: ffi::State) -> State {
         n: state.n,
         journaled: state.journaled,
         board: state.board,
+        enabled: state.enabled,
+        pending: state.pending,
+        line: state.line,
+        return_address: state.return_address,
     }
 }
 
 pub fn header_usage(usage: Usage) -> ffi::Usage {
     ffi::Usage {
         kinds: usage.kinds,
+        taken: usage.taken,
         reads: usage.reads,
         writes: usage.writes,
     }
@@ -307,6 +321,13 @@ pub fn of_reference(call: &Call, world: &mut World, lengths: &Lengths) -> Answer
             let (places, _) = split(lent);
             Answer::Back(header_back(step_back(state, places, journal, k)))
         }
+        Call::Raise(state, line) => {
+            let raised = raise(state, line);
+            Answer::Raise(ffi::Raised {
+                state: header_state(raised.state),
+                refusal: raised.refusal,
+            })
+        }
         Call::Window(of_data, start, count) => {
             let (program, memory) = (lent.program, lent.memory);
             Answer::Window(header_window(program, memory, of_data, start, count))
@@ -348,6 +369,7 @@ pub fn of_library(call: &Call, world: &mut World, lengths: &Lengths) -> Answer {
             Answer::HostStep(held, answer)
         }
         Call::Back(state, k) => Answer::Back(ffi::step_back(header_state(state), lent, journal, k)),
+        Call::Raise(state, line) => Answer::Raise(ffi::raise(header_state(state), line)),
         Call::Window(of_data, start, count) => {
             let (program, memory) = (&*lent.program, &*lent.memory);
             Answer::Window(ffi::window(program, memory, of_data, start, count))

@@ -16,6 +16,10 @@ pub struct State {
     pub n: u32,
     pub journaled: u64,
     pub board: u8,
+    pub enabled: u8,
+    pub pending: u8,
+    pub line: u8,
+    pub return_address: u16,
 }
 
 /// `SisaLoad`
@@ -30,7 +34,8 @@ pub struct Load {
 #[repr(C)]
 #[derive(Clone, Copy, Debug, PartialEq, Eq)]
 pub struct Usage {
-    pub kinds: [u64; 30],
+    pub kinds: [u64; 34],
+    pub taken: u64,
     pub reads: [u64; 8],
     pub writes: [u64; 8],
 }
@@ -39,7 +44,8 @@ pub struct Usage {
 #[repr(C)]
 #[derive(Clone, Copy, Debug, PartialEq, Eq)]
 pub struct Sheet {
-    pub kinds: [u64; 30],
+    pub kinds: [u64; 34],
+    pub taken: u64,
     pub reads: [u64; 8],
     pub writes: [u64; 8],
     pub runs: u16,
@@ -99,6 +105,14 @@ impl Run {
             usage: self.usage,
         }
     }
+}
+
+/// `SisaRaised`
+#[repr(C)]
+#[derive(Clone, Copy, Debug, PartialEq, Eq)]
+pub struct Raised {
+    pub state: State,
+    pub refusal: u8,
 }
 
 /// `SisaInstruction`
@@ -295,6 +309,7 @@ extern "C" {
         log: *mut u64,
         log_len: usize,
     ) -> Answer;
+    fn sisa_raise(state: State, line: u8) -> Raised;
     fn sisa_feed(sheet: Sheet, run_refusal: u8, usage: Usage) -> Fed;
     fn sisa_read(word: u16) -> Instruction;
     fn sisa_write(kind: u8, a: u8, b: u8, d: u8, n: i16) -> Word;
@@ -462,6 +477,11 @@ pub fn host_step(state: &mut State, lent: &mut Lent) -> Answer {
             lent.log.len(),
         )
     }
+}
+
+pub fn raise(state: State, line: u8) -> Raised {
+    // SAFETY: every state and line is allowed.
+    unsafe { sisa_raise(state, line) }
 }
 
 pub fn feed(sheet: Sheet, run_refusal: u8, usage: Usage) -> Fed {

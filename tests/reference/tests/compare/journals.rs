@@ -13,7 +13,8 @@ use crate::random::Random;
 use reference::machine::State;
 
 /// Adds a word, or the pair that jumps to the next; none can stop a run but an
-/// OUT. R7 is a divisor and R6 a jump's target, an address of these words.
+/// OUT. R7 is a divisor and R6 a jump's target, an address of these words. There is
+/// no RETI: it may return to 0x0100, where R6 may be none.
 fn add_endless(random: &mut Random, words: &mut Vec<u16>) {
     let [a, b] = [0; 2].map(|_| 512 * random.below(8) as u16);
     let (b, d) = (b / 8, random.below(6) as u16);
@@ -23,7 +24,9 @@ fn add_endless(random: &mut Random, words: &mut Vec<u16>) {
         random.below(256) as u16,
     );
     let f = one_of(random, &[0, 1, 4, 5]);
-    let word = match random.below(20) {
+    let word = match random.below(22) {
+        20 => one_of(random, &[0xC000, 0xC001]) + a,
+        21 => 0xC003 + 8 * d,
         0..=2 => a + b + 8 * d + random.below(8) as u16,
         3 => 0x1000 + a + b + 8 * d + f,
         4 | 5 => 0x2000 + a + 64 * d + n6,
@@ -70,20 +73,26 @@ fn before_loop(random: &mut Random) -> State {
     }
 }
 
-/// Before such a loop on any board; on the single-memory one its stores may change
-/// it.
+/// Before such a loop on any board, any lines pending; on the single-memory board its
+/// stores may change it.
 fn before_loop_on_any_board(random: &mut Random) -> State {
     State {
         board: board(random),
+        enabled: one_of(random, &[0, 1, 255]),
+        pending: random.word() as u8,
         ..before_loop(random)
     }
 }
 
-/// Puts the words at address 0 of both memories.
+/// GETIID R4, ADDI R3,R3,1, RETI
+const HANDLER: [u16; 3] = [0xC023, 0x26C1, 0xC002];
+
+/// Puts the words at address 0 of both memories, and at 0x0100 a handler of lines.
 fn put(lent: Lent, words: &[u16]) {
     for memory in [lent.program, lent.memory] {
-        for (place, w) in memory.chunks_mut(2).zip(words) {
-            place.copy_from_slice(&w.to_le_bytes());
-        }
+        let places = memory.chunks_mut(2).zip(words);
+        places.for_each(|(place, w)| place.copy_from_slice(&w.to_le_bytes()));
+        let places = memory[0x0100..].chunks_mut(2).zip(HANDLER);
+        places.for_each(|(place, w)| place.copy_from_slice(&w.to_le_bytes()));
     }
 }

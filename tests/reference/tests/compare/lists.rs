@@ -134,6 +134,7 @@ impl List {
             14 => Call::Assemble(Text(texts::any(random))),
             15..=18 => self.back(lengths),
             19..=23 => self.journaled(),
+            24..=27 => Call::Raise(self.kept, make::line(random)),
             _ => self.run(lengths),
         }
     }
@@ -143,7 +144,8 @@ impl List {
         match random.below(48) {
             0 => Call::HostStep(self.handed(1)),
             1 => self.run(lengths),
-            2..=9 => Call::Set(make::port(random), random.value()),
+            2..=7 => Call::Set(make::port(random), random.value()),
+            8 | 9 => Call::Raise(self.kept, make::line(random)),
             10..=25 => self.back(lengths),
             _ => self.journaled(),
         }
@@ -243,6 +245,7 @@ impl List {
                 (state, answer.steps, answer.stop)
             }
             (_, Answer::Back(back)) if back.refusal == 0 => (back.state, 0, 0),
+            (_, Answer::Raise(raised)) => (raised.state, 0, 0),
             _ => return,
         };
         // A count past every journal came from `recounted`, and no step.

@@ -10,6 +10,7 @@ mod divisors;
 mod extension;
 mod ffi;
 mod journals;
+mod lines;
 mod lists;
 mod make;
 mod masks;

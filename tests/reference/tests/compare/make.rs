@@ -55,6 +55,14 @@ fn random_bytes(random: &mut Random, count: u64) -> Vec<u8> {
     (0..count).map(|_| random.word() as u8).collect()
 }
 
+/// Puts a few words and RETI at 0x0100, where a line that is taken goes on.
+fn add_handler(random: &mut Random, words: &mut Vec<u16>) {
+    words.resize(0x0100 / 2, 0);
+    let count = random.below(6);
+    words.extend((0..count).map(|_| program_word(random)));
+    words.push(0xC002);
+}
+
 /// Makes some words an ST or STB near the address that R0 holds, so near 0 while it
 /// is 0.
 fn add_stores(random: &mut Random, words: &mut [u16]) {
@@ -73,6 +81,9 @@ pub fn file(random: &mut Random, board: u8) -> Vec<u8> {
     let mut words = program(random);
     if board != 0 {
         add_stores(random, &mut words);
+    }
+    if words.len() < 128 && random.below(2) == 0 {
+        add_handler(random, &mut words);
     }
     let bytes: Vec<u8> = words.iter().flat_map(|w| w.to_le_bytes()).collect();
     let most = match board {
@@ -175,11 +186,13 @@ pub fn great_budget(random: &mut Random, n: u32) -> u32 {
     one_of(random, &[greatest, greatest.saturating_add(1), u32::MAX])
 }
 
-/// The state with registers, PC, n or board changed; n often so that the budget just
+/// The state with registers, PC, n, board or lines changed; n often so that the budget just
 /// fits or just doesn't.
 pub fn altered(random: &mut Random, kept: State, budget: u32) -> State {
     let mut state = kept;
-    match random.below(9) {
+    match random.below(11) {
+        7 => return with_any_lines(random, kept),
+        8 => state.enabled = one_of(random, &[0, 1, 2, 255]),
         0 => state.pc = random.word() | 1,
         1 => state.pc = random.word() & 0xFFFE,
         2 => state.pc = one_of(random, &[0, 2, 0xFFFC, 0xFFFE, 0xFFFF]),
@@ -199,6 +212,28 @@ pub fn altered(random: &mut Random, kept: State, budget: u32) -> State {
         _ => state.r = state.r.map(|_| random.value()),
     }
     state
+}
+
+/// The state with any enable flag, pending lines, line number and return address,
+/// which is odd now and then.
+pub fn with_any_lines(random: &mut Random, state: State) -> State {
+    let any = random.word();
+    State {
+        enabled: one_of(random, &[0, 1, 1, 2, 255]),
+        pending: random.word() as u8,
+        line: random.word() as u8,
+        return_address: one_of(random, &[any, any & 0xFFFE, 0, 0xFFFE]),
+        ..state
+    }
+}
+
+/// A line, sometimes over 7.
+pub fn line(random: &mut Random) -> u8 {
+    let any = random.word() as u8;
+    match random.below(8) {
+        0 => one_of(random, &[8, 9, 255, any]),
+        _ => random.below(8) as u8,
+    }
 }
 
 /// Mostly the right lengths, and a log of any length.

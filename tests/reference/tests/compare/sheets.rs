@@ -14,6 +14,7 @@ use reference::usage::Usage;
 fn header_sheet(sheet: Sheet) -> ffi::Sheet {
     ffi::Sheet {
         kinds: sheet.kinds,
+        taken: sheet.taken,
         reads: sheet.reads,
         writes: sheet.writes,
         runs: sheet.runs,
@@ -41,11 +42,13 @@ fn feed(sheet: Sheet, run_refusal: u8, usage: Usage) -> Result<Fed, String> {
 fn feed_returned(sheet: Sheet, run: &ffi::Answer) -> Result<Fed, String> {
     let ffi::Usage {
         kinds,
+        taken,
         reads,
         writes,
     } = run.usage;
     let usage = Usage {
         kinds,
+        taken,
         reads,
         writes,
     };
@@ -53,7 +56,7 @@ fn feed_returned(sheet: Sheet, run: &ffi::Answer) -> Result<Fed, String> {
 }
 
 /// Feeds these to an empty sheet of both sides in a few orders. Every order must
-/// give the same sheet, whose kinds' counts sum to the steps.
+/// give the same sheet, whose counts of kinds and of lines taken sum to the steps.
 pub fn any_order(random: &mut Random, returned: &mut [ffi::Answer]) -> Result<(), String> {
     let steps: u64 = returned.iter().map(|run| u64::from(run.steps)).sum();
     let accepted = returned.iter().filter(|run| run.refusal == 0).count();
@@ -67,7 +70,8 @@ pub fn any_order(random: &mut Random, returned: &mut [ffi::Answer]) -> Result<()
             }
             sheet = fed.sheet;
         }
-        let counted = (sheet.kinds.iter().sum(), usize::from(sheet.runs));
+        let sum = sheet.kinds.iter().sum::<u64>() + sheet.taken;
+        let counted = (sum, usize::from(sheet.runs));
         if counted != (steps, accepted) {
             return Err(format!("{steps} steps of {accepted} runs are {sheet:?}"));
         }
@@ -90,6 +94,8 @@ fn short_runs(random: &mut Random) -> Vec<ffi::Answer> {
             r: [0; 8].map(|_| random.value()),
             pc: random.word() & 0xFFFE | u16::from(at.is_multiple_of(4)),
             board: (at % 2) as u8,
+            enabled: (at % 5) as u8,
+            pending: random.word() as u8,
             ..State::reset()
         };
         let budget = random.below(40) as u32;
@@ -122,7 +128,8 @@ fn sheets_full_at_65_535_accepted_runs() {
         steps += u64::from(run.steps);
         sheet = reply.sheet;
     }
-    assert_eq!(sheet.kinds.iter().sum::<u64>(), steps);
+    assert_eq!(sheet.kinds.iter().sum::<u64>() + sheet.taken, steps);
+    assert!(sheet.taken > 1_000, "{}", sheet.taken);
     let mut with_13 = 0;
     for run in &returned {
         let refusal = if run.refusal == 0 { 13 } else { 0 };
@@ -160,6 +167,7 @@ fn hand_made(random: &mut Random) -> (Sheet, Usage) {
     let mut sheet = Sheet::empty();
     let mut usage = Usage::default();
     let all = sheet.kinds.iter_mut().zip(&mut usage.kinds);
+    let all = all.chain([(&mut sheet.taken, &mut usage.taken)]);
     let all = all.chain(sheet.reads.iter_mut().zip(&mut usage.reads));
     let all = all.chain(sheet.writes.iter_mut().zip(&mut usage.writes));
     for (count, added) in all {

@@ -9,8 +9,8 @@ use crate::{random_of, seed};
 use reference::machine::{Memories, State};
 use reference::run::Engine;
 
-/// A state to step the word from. Ra+SE(N6), a sum or address of opcodes 2 to
-/// 6, is often an edge.
+/// A state to step the word from, with no line to take. Ra+SE(N6), a sum or address
+/// of opcodes 2 to 6, is often an edge.
 pub fn random_state(random: &mut Random, w: u16) -> State {
     let even = random.word() & 0xFFFE;
     let mut r = [0; 8].map(|_| random.value());
@@ -25,12 +25,27 @@ pub fn random_state(random: &mut Random, w: u16) -> State {
         n: random.below(u32::MAX.into()) as u32,
         journaled: random.below(9),
         board: board(random),
+        ..no_line_to_take(random)
+    }
+}
+
+/// Lines are pending or enabled, not both.
+fn no_line_to_take(random: &mut Random) -> State {
+    let any = random.word() as u8;
+    let (enabled, pending) = one_of(random, &[(0, 0), (0, any), (1, 0), (any, 0)]);
+    State {
+        enabled,
+        pending,
+        line: random.word() as u8,
+        return_address: random.word() & 0xFFFE,
+        ..State::reset()
     }
 }
 
 /// The steps of all words by three exports, where no divisor is zero.
-/// Unassigned: opcodes 12 to 15, and 3 of 8 values of f in opcodes 1 and 11.
-pub const STEPS: u32 = 3 * (65_536 - 4 * 4_096 - 2 * 3 * 512);
+/// Unassigned: opcodes 13 to 15, 3 of 8 values of f in opcodes 1 and 11, and 4 in
+/// opcode 12.
+pub const STEPS: u32 = 3 * (65_536 - 3 * 4_096 - 2 * 3 * 512 - 4 * 512);
 
 /// What calls of one word replied.
 #[derive(Clone, Copy, Debug, Default)]

@@ -22,12 +22,13 @@ pub struct Tally {
     /// By export and outcome.
     outcomes: BTreeMap<(&'static str, String), u64>,
     /// The sums of all runs' counts, by export.
-    counts: BTreeMap<&'static str, [u64; 46]>,
+    counts: BTreeMap<&'static str, [u64; 51]>,
 }
 
-/// All counts: kinds, reads, writes.
+/// All counts: kinds, lines taken, reads, writes.
 fn all(usage: &Usage) -> impl Iterator<Item = &u64> {
-    usage.kinds.iter().chain(&usage.reads).chain(&usage.writes)
+    let kinds = usage.kinds.iter().chain([&usage.taken]);
+    kinds.chain(&usage.reads).chain(&usage.writes)
 }
 
 impl Tally {
@@ -41,6 +42,7 @@ impl Tally {
             Call::Journaled(Engine::Table(_), ..) => "table with journal",
             Call::HostStep(_) => "host",
             Call::Back(..) => "back",
+            Call::Raise(..) => "raise",
             Call::Window(..) => "window",
             Call::Save(..) => "save",
             Call::Assemble(_) => "assemble",
@@ -58,7 +60,7 @@ impl Tally {
                 Some(Memories::Single) => run.steps.into(),
                 _ => 0,
             };
-            let counts = self.counts.entry(export).or_insert([0; 46]);
+            let counts = self.counts.entry(export).or_insert([0; 51]);
             for (sum, count) in counts.iter_mut().zip(all(&run.usage)) {
                 *sum += count;
             }
@@ -131,6 +133,7 @@ impl Tally {
                 "back",
                 &["accepted", "refused 1", "refused 5", "refused 14"],
             ),
+            ("raise", &["accepted", "refused 16"]),
             ("window", &["part", "empty"]),
             ("save", &["accepted", "refused 1", "refused 9"]),
             ("assemble", &of_assemble),

@@ -128,7 +128,7 @@ fn part(random: &mut Random) -> u8 {
 fn all_kinds_written_with_random_parts() {
     let seed = seed();
     let mut random = random_of(seed, 1 << 32);
-    let mut accepted = [0_u64; 30];
+    let mut accepted = [0_u64; 34];
     for kind in 0..=255_u8 {
         for _ in 0..4_000 {
             let (a, b, d) = (part(&mut random), part(&mut random), part(&mut random));

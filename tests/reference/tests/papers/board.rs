@@ -17,14 +17,15 @@ pub struct Board {
     pub o: Vec<u16>,
 }
 
-/// "bit 15 says nothing": another table that must do as the paper's.
-const WITH_BIT_15: Table = {
+/// Another table that must do as the paper's: where bit 15 leaves the choice to f no
+/// field but the destination says anything, and without a destination, a store or an
+/// address unit and result say nothing.
+const OTHER_TABLE: Table = {
     let mut table = TABLE;
-    let mut at = 0;
-    while at < table.len() {
-        table[at] |= 0x8000;
-        at += 1;
-    }
+    table[24] = 0xFFFD;
+    table[25] = 0xC3BD;
+    table[16] |= 0x0140;
+    table[17] |= 0x020C;
     table
 };
 
@@ -32,7 +33,7 @@ const WITH_BIT_15: Table = {
 pub const ENGINES: [Engine; 3] = [
     Engine::Rules,
     Engine::PAPER_TABLE,
-    Engine::Table(&WITH_BIT_15),
+    Engine::Table(&OTHER_TABLE),
 ];
 
 /// A run that reports its counts.
@@ -84,7 +85,8 @@ impl Board {
         board
     }
 
-    /// Any state and memories, the program nearly all assigned words.
+    /// Any state and memories, the program nearly all assigned words. Lines may be
+    /// pending, but are not enabled.
     pub fn random(random: &mut Random) -> Board {
         let mut board = Board::new();
         for at in (0..board.p.len()).step_by(2) {
@@ -103,7 +105,19 @@ impl Board {
         }
         board.s.pc = random.word() & 0xFFFE;
         board.s.n = random.below(1 << 31) as u32;
+        board.s.pending = [0, random.word() as u8][random.below(2) as usize];
+        board.s.line = random.word() as u8;
+        board.s.return_address = random.word() & 0xFFFE;
         board
+    }
+
+    /// With 4,000 of EI, DI, RETI and GETIID at any places of the program.
+    pub fn with_lines(mut self, random: &mut Random) -> Board {
+        for _ in 0..4_000 {
+            let w = [0, 0, 0, 1, 2, 3][random.below(6) as usize] + 8 * random.below(8);
+            self.put(random.word() & 0xFFFE, 0xC000 + w as u16);
+        }
+        self
     }
 
     /// The single-memory board with this one's program in D, and bytes in P that it
@@ -127,6 +141,11 @@ impl Board {
         let [low, high] = w.to_le_bytes();
         self.fetch_memory()[usize::from(pc)] = low;
         self.fetch_memory()[usize::from(pc.wrapping_add(1))] = high;
+    }
+
+    /// Whether the next step takes a line.
+    pub fn takes(&self) -> bool {
+        self.s.enabled != 0 && self.s.pending != 0
     }
 
     /// The word at PC.

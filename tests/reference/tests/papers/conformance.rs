@@ -4,6 +4,7 @@
 mod backs;
 mod boards;
 mod keys;
+mod knobs;
 mod sheets;
 
 use reference::conformance::{file, lines, number, table, table_lines, Digest};
@@ -144,9 +145,10 @@ fn instructions_by_hand() {
         (3, 1, 0x7F27, "1 18 7 0 4 0 128 16 0 32512"), // JALR R4,R7
         (3, 10, 0x9B2E, "1 22 0 0 5 46 32 32 0 39726"), // MOVHI R5,46
         (1, 12, 0xA90A, "1 24 4 0 0 10 16 0 0 43274"), // OUT 10,R4
-        (3, 14, 0xD9C2, "0 0 0 0 0 0 0 0 0 3"),    // unassigned; NOT written
+        (3, 14, 0xD9C2, "0 0 0 0 0 0 0 0 0 4100"), // unassigned; CMPLTU written
         (45, 10, 0xB3BC, "1 28 1 6 7 0 66 128 0 46012"), // DIV R7,R1,R6
-        (32, 10, 0xB56E, "0 0 0 0 0 0 0 0 0 2"),   // unassigned; XOR written
+        (32, 10, 0xB56E, "0 0 0 0 0 0 0 0 0 28672"), // unassigned; JALR written
+        (49, 8, 0xC22B, "1 33 0 0 5 0 0 32 0 49203"), // GETIID R5; written with R6
     ] {
         assert_eq!(number(c, 5_001 + 16 * i), w);
         let line = format!("instruction {c} {i} {expected}");
@@ -179,7 +181,7 @@ const OF_RUNS: [&str; 7] = ["1", "5", "6", "0 0", "0 1", "0 2", "0 3"];
 #[test]
 fn every_refusal_and_stop_reason_occurs() {
     let lines = lines();
-    assert_eq!(count(&lines, "load"), 64 + 16 + 9);
+    assert_eq!(count(&lines, "load"), 64 + 16 + 9 + 8);
     occur(&lines, "load *", &["0", "1", "2", "3", "4", "15"]);
     occur(&lines, "set * *", &["0", "1"]);
     occur(&lines, "run rules * *", &OF_RUNS);
@@ -191,9 +193,9 @@ fn every_refusal_and_stop_reason_occurs() {
         let start = format!("instruction * * {assigned} * * * * * * *");
         occur(&lines, &start, &["0", "7"]);
     }
-    // By s, in every case whose load was accepted, but for those of keys and the
-    // three long files.
-    let accepted = count(&lines, "load * 0") - 16 - 2;
+    // By s, in every case whose load was accepted, but for those of keys, the three
+    // long files and those of knobs.
+    let accepted = count(&lines, "load * 0") - 16 - 2 - 8;
     assert_eq!(count(&lines, "save"), 4 * accepted);
     for ending in ["0 0", "1 0", "2 9 0", "3 1 0"] {
         assert_eq!(count(&lines, &format!("save * {ending}")), accepted);
@@ -218,8 +220,9 @@ fn every_refusal_and_stop_reason_occurs() {
 #[test]
 fn every_refusal_and_stop_reason_of_a_run_occurs_by_any_table() {
     let lines = table_lines();
-    assert_eq!(lines.len(), 640);
-    assert_eq!(count(&lines, "run control"), 640);
+    assert_eq!(count(&lines, "run control"), 4 * 176);
+    assert_eq!(count(&lines, "lines"), 4 * 16);
+    assert_eq!(lines.len(), 4 * 176 + 4 * 16);
     occur(&lines, "run control * *", &OF_RUNS);
     // Table 88 has OUT's word at IN's place. Its program: LD, SHA, STB, SHA, LD,
     // IN, unassigned. The log lent has three places.

@@ -5,6 +5,7 @@ use crate::random::Random;
 use crate::words::unassigned;
 use reference::control::{Table, TABLE};
 use reference::machine::State;
+use reference::raise::raise;
 use reference::run::Reply;
 use reference::set::set;
 
@@ -22,7 +23,8 @@ fn the_table_is_the_paper_s() {
         [0x5000, 0x6000, 0x4263, 0x4283, 0x4013, 0x4C00]
     );
     assert_eq!(TABLE[22..24], [0x40A1, 0x40A1]);
-    assert_eq!(TABLE[24..], [0; 8]);
+    assert_eq!(TABLE[24..26], [0xC001, 0xC001]);
+    assert_eq!(TABLE[26..], [0; 6]);
 }
 
 #[test]
@@ -129,10 +131,14 @@ fn a_reordered_table_runs_reordered_words_alike() {
 enum Call {
     Run { budget: u32, places: usize },
     Set { p: u8, v: u16, length: usize },
+    Raise { line: u8 },
 }
 
 fn random_call(random: &mut Random) -> Call {
-    match random.below(4) {
+    match random.below(5) {
+        4 => Call::Raise {
+            line: random.below(10) as u8,
+        },
         0 => Call::Set {
             p: random.word() as u8,
             v: random.word(),
@@ -157,6 +163,11 @@ fn plain(board: &mut Board, log: &mut Vec<u64>, call: &Call) -> Result<(u8, u32,
         Call::Set { length, .. } if length != 256 => Err(1),
         Call::Set { p, v, .. } => {
             board.i[usize::from(p)] = v;
+            Ok((0, 0, 0))
+        }
+        Call::Raise { line } if line > 7 => Err(16),
+        Call::Raise { line } => {
+            board.s.pending |= 1 << line;
             Ok((0, 0, 0))
         }
         Call::Run { budget, .. } if board.s.n.checked_add(budget).is_none() => Err(6),
@@ -194,6 +205,14 @@ fn library(
         Call::Set { p, v, length } => {
             let lent = &mut board.i[..length];
             set(lent, p, v).map(|()| (0, 0, 0))
+        }
+        Call::Raise { line } => {
+            let raised = raise(board.s, line);
+            board.s = raised.state;
+            match raised.refusal {
+                0 => Ok((0, 0, 0)),
+                number => Err(number),
+            }
         }
         Call::Run { budget, places } => {
             let mut log = vec![0xEEEE; places];

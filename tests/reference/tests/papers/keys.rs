@@ -101,13 +101,14 @@ fn by_any_control_word_result_4_takes_the_key() {
     for c in 0..=0xFFFF_u16 {
         (board.s, board.i[0]) = (start, 0x1000);
         let stepped = board.step(Engine::Table(&[c; 32])).is_some();
-        let takes = stepped && c >> 2 & 7 == 4;
+        let takes = stepped && c >> 2 & 7 == 4 && c < 0x8000;
         assert_eq!(board.i[0], if takes { 0 } else { 0x1000 }, "{c:04X}");
         assert_eq!(board.i[1..3], [0x1001, 0x1002]);
         taken += u32::from(takes);
     }
-    // Bit 14 set, and one of eight results; unit 1 has f = 1, unit 5 too.
-    assert_eq!(taken, 32_768 / 8);
+    // Bit 14 set and bit 15 clear, and one of eight results; unit 1 has f = 1, unit 5
+    // too.
+    assert_eq!(taken, 16_384 / 8);
 }
 
 /// IN R2,1 and BZ R0,-2, and a journal of so many places.

@@ -40,6 +40,12 @@ fn lines_by_hand() {
         "0020|BFC4|DIV R0, R7, R7|reads R7|writes R0",
         "0022|B1FD|DIVU R7, R0, R7|reads R0 R7|writes R7",
         "0024|B29B|.word 0xB29B|reads|writes",
+        "0026|C000|EI|reads|writes",
+        "0028|CFF9|DI|reads|writes",
+        "002A|C012|RETI|reads|writes",
+        "002C|C03B|GETIID R7|reads|writes R7",
+        "002E|CFC3|GETIID R0|reads|writes R0",
+        "0030|C004|.word 0xC004|reads|writes",
         "001A|129F|.word 0x129F|reads|writes",
         "FFFE|FABC|.word 0xFABC|reads|writes",
     ] {
@@ -154,7 +160,8 @@ fn the_sample_has_every_kind_with_every_register_and_edge() {
     }
     for (number, &(w, ..)) in (0..).zip(&BY_HAND) {
         let x = read(w).unwrap();
-        // `BY_HAND` has no register 0 in a part that is used.
+        // `BY_HAND` has no register 0 in a part that is used, and EI, DI and RETI
+        // none at all.
         for (part, used) in [('a', x.a), ('b', x.b), ('d', x.d)] {
             for k in 0..if used == 0 { 1 } else { 8 } {
                 assert!(parts.contains(&(number, part, k)), "{number} {part} {k}");
@@ -181,7 +188,17 @@ fn the_sample_has_ignored_bits_unassigned_words_and_far_branches() {
     // Bits that reading ignores.
     assert!(count(&|_, w| w < 0x1000 && written_back(w) != w) >= 7);
     assert!(count(&|_, w| w >> 12 == 7 && written_back(w) != w) >= 7);
-    for (opcode, f) in [(1, 2), (1, 6), (1, 7), (11, 3), (11, 6), (11, 7)] {
+    assert!(count(&|_, w| w >> 12 == 12 && written_back(w) != w) >= 4);
+    for (opcode, f) in [
+        (1, 2),
+        (1, 6),
+        (1, 7),
+        (11, 3),
+        (11, 6),
+        (11, 7),
+        (12, 4),
+        (12, 7),
+    ] {
         let found = count(&|_, w| (w >> 12, w & 7) == (opcode, f));
         assert!(found > 0, "{opcode}, {f}");
     }

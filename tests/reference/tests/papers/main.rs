@@ -11,6 +11,7 @@ mod engines;
 mod extension;
 mod journals;
 mod keys;
+mod lines;
 mod listing;
 mod marked;
 mod masks;

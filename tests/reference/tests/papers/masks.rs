@@ -14,7 +14,7 @@ const R5: u8 = 0b0010_0000;
 const R6: u8 = 0b0100_0000;
 
 /// What the words of `BY_HAND` read and write.
-pub const MASKS: [(u8, u8); 30] = [
+pub const MASKS: [(u8, u8); 34] = [
     (R5 | R6, R3), // AND R3,R5,R6
     (R5 | R6, R3), // OR
     (R5 | R6, R3), // XOR
@@ -45,6 +45,10 @@ pub const MASKS: [(u8, u8); 30] = [
     (R5 | R6, R3), // MULHU
     (R5 | R6, R3), // DIV
     (R5 | R6, R3), // DIVU
+    (0, 0),        // EI
+    (0, 0),        // DI
+    (0, 0),        // RETI
+    (0, R3),       // GETIID R3
 ];
 
 #[test]
@@ -68,6 +72,8 @@ fn edges_by_hand() {
         (0b1010_111_0_11111111, 0, 0b1000_0000),            // IN R7,255
         (0b1011_010_010_001_100, 0b0000_0100, 0b0000_0010), // DIV R1,R2,R2
         (0b1011_000_111_111_000, 0b1000_0001, 0b1000_0000), // MUL R7,R0,R7
+        (0b1100_111_111_111_010, 0, 0),                     // RETI, ignored bits set
+        (0b1100_111_111_000_011, 0, 0b0000_0001),           // GETIID R0, ignored bits set
     ] {
         assert_eq!(masks(w), Masks { reads, writes }, "{w:04X}");
     }

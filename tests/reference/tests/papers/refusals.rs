@@ -58,6 +58,10 @@ fn a_load_copies_the_parts_and_zeroes_the_rest() {
         n: 0,
         journaled: 0,
         board: 0,
+        enabled: 0,
+        pending: 0,
+        line: 0,
+        return_address: 0,
     };
     assert_eq!(loaded.s, reset);
 }

@@ -11,25 +11,27 @@ use reference::usage::Usage;
 fn sheet(counts: Usage, runs: u16) -> Sheet {
     Sheet {
         kinds: counts.kinds,
+        taken: counts.taken,
         reads: counts.reads,
         writes: counts.writes,
         runs,
     }
 }
 
-/// Count k of all 46, kinds first, then reads, then writes.
+/// Count k of all 51, kinds first, then the lines taken, then reads, then writes.
 fn count(counts: &mut Usage, k: usize) -> &mut u64 {
     match k {
-        0..=29 => &mut counts.kinds[k],
-        30..=37 => &mut counts.reads[k - 30],
-        _ => &mut counts.writes[k - 38],
+        0..=33 => &mut counts.kinds[k],
+        34 => &mut counts.taken,
+        35..=42 => &mut counts.reads[k - 35],
+        _ => &mut counts.writes[k - 43],
     }
 }
 
 /// Counts that are all different: count k is `start` + `step` · k.
 fn ascending(start: u64, step: u64) -> Usage {
     let mut counts = Usage::default();
-    (0..46).for_each(|k| *count(&mut counts, k) = start + step * k as u64);
+    (0..51).for_each(|k| *count(&mut counts, k) = start + step * k as u64);
     counts
 }
 
@@ -83,7 +85,7 @@ fn thirteen_after_65_535_accepted_runs() {
 #[test]
 fn each_count_wraps_alone() {
     const MAX: u64 = u64::MAX;
-    for k in 0..46 {
+    for k in 0..51 {
         for (before, added, after) in [
             (MAX, 1, 0),
             (1, MAX, 0),
@@ -134,7 +136,7 @@ fn any_order_gives_the_sheet_of_the_plain_machine_s_steps() {
     }
     let mut expected = Usage::default();
     for mut counts in worked.iter().copied() {
-        (0..46).for_each(|k| *count(&mut expected, k) += *count(&mut counts, k));
+        (0..51).for_each(|k| *count(&mut expected, k) += *count(&mut counts, k));
     }
     assert!(worked.len() < runs.len());
     // "The sheet equals one worked out from the plain machine's steps, in
@@ -142,8 +144,8 @@ fn any_order_gives_the_sheet_of_the_plain_machine_s_steps() {
     for _ in 0..20 {
         let found = fed_all(&runs);
         assert_eq!(found, sheet(expected, worked.len() as u16));
-        // "kind counts sum to the steps the runs reported"
-        assert_eq!(found.kinds.iter().sum::<u64>(), steps);
+        // "kind counts sum to the steps the runs reported", with L12's taken lines
+        assert_eq!(found.kinds.iter().sum::<u64>() + found.taken, steps);
         random.shuffle(&mut runs);
     }
 }

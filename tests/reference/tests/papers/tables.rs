@@ -191,6 +191,7 @@ fn every_control_word_with_every_f_stops_as_it_says() {
             board.put(0, f);
             let expected = match (unit, f) {
                 _ if c & 0x4000 == 0 => (1, 0, 0),
+                _ if c & 0x8000 != 0 => [(0, 1, 0), (1, 0, 0)][usize::from(f > 3)],
                 (1, 2 | 6 | 7) | (5, 3 | 6 | 7) => (1, 0, 0),
                 (5, 4 | 5) if second == 3 || (second == 0 && rb == 0) => (3, 0, 0),
                 _ if store == 3 => (2, 0, 0),
@@ -202,22 +203,35 @@ fn every_control_word_with_every_f_stops_as_it_says() {
     }
 }
 
+/// L12: "bit 15 leaves the choice to f". By every control word with bits 15 and 14
+/// the words of opcode 15 are EI, DI, RETI, GETIID, by the destination alone.
 #[test]
-fn bit_15_says_nothing() {
-    let mut random = Random::new(0xAB1F);
-    let mut clear = Board::random(&mut random);
-    let mut set = clear.clone();
-    for c in 0..0x8000 {
-        let w = random.word();
-        clear.s.r = clear.s.r.map(|_| random.value());
-        let stepped = control::step(c, w, clear.s, &mut clear.places());
-        assert_eq!(
-            control::step(c + 0x8000, w, clear.s, &mut set.places()),
-            stepped,
-            "{c:04X} beside {w:04X}"
-        );
+fn bit_15_leaves_the_choice_to_f() {
+    let mut before = board();
+    before.s.line = 0xAB;
+    before.s.return_address = 0x5678;
+    before.s.enabled = 7;
+    let places = before.clone();
+    for c in 0xC000..=0xFFFF_u16 {
+        for f in 0..8 {
+            let mut expected = before.s;
+            (expected.n, expected.pc) = (1, 0x0102);
+            match f {
+                0 => expected.enabled = 1,
+                1 => expected.enabled = 0,
+                2 => (expected.enabled, expected.pc) = (1, 0x5678),
+                // R3, R2 and R1 by bits 5..3, 8..6 and 11..9
+                _ if c & 3 > 0 => expected.r[4 - usize::from(c & 3)] = 0xAB,
+                _ => {}
+            }
+            let expected = (f < 4).then_some(expected);
+            let w = W - 4 + f;
+            let stepped = control::step(c, w, before.s, &mut before.places());
+            assert_eq!(stepped.map(|x| x.state), expected, "{c:04X}, f {f}");
+            assert_eq!(stepped.and_then(|x| x.entry), None);
+        }
     }
-    assert!((clear.d, clear.i, clear.o) == (set.d, set.i, set.o));
+    assert!(before == places);
 }
 
 /// The word with this place's opcode and, where the table has a word for each,

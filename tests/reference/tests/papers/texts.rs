@@ -120,8 +120,8 @@ fn every_kind_is_written() {
         .find(|sort| sort.what.starts_with("every statement"));
     for text in &every.unwrap().texts {
         let mut program = start();
-        assert_eq!(assemble(text, &mut program), Ok(31));
-        for (kind, word) in (0..30).zip(program.chunks(2)) {
+        assert_eq!(assemble(text, &mut program), Ok(35));
+        for (kind, word) in (0..34).zip(program.chunks(2)) {
             let found = read(u16::from_le_bytes([word[0], word[1]])).unwrap();
             assert_eq!(found.kind.number(), kind);
         }

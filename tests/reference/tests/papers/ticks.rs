@@ -8,12 +8,13 @@ use crate::words::{unassigned, BY_HAND};
 use reference::ticks::ticks;
 
 /// "3 ticks an instruction, and 4 for LD, ST, LDB and STB", by kind.
-const TICKS: [u64; 30] = [
+const TICKS: [u64; 34] = [
     3, 3, 3, 3, 3, 3, 3, 3, // AND, OR, XOR, NOT, ADD, SUB, SHA, SHL
     3, 3, 3, 3, 3, 3, // CMPLT, CMPLE, CMPEQ, CMPLTU, CMPLEU, ADDI
     4, 4, 4, 4, // LD, ST, LDB, STB
     3, 3, 3, 3, 3, 3, 3, // JALR, BZ, BNZ, MOVI, MOVHI, IN, OUT
     3, 3, 3, 3, 3, // MUL, MULH, MULHU, DIV, DIVU
+    3, 3, 3, 3, // EI, DI, RETI, GETIID
 ];
 
 /// The ticks of a step on the word, by its opcode.
@@ -105,7 +106,11 @@ fn three_and_four_times_the_steps() {
 fn worked_out(mut board: Board, steps: u32) -> u64 {
     let mut ticks = 0;
     for _ in 0..steps {
-        ticks += by_opcode(board.word());
+        ticks += if board.takes() {
+            3
+        } else {
+            by_opcode(board.word())
+        };
         board.step(Engine::Rules).expect("a step is possible");
     }
     ticks

@@ -5,6 +5,7 @@ use crate::board::{Board, Engine, COUNTED, JOURNALED};
 use crate::journals::UNTOUCHED;
 use crate::random::Random;
 use crate::runs::done;
+use reference::raise::raise;
 use reference::set::set;
 
 /// Far below the random board's n, so that the count decides what is held.
@@ -16,10 +17,14 @@ struct Trail {
     board: Board,
     journal: Vec<u64>,
     boards: Vec<Board>,
+    /// Which of those steps took a line.
+    took: Vec<bool>,
     /// The plain machine.
     machine: Board,
     /// How often going back undid a read of the key.
     reads_undone: u32,
+    /// How many takings of a line going back undid.
+    takings_undone: u32,
 }
 
 /// IN from port 1.
@@ -29,7 +34,7 @@ fn reads_key(w: u16) -> bool {
 
 impl Trail {
     fn new(mut random: Random) -> Trail {
-        let mut board = Board::random(&mut random);
+        let mut board = Board::random(&mut random).with_lines(&mut random);
         if random.below(2) == 0 {
             board = board.on_single_memory();
         }
@@ -40,7 +45,9 @@ impl Trail {
             board,
             journal: vec![UNTOUCHED; PLACES],
             boards: Vec::new(),
+            took: Vec::new(),
             reads_undone: 0,
+            takings_undone: 0,
         }
     }
 
@@ -48,6 +55,7 @@ impl Trail {
     fn follow(&mut self, steps: u32) {
         for _ in 0..steps {
             self.boards.push(self.machine.clone());
+            self.took.push(self.machine.takes());
             self.machine.step(Engine::Rules).expect("a step");
         }
     }
@@ -72,6 +80,7 @@ impl Trail {
         let returned = self.board.counted(run, 3, &mut [0; 3]);
         self.follow(returned.reply.steps());
         self.boards.clear();
+        self.took.clear();
     }
 
     fn set(&mut self) {
@@ -80,6 +89,17 @@ impl Trail {
         let value = self.random.value();
         for board in [&mut self.board, &mut self.machine] {
             set(&mut board.i, port, value).unwrap();
+        }
+    }
+
+    /// L12: "a raise in between stays": every board before the counted steps has it.
+    fn raise(&mut self) {
+        let line = self.random.below(8) as u8;
+        let raised = raise(self.board.s, line);
+        assert_eq!(raised.refusal, 0);
+        self.board.s = raised.state;
+        for board in self.boards.iter_mut().chain([&mut self.machine]) {
+            board.s.pending |= 1 << line;
         }
     }
 
@@ -93,13 +113,16 @@ impl Trail {
         };
         let back = self.board.back(&self.journal, k);
         let undone = self.boards.split_off((held - k) as usize);
-        let outs = undone.iter().filter(|board| board.word() >> 12 == 10);
-        let outs = outs.filter(|board| board.word() >> 8 & 1 == 1).count() as u64;
+        let took = self.took.split_off((held - k) as usize);
+        self.takings_undone += took.iter().filter(|&&took| took).count() as u32;
+        let words = || undone.iter().zip(&took).filter(|(_, took)| !**took);
+        let outs = words().filter(|(board, _)| board.word() >> 12 == 10);
+        let outs = outs.filter(|(board, _)| board.word() >> 8 & 1 == 1).count() as u64;
         assert_eq!((back.refusal(), back.fallen()), (0, outs));
         // "Inputs set in between stay as set." L8: but for input 0, which has "what
         // it held before the read", the earliest undone.
         let mut i = self.machine.i.clone();
-        if let Some(board) = undone.iter().find(|board| reads_key(board.word())) {
+        if let Some((board, _)) = words().find(|(board, _)| reads_key(board.word())) {
             i[0] = board.i[0];
             self.reads_undone += 1;
         }
@@ -111,7 +134,8 @@ impl Trail {
     fn call(&mut self) {
         match self.random.below(12) {
             0 => self.run_without_a_journal(),
-            1 | 2 => self.set(),
+            1 => self.set(),
+            2 => self.raise(),
             3..=5 => self.back(),
             _ => self.run(),
         }
@@ -123,11 +147,13 @@ impl Trail {
 #[test]
 fn lists_in_any_order() {
     let mut random = Random::new(0x7EA1);
-    let mut reads_undone = 0;
-    for _ in 0..40 {
+    let (mut reads_undone, mut takings_undone) = (0, 0);
+    for _ in 0..300 {
         let mut trail = Trail::new(Random::new(random.next()));
         (0..40).for_each(|_| trail.call());
         reads_undone += trail.reads_undone;
+        takings_undone += trail.takings_undone;
     }
     assert!(reads_undone > 30, "{reads_undone}");
+    assert!(takings_undone > 30, "{takings_undone}");
 }

@@ -166,7 +166,8 @@ fn count(usage: &mut Usage, w: u16) {
         (9, _) => (22, vec![a], Some(a)),
         (10, 0) => (23, vec![], Some(a)),
         (10, _) => (24, vec![a], None),
-        _ => (25 + f - usize::from(f > 3), vec![a, b], Some(d)),
+        (11, _) => (25 + f - usize::from(f > 3), vec![a, b], Some(d)),
+        _ => (30 + f, vec![], (f == 3).then_some(d)),
     };
     usage.kinds[kind] += 1;
     (0..8).for_each(|k| usage.reads[k] += u64::from(reads.contains(&k)));
@@ -197,7 +198,10 @@ fn one_step_of_every_word() {
 pub fn worked_out(mut board: Board, steps: u32) -> (Usage, State) {
     let mut usage = Usage::default();
     for _ in 0..steps {
-        count(&mut usage, board.word());
+        match board.takes() {
+            true => usage.taken += 1,
+            false => count(&mut usage, board.word()),
+        }
         board.step(Engine::Rules).expect("a step is possible");
     }
     (usage, board.s)
@@ -216,11 +220,14 @@ fn random_runs() {
         let steps = returned.reply.steps();
         let usage = returned.usage;
         assert_eq!((usage, board.s), worked_out(start, steps));
-        // "kind counts sum to the steps the runs reported"
-        assert_eq!(usage.kinds.iter().sum::<u64>(), u64::from(steps));
+        // "kind counts sum to the steps the runs reported", with L12's taken lines
+        let sum = usage.kinds.iter().sum::<u64>() + usage.taken;
+        assert_eq!(sum, u64::from(steps));
+        total.taken += usage.taken;
         let of_registers = usage.reads.iter().chain(&usage.writes);
         assert!(of_registers.max() <= Some(&steps.into()));
-        (0..30).for_each(|k| total.kinds[k] += usage.kinds[k]);
+        (0..34).for_each(|k| total.kinds[k] += usage.kinds[k]);
     }
     assert!(total.kinds.iter().all(|&count| count > 100), "{total:?}");
+    assert!(total.taken > 50, "{total:?}");
 }

@@ -5,7 +5,7 @@ use reference::machine::{assigned, is_out};
 
 /// One word of each kind, put together by hand from the sheet's formats, with
 /// its a, b, d, n.
-pub const BY_HAND: [(u16, i32, i32, i32, i32); 30] = [
+pub const BY_HAND: [(u16, i32, i32, i32, i32); 34] = [
     (0b0000_101_110_011_000, 5, 6, 3, 0),   // AND R3,R5,R6
     (0b0000_101_110_011_001, 5, 6, 3, 0),   // OR
     (0b0000_101_110_011_010, 5, 6, 3, 0),   // XOR
@@ -36,6 +36,10 @@ pub const BY_HAND: [(u16, i32, i32, i32, i32); 30] = [
     (0b1011_101_110_011_010, 5, 6, 3, 0),   // MULHU
     (0b1011_101_110_011_100, 5, 6, 3, 0),   // DIV
     (0b1011_101_110_011_101, 5, 6, 3, 0),   // DIVU
+    (0b1100_000_000_000_000, 0, 0, 0, 0),   // EI
+    (0b1100_000_000_000_001, 0, 0, 0, 0),   // DI
+    (0b1100_000_000_000_010, 0, 0, 0, 0),   // RETI
+    (0b1100_000_000_011_011, 0, 0, 3, 0),   // GETIID R3
 ];
 
 fn kind(number: usize) -> Kind {
@@ -58,27 +62,31 @@ fn one_word_of_each_kind_by_hand() {
 }
 
 #[test]
-fn kinds_are_numbered_in_the_sheet_s_order_then_l6_s() {
+fn kinds_are_numbered_in_the_sheet_s_order_then_l6_s_and_l12_s() {
     for number in 0..=255_u8 {
         match Kind::from_number(number) {
             Some(kind) => assert_eq!(kind.number(), number),
-            None => assert!(number >= 30),
+            None => assert!(number >= 34),
         }
-        assert_eq!(Kind::from_number(number).is_some(), number < 30);
+        assert_eq!(Kind::from_number(number).is_some(), number < 34);
     }
     assert_eq!(Kind::from_number(3), Some(Kind::Not));
     assert_eq!(Kind::from_number(18), Some(Kind::Jalr));
     assert_eq!(Kind::from_number(24), Some(Kind::Out));
     assert_eq!(Kind::from_number(25), Some(Kind::Mul));
     assert_eq!(Kind::from_number(29), Some(Kind::Divu));
+    assert_eq!(Kind::from_number(30), Some(Kind::Ei));
+    assert_eq!(Kind::from_number(33), Some(Kind::Getiid));
 }
 
-/// Of opcode 1 f = 2, 6, 7; of opcode 11 f = 3, 6, 7; opcodes 12 to 15.
+/// Of opcode 1 f = 2, 6, 7; of opcode 11 f = 3, 6, 7; of opcode 12 f = 4, 5, 6, 7;
+/// opcodes 13 to 15.
 pub fn unassigned(w: u16) -> bool {
     match w >> 12 {
         1 => [2, 6, 7].contains(&(w & 7)),
         11 => [3, 6, 7].contains(&(w & 7)),
-        opcode => opcode >= 12,
+        12 => (w & 7) >= 4,
+        opcode => opcode >= 13,
     }
 }
 
@@ -92,6 +100,8 @@ pub fn written_back(w: u16) -> u16 {
     match (w >> 12, w & 7) {
         (0, 3) => w & 0xFE3F,
         (7, _) => w & 0xFFC0,
+        (12, 0..=2) => w & 0xF007,
+        (12, 3) => w & 0xF03F,
         _ => w,
     }
 }
@@ -114,7 +124,7 @@ fn all_words_read_then_written() {
         }
         assert_eq!(assigned(w), !unassigned(w));
     }
-    assert_eq!(count, 4 * 4_096 + 2 * 4_096 * 3 / 8);
+    assert_eq!(count, 3 * 4_096 + 4_096 / 2 + 2 * 4_096 * 3 / 8);
 }
 
 /// Least and greatest of a, b, d, n by kind: "Registers are 0 to 7. n is
@@ -131,6 +141,8 @@ fn limits(kind: Kind) -> [(i32, i32); 4] {
         Kind::Movi => [NO, NO, R, (-128, 127)],
         Kind::Movhi | Kind::In => [NO, NO, R, (0, 255)],
         Kind::Out => [R, NO, NO, (0, 255)],
+        Kind::Ei | Kind::Di | Kind::Reti => [NO, NO, NO, NO],
+        Kind::Getiid => [NO, NO, R, NO],
         _ => [R, R, R, NO],
     }
 }
@@ -164,7 +176,7 @@ fn every_kind_with_parts_in_and_out_of_range() {
         65_536,
         i32::MAX,
     ];
-    for number in 0..30 {
+    for number in 0..34 {
         let kind = kind(number);
         let [of_a, of_b, of_d, of_n] = limits(kind);
         for a in registers {
@@ -197,7 +209,7 @@ fn every_kind_with_parts_in_and_out_of_range() {
 fn every_instruction_reads_back_as_itself_and_no_two_share_a_word() {
     let mut seen = vec![false; 65_536];
     let mut count = 0;
-    for number in 0..30 {
+    for number in 0..34 {
         let kind = kind(number);
         let [of_a, of_b, of_d, of_n] = limits(kind);
         for a in of_a.0..=of_a.1 {
@@ -215,6 +227,11 @@ fn every_instruction_reads_back_as_itself_and_no_two_share_a_word() {
             }
         }
     }
-    // Opcode 0: 7 of 512 and NOT's 64; 1 and 11: 5 of 512 each; 2 to 6; JALR; 8 to 10.
-    assert_eq!(count, 7 * 512 + 64 + 10 * 512 + 5 * 4_096 + 64 + 3 * 4_096);
+    // Opcode 0: 7 of 512 and NOT's 64; 1 and 11: 5 of 512 each; 2 to 6; JALR; 8 to 10;
+    // EI, DI, RETI and 8 of GETIID.
+    let of_12 = 3 + 8;
+    assert_eq!(
+        count,
+        7 * 512 + 64 + 10 * 512 + 5 * 4_096 + 64 + 3 * 4_096 + of_12
+    );
 }

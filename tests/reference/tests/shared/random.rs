@@ -46,7 +46,7 @@ impl Random {
         if self.below(200) == 0 {
             return self.word();
         }
-        let w = (self.below(12) * 4_096 + self.below(4_096)) as u16;
+        let w = (self.below(13) * 4_096 + self.below(4_096)) as u16;
         match w / 4_096 {
             1 => w - w % 8 + [0, 1, 3, 4, 5][self.below(5) as usize],
             // Few divisions, or runs soon end before a zero divisor.
@@ -54,7 +54,8 @@ impl Random {
             // Often the key's ports.
             10 if self.below(2) == 0 => w - w % 256 + self.below(3) as u16,
             // Few jumps, or runs soon end in a short loop.
-            7 | 8 if self.below(2) == 0 => 0x2000 + w % 4_096,
+            7 | 8 | 12 if self.below(2) == 0 => 0x2000 + w % 4_096,
+            12 => w - w % 8 + [0, 0, 0, 1, 3, 3, 3, 2][self.below(8) as usize],
             _ => w,
         }
     }

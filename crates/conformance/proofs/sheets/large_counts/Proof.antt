@@ -3,6 +3,7 @@
 use Prim.Native.Nat.{_-_}
 use native.Mathlib.Omega.{arith}
 use borrow.Author.Needs.{needs}
+use Rattle.kinds.specs.Kinds.{kindCount}
 use Rattle.conformance.proofs.sheets.large_counts.Statement.{statement}
 use Rattle.conformance.proofs.sheets.large_counts.Tie as tie
 
@@ -11,7 +12,7 @@ large-counts-spec =
     tie.close
     (tie.spec
     (λ _ _ _ _ _. Unit {0})
-    (λ _ _ _ _ k. 30 - k)
+    (λ _ _ _ _ k. kindCount - k)
     (λ _ _ _ _ _ _ _ _. Unit {0})
     (λ _ _ _ _ _ _ _ j. 8 - j)
     (λ c. tt)
@@ -33,4 +34,5 @@ large-counts-spec =
     (λ c. omega arith)
     (λ c. omega arith)
     (λ c. tt)
+    (λ c κs. tt)
     (λ c. tt))

@@ -8,24 +8,25 @@ use native.Mathlib.Omega.{arith}
 use borrow.Author.Needs.{needs}
 use borrow.Author.Tests.{eq-eqb, ne-eqb}
 use lib.Dec.{eqb}
+use Rattle.word.proofs.Computed.{all}
 use Rattle.control.specs.Control.{second, divides, zeroDivisor}
-use Rattle.datapath.proofs.Choice.{divisions-f}
+use Rattle.datapath.proofs.Choice.{alike-f}
 use Rattle.datapath.proofs.fields.divides_by_zero.Statement.{statement}
 use Rattle.datapath.proofs.fields.divides_by_zero.Tie as tie
 
 returns : tie.Need-returns
-unfolding zeroDivisor
+unfolding all zeroDivisor
 returns c =
     let t = c .before .before in
     let a = t .before .before .args in
-    let f : divides 5 (a .w % 8) ≡ true = sym (divisions-f (a .w % 8) (omega arith)) ∙ eq-eqb _ _ (t .if2 .taken) in
+    let f : divides 5 (a .w % 8) ≡ true = sym (alike-f (λ f. eqb (f / 2) 2) (divides 5) tt (a .w % 8) (omega arith)) ∙ eq-eqb _ _ (t .if2 .taken) in
     rw (t .before .if1 .taken, div-one, f) (ap (λ z. eqb z 0) (c .second-operand .ensures ∙ ap (second (a .control) (a .w)) (c .before .rb .ensures)))
 
 returns-2 : tie.Need-returns-2
-unfolding zeroDivisor
+unfolding all zeroDivisor
 returns-2 c =
     let a = c .before .before .args in
-    let f : divides 5 (a .w % 8) ≡ false = sym (divisions-f (a .w % 8) (omega arith)) ∙ ne-eqb _ _ (c .if2 .left) in
+    let f : divides 5 (a .w % 8) ≡ false = sym (alike-f (λ f. eqb (f / 2) 2) (divides 5) tt (a .w % 8) (omega arith)) ∙ ne-eqb _ _ (c .if2 .left) in
     rw (c .before .if1 .taken, div-one, f)
 
 returns-3 : tie.Need-returns-3

@@ -48,7 +48,7 @@ fn eight(shape: (&str, &str)) -> String {
 /// Some statements without each of their tokens.
 fn token_missing() -> Vec<String> {
     let mut texts = Vec::new();
-    for mnemonic in ["LD", "ST", "OUT", ".word"] {
+    for mnemonic in ["LD", "ST", "OUT", "GETIID", ".word"] {
         for shape in SHAPES.into_iter().filter(|shape| shape.0 == mnemonic) {
             let whole = tokens(shape, [1, 2, 3], "4");
             for at in 0..whole.len() {
@@ -61,7 +61,7 @@ fn token_missing() -> Vec<String> {
     texts
 }
 
-const WRONG_SHAPE: [&str; 15] = [
+const WRONG_SHAPE: [&str; 20] = [
     "ADD R1, R2, R3, R4",
     "ADD R1, R2, 5",
     "NOT R1, R2, R3",
@@ -76,10 +76,15 @@ const WRONG_SHAPE: [&str; 15] = [
     "MUL R1, R2",
     "MULH R1, R2, 4",
     "DIV R1, R2, R3, R4",
+    "EI R1",
+    "DI 0",
+    "RETI, RETI",
+    "GETIID 1",
+    "GETIID R1, R2",
     ".word 1 .word 2",
 ];
 
-const WRONG_WORD: [&str; 13] = [
+const WRONG_WORD: [&str; 17] = [
     "add R1, R2, R3",
     "CMPL R1, R2, R3",
     "MOVIR1, 5",
@@ -87,6 +92,10 @@ const WRONG_WORD: [&str; 13] = [
     "DIVH R1, R2, R3",
     "Mulhu R1, R2, R3",
     "DIVUR1, R2, R3",
+    "Ei",
+    "RET",
+    "GETIIDR1",
+    "GETIID R8",
     ".WORD 1",
     ".word1",
     "..word 1",

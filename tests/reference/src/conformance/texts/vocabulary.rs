@@ -2,7 +2,7 @@
 
 /// Each statement: the mnemonic, then its parts. r is a register, s a signed
 /// N6, t a branch's target, m MOVI's N8, u an unsigned N8, w a word.
-pub const SHAPES: [(&str, &str); 31] = [
+pub const SHAPES: [(&str, &str); 35] = [
     ("AND", "r,r,r"),
     ("OR", "r,r,r"),
     ("XOR", "r,r,r"),
@@ -33,6 +33,10 @@ pub const SHAPES: [(&str, &str); 31] = [
     ("MULHU", "r,r,r"),
     ("DIV", "r,r,r"),
     ("DIVU", "r,r,r"),
+    ("EI", ""),
+    ("DI", ""),
+    ("RETI", ""),
+    ("GETIID", "r"),
     (".word", "w"),
 ];
 
@@ -57,7 +61,8 @@ pub fn tokens((mnemonic, parts): (&str, &str), registers: [u64; 3], operand: &st
 /// The statement as 004 writes it.
 pub fn statement(shape: (&str, &str), registers: [u64; 3], operand: &str) -> String {
     let tokens = tokens(shape, registers, operand);
-    format!("{} {}", tokens[0], tokens[1..].concat().replace(',', ", "))
+    let parts = tokens[1..].concat().replace(',', ", ");
+    format!("{} {parts}", tokens[0]).trim_end().to_string()
 }
 
 /// So many lines of one word.

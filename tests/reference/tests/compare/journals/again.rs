@@ -1,4 +1,5 @@
-//! There, back and forward again, journals of more than 2,048 places too.
+//! There, back and forward again, journals of more than 2,048 places too. Lines are
+//! raised before the first run alone: running forward again supposes it.
 
 use super::{before_loop_on_any_board, endless_loop, put};
 use crate::call::{plain_state, Answer, Call};

@@ -52,7 +52,8 @@ fn holds(state: &State, places: usize, k: u64) -> bool {
 /// What is so of any reply; the steps gone back.
 fn check(state: State, k: u64, places: usize, back: &Back) -> u64 {
     let right = if holds(&state, places, k) { 0 } else { 14 };
-    let expected = if state.pc % 2 == 1 { 5 } else { right };
+    let odd = (state.pc | state.return_address) % 2 == 1;
+    let expected = if odd { 5 } else { right };
     assert_eq!(back.refusal, expected);
     if back.refusal != 0 {
         assert_eq!((back.state, back.entries), (header_state(state), 0));
@@ -63,6 +64,8 @@ fn check(state: State, k: u64, places: usize, back: &Back) -> u64 {
     assert!(back.entries <= k);
     assert!(changed(&state.r, &back.state.r) <= k);
     assert_eq!(back.state.board, state.board);
+    // Lines that are pending stay.
+    assert_eq!(back.state.pending & state.pending, state.pending);
     k
 }
 
@@ -87,7 +90,7 @@ fn journals_of_any_numbers() {
     let mut world = World::random(&mut random);
     // Steps gone back, refusals, odd PCs left, entries fallen away.
     let (mut gone, mut refused, mut odd, mut fallen) = (0, 0, 0, 0);
-    for case in 0..3_000 {
+    for case in 0..4_000 {
         let any = random.below(300) as usize;
         let places = one_of(&mut random, &[0, 1, 2, 9, any, any, any, 2_500]);
         let mut state = before_loop(&mut random);
@@ -98,6 +101,8 @@ fn journals_of_any_numbers() {
         state.n = one_of(&mut random, &[state.n, state.n, few as u32]);
         state.pc = one_of(&mut random, &[0, 2, 0xFFFE, 0x1234, 0x1235]);
         state.board = board(&mut random);
+        state.pending = random.word() as u8;
+        state.return_address = one_of(&mut random, &[0, 2, 0x4320, 0x4321]);
         let k = one_of(
             &mut random,
             &[0, 1, few, state.journaled, state.journaled + 1],

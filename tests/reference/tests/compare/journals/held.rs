@@ -1,5 +1,5 @@
-//! What a journal holds: k, the count, n, the journal's length, PC and the other
-//! lengths at their edges.
+//! What a journal holds: k, the count, n, the journal's length, PC, the return address
+//! and the other lengths at their edges.
 
 use super::{before_loop, endless_loop, put};
 use crate::call::{plain_state, Answer, Call};
@@ -53,7 +53,8 @@ fn edges(random: &mut Random, after: State) -> (State, Lengths, u64) {
         1 => lengths.memory = one_of(random, &[0, 65_535, 65_537]),
         2 => lengths.inputs = one_of(random, &[0, 255, 257]),
         3 => lengths.outputs = one_of(random, &[0, 255, 257]),
-        4 | 5 => state.pc = random.word() | 1,
+        4 => state.pc = random.word() | 1,
+        5 => state.return_address = random.word() | 1,
         _ => {}
     }
     let held = state.journaled.min(state.n.into());
@@ -83,7 +84,7 @@ fn expected(state: &State, lengths: &Lengths, k: u64) -> u8 {
     let right = [program, memory, 256 * inputs, 256 * outputs] == [65_536; 4];
     let shorter = (lengths.journal as u64) < state.journaled;
     let fewer = k > state.journaled || k > u64::from(state.n) || (shorter && k > 0);
-    match (right, state.pc % 2, fewer) {
+    match (right, (state.pc | state.return_address) % 2, fewer) {
         (false, ..) => 1,
         (_, 1, _) => 5,
         (.., true) => 14,

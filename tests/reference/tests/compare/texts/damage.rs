@@ -32,7 +32,7 @@ pub fn damaged(random: &mut Random) -> Vec<u8> {
 
 /// Tokens, and what is nearly one.
 const FRAGMENTS: &str =
-    "ADD NOT MOVI LD ST BZ OUT JALR ADDI MUL DIVU .word .word R0 R1 R7 R8 r1 , , , ( ) ( ) \
+    "ADD NOT MOVI LD ST BZ OUT JALR ADDI MUL DIVU EI RETI GETIID GETIID .word .word R0 R1 R7 R8 r1 , , , ( ) ( ) \
     - - * + << & | : : 0 1 5 16 65535 65536 0x 0x1 0xg 0X1 12ab a a b word .a . < \t \r \
     abcdefghijklmnop abcdefghijklmnopq";
 

@@ -7,9 +7,9 @@ pub use reference::conformance::texts::vocabulary::SHAPES;
 
 /// A name: a word that means something elsewhere, or any.
 pub fn name(random: &mut Random) -> String {
-    const WORDS: [&str; 18] = [
+    const WORDS: [&str; 20] = [
         "ADD", "word", "R8", "R9", "R", "R00", "r0", "r7", "x", "x0", "a", "A", "F", "BEEF",
-        "MOVI", "xFF", "MUL", "DIVU",
+        "MOVI", "xFF", "MUL", "DIVU", "EI", "RETI",
     ];
     if random.below(3) == 0 {
         return one_of(random, &WORDS).to_string();

@@ -4,7 +4,7 @@ use super::{all_outside, words};
 
 /// "One instruction a line in 004's syntax": one of each, with its word put
 /// together by hand from the sheet's formats.
-const BY_HAND: [(&str, u16); 30] = [
+const BY_HAND: [(&str, u16); 34] = [
     ("AND R3, R5, R6", 0b0000_101_110_011_000),
     ("OR R3, R5, R6", 0b0000_101_110_011_001),
     ("XOR R3, R5, R6", 0b0000_101_110_011_010),
@@ -37,6 +37,10 @@ const BY_HAND: [(&str, u16); 30] = [
     ("MULHU R3, R5, R6", 0b1011_101_110_011_010),
     ("DIV R3, R5, R6", 0b1011_101_110_011_100),
     ("DIVU R3, R5, R6", 0b1011_101_110_011_101),
+    ("EI", 0b1100_000_000_000_000),
+    ("DI", 0b1100_000_000_000_001),
+    ("RETI", 0b1100_000_000_000_010),
+    ("GETIID R3", 0b1100_000_000_011_011),
 ];
 
 #[test]
@@ -125,6 +129,17 @@ fn operands_missing_too_many_or_in_another_order() {
         "MULHU R1, R2, 3",
         "DIV 1, R2, R3",
         "DIVU R1 R2 R3",
+        "EI R1",
+        "EI 0",
+        "DI,",
+        "DI DI",
+        "RETI R1",
+        "RETI ()",
+        "GETIID",
+        "GETIID 1",
+        "GETIID (R1)",
+        "GETIID R1,",
+        "GETIID R1, R2",
     ]);
 }
 
@@ -154,7 +169,12 @@ fn no_mnemonic() {
         "MULF R1, R2, R3",
         "CMPL R1, R2, R3",
         "HALT",
-        "EI",
+        "Ei",
+        "di",
+        "RET",
+        "GETIIDR1",
+        "GETID R1",
+        ".EI",
         ".ADD R1, R2, R3",
         "5",
         "R1",

@@ -6,7 +6,7 @@ use reference::conformance::{lines, number, Digest};
 /// "The digest of counts", count k in its order being `count(k)`.
 fn digest(count: impl Fn(u64) -> u64) -> u64 {
     let mut digest = Digest::default();
-    for k in 0..46 {
+    for k in 0..51 {
         digest.take(count(k) % (1 << 32));
         digest.take(count(k) >> 32);
     }
@@ -16,8 +16,8 @@ fn digest(count: impl Fn(u64) -> u64) -> u64 {
 #[test]
 fn first_runs_by_hand() {
     // Places of counts in the digest's order.
-    const READ: u64 = 30;
-    const WRITE: u64 = 38;
+    const READ: u64 = 35;
+    const WRITE: u64 = 43;
     let lines = lines();
     for (at, numbers, counted, runs) in [
         // ADD R4,R6,R2
@@ -61,7 +61,8 @@ fn every_run_is_fed() {
     let (mut case, mut runs) = ("", 0);
     // Accepted runs refused with 13, and refused runs that aren't.
     let mut at_65_535 = [0, 0];
-    for pair in lines.windows(2).filter(|pair| pair[1].starts_with("fed ")) {
+    let fed = lines.windows(2).filter(|pair| pair[1].starts_with("fed "));
+    for pair in fed.filter(|pair| pair[0].starts_with("run ")) {
         let run: Vec<&str> = pair[0].split(' ').collect();
         if run[2] != case {
             case = run[2];
@@ -82,5 +83,8 @@ fn every_run_is_fed() {
     }
     assert!(at_65_535.iter().all(|&count| count > 5), "{at_65_535:?}");
     let of_runs = ["run rules", "run table", "run host"].map(|start| count(&lines, start));
-    assert_eq!(count(&lines, "fed"), of_runs.iter().sum());
+    // Those with a journal are fed in the cases of knobs.
+    let of_knobs = (89..97).map(|c| count(&lines, &format!("journal * {c}")));
+    let all = of_runs.iter().sum::<usize>() + of_knobs.sum::<usize>();
+    assert_eq!(count(&lines, "fed"), all);
 }
