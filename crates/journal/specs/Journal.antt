@@ -34,8 +34,8 @@ abbrev pub byInput : ℕ → Machine → Overwritten
 byInput w m = pick (eqb (N8 w) 1) (key-read (d11-9 w) (R (m .state) (d11-9 w)) (getD (m .I) 0 0)) (inRegister (d11-9 w) m)
 
 -- EI, DI and RETI overwrite the enable flag, GETIID Rd (02, L12)
-abbrev pub byInterrupt : ℕ → Machine → Overwritten
-byInterrupt w m = pick (eqb (f-of w) 3) (inRegister (d5-3 w) m) (enable-flag (m .state .enabled))
+abbrev pub byOpcode12 : ℕ → Machine → Overwritten
+byOpcode12 w m = pick (eqb (f-of w) 3) (inRegister (d5-3 w) m) (enable-flag (m .state .enabled))
 
 -- by taking a line
 abbrev pub byTaking : State → Overwritten
@@ -59,7 +59,7 @@ overwrittenBy w m =
     ∷ inRegister (d11-9 w) m
     ∷ pick (eqb (e-of w) 0) (byInput w m) (output-word (N8 w) (getD (m .O) (N8 w) 0))
     ∷ inRegister (d5-3 w) m
-    ∷ byInterrupt w m
+    ∷ byOpcode12 w m
     ∷ []
 
 unfoldable pub overwritten : ℕ → Machine → Overwritten

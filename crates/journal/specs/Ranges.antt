@@ -1,5 +1,6 @@
--- The numbers of a machine are within their widths (01: registers and PC 16 bits, eight registers, 65,536 bytes, 256 words; 02, L12: three bytes and a return address of 16 bits), so that an
--- entry of a journal can hold them. The counts n and `journaled` are left aside: no entry holds them.
+-- The numbers of a machine are within their widths (01: registers and PC 16 bits, eight registers, 65,536 bytes, 256 words; 02, L12: three
+-- bytes and a return address of 16 bits), so that an entry of a journal can hold them. The counts n and `journaled` are left aside: no entry
+-- holds them.
 use mathlib.Core.Path.{_≡_}
 use mathlib.Core.List.{List}
 use Prim.Native.Nat.{ℕ, _<_}
