@@ -1,7 +1,7 @@
 /* The engines of libsisa.a beside a plain C interpreter (plain.c) and a faster one (flat.c), and its save beside plain C
    (save.c), in one process. All count what a run uses, but for the plain interpreter compiled a second time (uncounted.c). Runs
-   with a journal (journaled.c, journaled_flat.c) and steps back (back.c) are beside those of C too. All test for a line to be taken
-   at every step; none is pending in a timed run, and a run that takes lines is compared beforehand.
+   with a journal (journaled.c, journaled_flat.c) and steps back (back.c) are beside those of C too, and a page beside the runs that it
+   is. All test for a line to be taken at every step; none is pending in a timed run, and a run that takes lines is compared beforehand.
 
    Time is the CPU time of this process, so that being scheduled out does not count. All engines are lent the same
    buffers, which are made anew before each timed run (memory and inputs as the workload says, outputs and log zero), so
@@ -30,10 +30,16 @@ enum {
     COUNTED_CALLS = 1000,   /* the same, with budget 1 */
     SAVES = 1000,           /* in one timed repeat */
     FILE_BYTES = 16 + 2 * MEMORY_BYTES,
+    TRIMS = 8,              /* of a page */
+    PAGE_STEPS = 1000000,   /* its budget */
+    SHARE = PAGE_STEPS / TRIMS,
+    PART_PLACES = SHARE / STEPS_PER_OUT + 1, /* of its log */
     LATE_STEPS = 100000,    /* the end of the random program's run, where the addresses are counted */
     RANDOM_SEED = 251,
     C = 0,                  /* the engine, and the save, that the others are compared with */
-    UNCOUNTED = 4,
+    RULES = 2,
+    TABLE,
+    UNCOUNTED,
     KEEPERS = UNCOUNTED,    /* the engines before it can keep a journal */
     ENGINES,
     CALLED,                 /* the engines and, last, the host step */
@@ -52,6 +58,19 @@ static const struct {
     { "C without", uncounted_run, NULL, NULL },
     { "host step", NULL, NULL, NULL },
 };
+
+typedef SisaPage Page(SisaTrims trims, uint8_t count,
+                      const uint8_t *programs, size_t programs_len,
+                      uint8_t *memories, size_t memories_len,
+                      uint16_t *inputs, size_t inputs_len,
+                      uint16_t *outputs, size_t outputs_len,
+                      uint32_t budget,
+                      uint64_t *log, size_t log_len);
+
+/* The engines that run pages, from RULES on, and what each is measured in: the runs that a page is, and the page. */
+static Page *const pages[] = { sisa_page_by_rules, sisa_page_by_table };
+
+enum { PAGERS = TABLE - RULES + 1, RUNS = 0, PAGE, PAGE_FORMS };
 
 /* What an engine that can keep a journal is measured in: runs without one, runs with one, and steps back by it. */
 enum { WITHOUT, WITH, BACK, FORMS };
@@ -73,6 +92,15 @@ typedef struct {
     SisaRun reply;
 } Lent;
 
+/* The buffers that a page is lent, or the runs that it is, and what was replied of each trim. */
+typedef struct {
+    uint8_t memories[TRIMS * MEMORY_BYTES];
+    uint16_t inputs[TRIMS * PORTS];
+    uint16_t outputs[TRIMS * PORTS];
+    uint64_t log[TRIMS * PART_PLACES];
+    SisaRun replies[TRIMS];
+} Joined;
+
 /* The destination that a save is lent, and what it replied. */
 typedef struct {
     uint8_t destination[FILE_BYTES];
@@ -82,6 +110,8 @@ typedef struct {
 static const SisaState reset;
 static Workload load;
 static Lent lent, expected;
+static uint8_t programs[TRIMS * MEMORY_BYTES];
+static Joined joined, expected_page;
 static uint64_t *journal;
 static Saved saved, expected_save;
 
@@ -413,6 +443,93 @@ static void print_forms(void)
     fflush(stdout);
 }
 
+/* Eight trims, all as the workload says. */
+static void clear_joined(void)
+{
+    memset(&joined, 0, sizeof joined);
+    for (int i = 0; i < TRIMS; i++) {
+        memcpy(programs + i * MEMORY_BYTES, load.program, MEMORY_BYTES);
+        memcpy(joined.memories + i * MEMORY_BYTES, load.memory, MEMORY_BYTES);
+        memcpy(joined.inputs + i * PORTS, load.inputs, sizeof load.inputs);
+    }
+}
+
+/* The runs that a page is: each trim's share is its whole budget, since none stops early. */
+static double timed_share_runs(int engine)
+{
+    clear_joined();
+    double start = now();
+    for (int i = 0; i < TRIMS; i++)
+        joined.replies[i] =
+            engines[engine].run(load.start, programs + i * MEMORY_BYTES, MEMORY_BYTES, joined.memories + i * MEMORY_BYTES,
+                                MEMORY_BYTES, joined.inputs + i * PORTS, PORTS, joined.outputs + i * PORTS, PORTS, SHARE,
+                                joined.log + i * PART_PLACES, PART_PLACES);
+    return now() - start;
+}
+
+static double timed_page(int engine)
+{
+    SisaTrims trims;
+    for (int i = 0; i < TRIMS; i++)
+        trims.states[i] = load.start;
+    clear_joined();
+    double start = now();
+    SisaPage page = pages[engine - RULES](trims, TRIMS, programs, sizeof programs, joined.memories, sizeof joined.memories,
+                                          joined.inputs, TRIMS * PORTS, joined.outputs, TRIMS * PORTS, PAGE_STEPS, joined.log,
+                                          TRIMS * PART_PLACES);
+    double end = now();
+    for (int i = 0; i < TRIMS; i++) {
+        const SisaAnswer *a = &page.answers[i];
+        joined.replies[i] = (SisaRun){ page.trims.states[i], a->refusal, a->stop, a->steps, a->entries, a->ticks, a->usage };
+    }
+    return end - start;
+}
+
+/* A kind is an engine and a form. */
+static double timed_pages(int kind)
+{
+    int engine = RULES + kind / PAGE_FORMS;
+    return kind % PAGE_FORMS == PAGE ? timed_page(engine) : timed_share_runs(engine);
+}
+
+static int same_replies(const SisaRun *x, const SisaRun *y)
+{
+    for (int i = 0; i < TRIMS; i++)
+        if (!same_reply(&x[i], &y[i]) || memcmp(&x[i].usage, &y[i].usage, sizeof x->usage) != 0 || x[i].ticks != y[i].ticks)
+            return 0;
+    return 1;
+}
+
+/* Ends the program where what the page or its runs left and replied differs from the runs of C. */
+static void check_pages(int kind)
+{
+    if (same_replies(joined.replies, expected_page.replies)
+        && memcmp(joined.memories, expected_page.memories, sizeof joined.memories) == 0
+        && memcmp(joined.inputs, expected_page.inputs, sizeof joined.inputs) == 0
+        && memcmp(joined.outputs, expected_page.outputs, sizeof joined.outputs) == 0
+        && memcmp(joined.log, expected_page.log, sizeof joined.log) == 0)
+        return;
+    fprintf(stderr, "%s: %s of %s and runs of C differ\n", load.name, kind % PAGE_FORMS == PAGE ? "a page" : "runs",
+            engines[RULES + kind / PAGE_FORMS].name);
+    exit(1);
+}
+
+/* A line of the table of pages. */
+static void print_page(void)
+{
+    double times[PAGERS * PAGE_FORMS][ROUNDS];
+    timed_share_runs(C);
+    expected_page = joined;
+    in_rounds(times, PAGERS * PAGE_FORMS, 1, ROUNDS, timed_pages, check_pages);
+    printf("%-18s", load.name);
+    for (int kind = 0; kind < PAGERS * PAGE_FORMS; kind++)
+        printf(" %11.3f", 1e3 * median(times[kind], ROUNDS));
+    for (int i = 0; i < PAGERS; i++)
+        printf(" %11.3f", median_ratio(times[i * PAGE_FORMS + PAGE], times[i * PAGE_FORMS + RUNS], ROUNDS));
+    printf("\n");
+    fflush(stdout);
+}
+
 /* Saves into a destination that was all 0xFF; the seconds that one took. */
 static double timed_saves(int saver)
 {
@@ -559,6 +676,18 @@ static void print_journals(void)
     }
 }
 
+static void print_pages(void)
+{
+    printf("\nA page of %d trims with budget %d and the runs of %d steps that it is, %d rounds: median milliseconds, and median of "
+           "the ratios in a round\n", TRIMS, PAGE_STEPS, SHARE, ROUNDS);
+    printf("%-18s %11s %11s %11s %11s %11s %11s\n", "", "rules, runs", "page", "table, runs", "page", "rules ratio",
+           "table ratio");
+    for (int i = 0; i < WORKLOADS; i++) {
+        workloads[i](&load);
+        print_page();
+    }
+}
+
 /* Where callgrind ends a count (bench/instructions). */
 __attribute__((noinline)) void counted(void)
 {
@@ -607,8 +736,8 @@ static void run_all_counted(void)
     count_others("calls of a step", CALLED, COUNTED_CALLS);
 }
 
-/* The times of steps; with the argument `calls`, the costs of calls, the growth and the costs of saves; with `counted`, the runs
-   whose instructions are counted. */
+/* The times of steps and of pages; with the argument `pages`, just those of pages; with `calls`, the costs of calls, the growth and
+   the costs of saves; with `counted`, the runs whose instructions are counted. */
 int main(int argc, char **argv)
 {
     const char *what = argc > 1 ? argv[1] : "";
@@ -617,6 +746,10 @@ int main(int argc, char **argv)
     journal = new_places(JOURNAL_PLACES);
     if (strcmp(what, "counted") == 0) {
         run_all_counted();
+        return 0;
+    }
+    if (strcmp(what, "pages") == 0) {
+        print_pages();
         return 0;
     }
     check_lines();
@@ -632,5 +765,6 @@ int main(int argc, char **argv)
     print_cpu();
     print_steps();
     print_journals();
+    print_pages();
     return 0;
 }

@@ -1,10 +1,10 @@
 /* A host in C: loads a trim, sets three inputs, runs it, shows the corrections, saves both memories and loads them again;
    then takes the first steps one by one, steps back from the end of a run and goes forward again; presses the key for a second
    trim, if one is named; runs a third, which changes its own code, on the single-memory board, if one is named; turns a knob for
-   a fourth, if one is named; and shows the usage sheet of it all.
+   a fourth, if one is named; runs the first and a fifth as a page, if one is named; and shows the usage sheet of it all.
 
        gcc -O2 -Iinclude examples/host.c target/staticlib/libsisa.a -o target/host_c
-       target/host_c examples/gain.trim examples/key.trim examples/fanout.trim examples/knob.trim */
+       target/host_c examples/gain.trim examples/key.trim examples/fanout.trim examples/knob.trim examples/endless.trim */
 #include "sisa.h"
 
 #include <stdio.h>
@@ -13,6 +13,7 @@
 enum { MEMORY_BYTES = 65536, PORTS = 256, LOG_PLACES = 64, BUDGET = 1000, HOST_STEPS = 5, BACK_STEPS = 5, KINDS = 34 };
 enum { TWO_MEMORIES = 0, SINGLE_MEMORY = 1 };
 enum { KNOB = 3, KNOB_PORT = 16, WAIT_STEPS = 10 };
+enum { TRIMS = 2, PART_PLACES = LOG_PLACES / TRIMS }; /* of a page */
 
 static uint8_t file[16 + 2 * MEMORY_BYTES], program[MEMORY_BYTES], memory[MEMORY_BYTES];
 static uint16_t inputs[PORTS], outputs[PORTS];
@@ -53,41 +54,47 @@ static int refused(uint8_t refusal)
     return refusal != 0;
 }
 
-/* Reads a trim file and loads it for a board. Returns 0 where it can't be read or is refused. */
-static int load(const char *path, uint8_t board, SisaState *state)
+/* Reads a trim file and loads it for a board into these memories and ports. Returns 0 where it can't be read or is refused. */
+static int load_into(uint8_t *to_program, uint8_t *to_memory, uint16_t *to_inputs, uint16_t *to_outputs, const char *path,
+                     uint8_t board, SisaState *state)
 {
     long length = read_file(path);
     if (length < 0) {
         fprintf(stderr, "%s: no file of at most %zu bytes\n", path, sizeof file);
         return 0;
     }
-    SisaLoad loaded = sisa_load(file, (size_t)length, board, program, sizeof program, memory, sizeof memory, inputs, PORTS,
-                                outputs, PORTS);
+    SisaLoad loaded = sisa_load(file, (size_t)length, board, to_program, MEMORY_BYTES, to_memory, MEMORY_BYTES, to_inputs, PORTS,
+                                to_outputs, PORTS);
     *state = loaded.state;
     return !refused(loaded.refusal);
 }
 
-/* Port 0 is set before each run: reading port 1, the key's data, sets it to 0, also where the two are knobs. */
-static void set_level(void)
+static int load(const char *path, uint8_t board, SisaState *state)
 {
-    sisa_set_input(inputs, PORTS, 0, 500);
+    return load_into(program, memory, inputs, outputs, path, board, state);
 }
 
-static void set_knobs(void)
+/* Port 0 is set before each run: reading port 1, the key's data, sets it to 0, also where the two are knobs. */
+static void set_level(uint16_t *ports)
 {
-    set_level();
-    sisa_set_input(inputs, PORTS, 1, 320);
-    sisa_set_input(inputs, PORTS, 2, 20);
+    sisa_set_input(ports, PORTS, 0, 500);
+}
+
+static void set_knobs(uint16_t *ports)
+{
+    set_level(ports);
+    sisa_set_input(ports, PORTS, 1, 320);
+    sisa_set_input(ports, PORTS, 2, 20);
     printf("inputs: port 0 level 500, port 1 gain 320/256, port 2 lift 20\n");
 }
 
 /* An entry of the log is n before the step, the port and the value, from the high bits to the low. An output port holds
    the value last written. */
-static void print_corrections(uint64_t entries)
+static void print_corrections(const uint64_t *log, uint64_t entries, const uint16_t *ports)
 {
     for (uint64_t i = 0; i < entries; i++) {
-        unsigned n = (unsigned)(port_log[i] >> 24), port = port_log[i] >> 16 & 255, value = port_log[i] & 65535;
-        printf("log: n %u, port %u, value %u; the output now holds %u\n", n, port, value, outputs[port]);
+        unsigned n = (unsigned)(log[i] >> 24), port = log[i] >> 16 & 255, value = log[i] & 65535;
+        printf("log: n %u, port %u, value %u; the output now holds %u\n", n, port, value, ports[port]);
     }
 }
 
@@ -99,17 +106,22 @@ static void feed(uint8_t refusal, SisaUsage usage)
     sheet = fed.sheet;
 }
 
-/* Feeds and shows a run. Returns 0 where it is refused. */
-static int show_run(const char *title, const SisaRun *run)
+/* Feeds and shows a run that was lent this log and these outputs. Returns 0 where it is refused. */
+static int show_lent(const char *title, const SisaRun *run, const uint64_t *log, const uint16_t *ports)
 {
     feed(run->refusal, run->usage);
     if (refused(run->refusal))
         return 0;
     printf("%s: stop %u, steps %u, entries %u, ticks %llu\n", title, run->stop, run->steps, (unsigned)run->entries,
            (unsigned long long)run->ticks);
-    print_corrections(run->entries);
+    print_corrections(log, run->entries, ports);
     print_state("state", &run->state);
     return 1;
+}
+
+static int show_run(const char *title, const SisaRun *run)
+{
+    return show_lent(title, run, port_log, outputs);
 }
 
 /* Saves what the trim left and loads it, for the same board, into memories of its own. Returns 0 where one of the two is
@@ -216,7 +228,7 @@ static int change_code(const char *path)
     SisaState state;
     if (!load(path, SINGLE_MEMORY, &state))
         return 0;
-    set_level();
+    set_level(inputs);
     print_code("single-memory board");
     SisaRun run = run_with_journal(state, BUDGET);
     if (!show_run("run by the table, with a journal", &run))
@@ -267,6 +279,39 @@ static int wait_for_knob(const char *path)
     return 1;
 }
 
+/* Feeds and shows what a page replied of trim i, as of one run. */
+static void show_trim(int i, const SisaPage *page, const uint16_t *page_outputs)
+{
+    const SisaAnswer *answer = &page->answers[i];
+    SisaRun run = { page->trims.states[i], answer->refusal, answer->stop, answer->steps, answer->entries, answer->ticks,
+                    answer->usage };
+    char title[16];
+    snprintf(title, sizeof title, "trim %d", i);
+    show_lent(title, &run, port_log + i * PART_PLACES, page_outputs + i * PORTS);
+}
+
+/* Runs two trims as a page, the first with its knobs set. Memories, ports and log are joined, and what the first leaves of the
+   budget goes to the second. Returns 0 where a call is refused. */
+static int run_page(const char *const *paths)
+{
+    static uint8_t programs[TRIMS * MEMORY_BYTES], memories[TRIMS * MEMORY_BYTES];
+    static uint16_t page_inputs[TRIMS * PORTS], page_outputs[TRIMS * PORTS];
+    SisaTrims trims = { .states = { { .pc = 0 } } };
+    for (int i = 0; i < TRIMS; i++)
+        if (!load_into(programs + i * MEMORY_BYTES, memories + i * MEMORY_BYTES, page_inputs + i * PORTS,
+                       page_outputs + i * PORTS, paths[i], TWO_MEMORIES, &trims.states[i]))
+            return 0;
+    set_knobs(page_inputs);
+    SisaPage page = sisa_page_by_table(trims, TRIMS, programs, sizeof programs, memories, sizeof memories, page_inputs,
+                                       TRIMS * PORTS, page_outputs, TRIMS * PORTS, BUDGET, port_log, LOG_PLACES);
+    if (refused(page.refusal))
+        return 0;
+    printf("page by the table: trims %d, budget %d\n", TRIMS, BUDGET);
+    for (int i = 0; i < TRIMS; i++)
+        show_trim(i, &page, page_outputs);
+    return 1;
+}
+
 static void print_steps(const char *what, uint64_t steps)
 {
     if (steps != 0)
@@ -284,25 +329,36 @@ static void print_sheet(void)
         printf("R%d     %6llu reads %6llu writes\n", j, (unsigned long long)sheet.reads[j], (unsigned long long)sheet.writes[j]);
 }
 
+/* What is shown for each further trim that is named. Returns 0 where a call is refused. */
+static int show_others(int argc, char **argv)
+{
+    if (argc > 2 && !press_key(argv[2]))
+        return 0;
+    if (argc > 3 && !change_code(argv[3]))
+        return 0;
+    if (argc > 4 && !wait_for_knob(argv[4]))
+        return 0;
+    return argc <= 5 || run_page((const char *const[TRIMS]){ argv[1], argv[5] });
+}
+
 int main(int argc, char **argv)
 {
-    if (argc < 2 || argc > 5) {
-        fprintf(stderr, "usage: %s FILE.trim [KEY.trim [FANOUT.trim [KNOB.trim]]]\n", argv[0]);
+    if (argc < 2 || argc > 6) {
+        fprintf(stderr, "usage: %s FILE.trim [KEY.trim [FANOUT.trim [KNOB.trim [OTHER.trim]]]]\n", argv[0]);
         return 2;
     }
     SisaState reset;
     if (!load(argv[1], TWO_MEMORIES, &reset))
         return 1;
-    set_knobs();
+    set_knobs(inputs);
     SisaRun run = sisa_run_by_rules(reset, program, sizeof program, memory, sizeof memory, inputs, PORTS, outputs, PORTS, BUDGET,
                                     port_log, LOG_PLACES);
     if (!show_run("run by the rules", &run) || !save_and_load(run.state))
         return 1;
-    set_level();
+    set_level(inputs);
     step_by_step(reset);
-    set_level();
-    if (!back_and_forward(reset) || (argc > 2 && !press_key(argv[2])) || (argc > 3 && !change_code(argv[3]))
-        || (argc > 4 && !wait_for_knob(argv[4])))
+    set_level(inputs);
+    if (!back_and_forward(reset) || !show_others(argc, argv))
         return 1;
     print_sheet();
     return 0;

@@ -1,11 +1,11 @@
 //! A host in Rust: loads a trim, sets three inputs, runs it, shows the corrections, saves both memories and loads them
 //! again; then takes the first steps one by one, steps back from the end of a run and goes forward again; presses the
 //! key for a second trim, if one is named; runs a third, which changes its own code, on the single-memory board, if one
-//! is named; turns a knob for a fourth, if one is named; and shows the usage sheet of it all. It prints what host.c
-//! prints.
+//! is named; turns a knob for a fourth, if one is named; runs the first and a fifth as a page, if one is named; and
+//! shows the usage sheet of it all. It prints what host.c prints.
 //!
 //!     rustc --edition 2021 -O examples/host.rs -L target/staticlib -l static=sisa -o target/host_rs
-//!     target/host_rs examples/gain.trim examples/key.trim examples/fanout.trim examples/knob.trim
+//!     target/host_rs examples/gain.trim examples/key.trim examples/fanout.trim examples/knob.trim examples/endless.trim
 
 use std::process::ExitCode;
 
@@ -57,6 +57,20 @@ mod ffi {
         pub runs: u16,
     }
 
+    impl State {
+        pub const RESET: State = State {
+            r: [0; 8],
+            pc: 0,
+            n: 0,
+            journaled: 0,
+            board: 0,
+            enabled: 0,
+            pending: 0,
+            line: 0,
+            return_address: 0,
+        };
+    }
+
     impl Sheet {
         pub const EMPTY: Sheet = Sheet {
             kinds: [0; 34],
@@ -95,6 +109,18 @@ mod ffi {
     }
 
     #[repr(C)]
+    pub struct Trims {
+        pub states: [State; 8],
+    }
+
+    #[repr(C)]
+    pub struct Page {
+        pub trims: Trims,
+        pub refusal: u8,
+        pub answers: [Answer; 8],
+    }
+
+    #[repr(C)]
     pub struct Back {
         pub state: State,
         pub refusal: u8,
@@ -130,6 +156,11 @@ mod ffi {
             inputs: *mut u16, inputs_len: usize, outputs: *mut u16, outputs_len: usize,
             budget: u32, log: *mut u64, log_len: usize, journal: *mut u64, journal_len: usize,
         ) -> Run;
+        pub fn sisa_page_by_table(
+            trims: Trims, count: u8, programs: *const u8, programs_len: usize, memories: *mut u8, memories_len: usize,
+            inputs: *mut u16, inputs_len: usize, outputs: *mut u16, outputs_len: usize,
+            budget: u32, log: *mut u64, log_len: usize,
+        ) -> Page;
         pub fn sisa_step_back(
             state: State, program: *const u8, program_len: usize, memory: *mut u8, memory_len: usize,
             inputs: *mut u16, inputs_len: usize, outputs: *mut u16, outputs_len: usize,
@@ -171,6 +202,18 @@ struct Report {
     entries: usize,
     ticks: u64,
     usage: Usage,
+}
+
+impl From<ffi::Answer> for Report {
+    fn from(answer: ffi::Answer) -> Report {
+        Report {
+            stop: answer.stop,
+            steps: answer.steps,
+            entries: answer.entries as usize,
+            ticks: answer.ticks,
+            usage: answer.usage,
+        }
+    }
 }
 
 #[rustfmt::skip]
@@ -278,6 +321,19 @@ impl Machine {
             ffi::sisa_set_input(self.inputs.as_mut_ptr(), self.inputs.len(), port, value)
         };
         accepted(refusal, ())
+    }
+
+    /// Port 0 is set before each run: reading port 1, the key's data, sets it to 0, also where the two are knobs.
+    fn set_level(&mut self) -> Result<(), Refusal> {
+        self.set_input(0, 500)
+    }
+
+    fn set_knobs(&mut self) -> Result<(), Refusal> {
+        self.set_level()?;
+        self.set_input(1, 320)?;
+        self.set_input(2, 20)?;
+        println!("inputs: port 0 level 500, port 1 gain 320/256, port 2 lift 20");
+        Ok(())
     }
 
     fn raise(&mut self, line: u8) -> Result<(), Refusal> {
@@ -391,16 +447,7 @@ impl Machine {
                 log.len(),
             )
         };
-        accepted(
-            reply.refusal,
-            Report {
-                stop: reply.stop,
-                steps: reply.steps,
-                entries: reply.entries as usize,
-                ticks: reply.ticks,
-                usage: reply.usage,
-            },
-        )
+        accepted(reply.refusal, reply.into())
     }
 
     fn print(&self, title: &str) {
@@ -422,6 +469,76 @@ impl Machine {
     }
 }
 
+/// The elements of all, one after the other.
+fn joined<T: Copy>(parts: &[Machine], of: impl Fn(&Machine) -> &Vec<T>) -> Vec<T> {
+    parts.iter().flat_map(|part| of(part).to_vec()).collect()
+}
+
+/// The states of up to eight.
+fn trims_of(machines: &[Machine]) -> ffi::Trims {
+    let mut states = [State::RESET; 8];
+    for (state, machine) in states.iter_mut().zip(machines) {
+        *state = machine.state;
+    }
+    ffi::Trims { states }
+}
+
+/// Runs up to eight machines as a page, by the table. Their memories and ports are lent joined.
+fn run_page(
+    machines: &mut [Machine],
+    budget: u32,
+    log: &mut [u64],
+) -> Result<Vec<Report>, Refusal> {
+    let programs = joined(machines, |machine| &machine.program);
+    let mut memories = joined(machines, |machine| &machine.memory);
+    let mut inputs = joined(machines, |machine| &machine.inputs);
+    let mut outputs = joined(machines, |machine| &machine.outputs);
+    // SAFETY: each pointer and length is of one slice, and no two slices overlap.
+    let reply = unsafe {
+        ffi::sisa_page_by_table(
+            trims_of(machines),
+            machines.len() as u8,
+            programs.as_ptr(),
+            programs.len(),
+            memories.as_mut_ptr(),
+            memories.len(),
+            inputs.as_mut_ptr(),
+            inputs.len(),
+            outputs.as_mut_ptr(),
+            outputs.len(),
+            budget,
+            log.as_mut_ptr(),
+            log.len(),
+        )
+    };
+    for (i, machine) in machines.iter_mut().enumerate() {
+        machine.state = reply.trims.states[i];
+        machine.memory = memories[i * MEMORY_BYTES..][..MEMORY_BYTES].to_vec();
+        machine.inputs = inputs[i * PORTS..][..PORTS].to_vec();
+        machine.outputs = outputs[i * PORTS..][..PORTS].to_vec();
+    }
+    let answers = reply.answers.into_iter().take(machines.len());
+    accepted(reply.refusal, answers.map(Report::from).collect())
+}
+
+/// Feeds and shows a run of a machine that was lent this log.
+fn show(
+    sheet: &mut Sheet,
+    title: &str,
+    run: &Report,
+    machine: &Machine,
+    log: &[u64],
+) -> Result<(), Refusal> {
+    feed(sheet, run)?;
+    println!(
+        "{title}: stop {}, steps {}, entries {}, ticks {}",
+        run.stop, run.steps, run.entries, run.ticks
+    );
+    machine.print_corrections(&log[..run.entries]);
+    machine.print("state");
+    Ok(())
+}
+
 /// A machine, the log that its runs are lent, and the sheet that they are fed to.
 struct Host {
     machine: Machine,
@@ -430,29 +547,8 @@ struct Host {
 }
 
 impl Host {
-    /// Port 0 is set before each run: reading port 1, the key's data, sets it to 0, also where the two are knobs.
-    fn set_level(&mut self) -> Result<(), Refusal> {
-        self.machine.set_input(0, 500)
-    }
-
-    fn set_knobs(&mut self) -> Result<(), Refusal> {
-        self.set_level()?;
-        self.machine.set_input(1, 320)?;
-        self.machine.set_input(2, 20)?;
-        println!("inputs: port 0 level 500, port 1 gain 320/256, port 2 lift 20");
-        Ok(())
-    }
-
-    /// Feeds and shows a run.
     fn show_run(&mut self, title: &str, run: &Report) -> Result<(), Refusal> {
-        feed(&mut self.sheet, run)?;
-        println!(
-            "{title}: stop {}, steps {}, entries {}, ticks {}",
-            run.stop, run.steps, run.entries, run.ticks
-        );
-        self.machine.print_corrections(&self.log[..run.entries]);
-        self.machine.print("state");
-        Ok(())
+        show(&mut self.sheet, title, run, &self.machine, &self.log)
     }
 
     /// Saves what the trim left and loads it, for the same board, into memories of its own.
@@ -529,7 +625,7 @@ impl Host {
     /// the steps back gives the code back too.
     fn change_code(&mut self, file: &[u8]) -> Result<(), Refusal> {
         self.machine = Machine::load(file, SINGLE_MEMORY)?;
-        self.set_level()?;
+        self.machine.set_level()?;
         self.print_code("single-memory board");
         let mut journal = [0; BUDGET as usize];
         let run = self.run_with_journal(BUDGET, &mut journal)?;
@@ -583,13 +679,30 @@ impl Host {
         println!("{title}: enabled {enabled}, pending {pending:02X}, line {line}, return address {return_address:04X}");
     }
 
+    /// Runs two trims as a page, the first with its knobs set. What it leaves of the budget goes to the second. Each has
+    /// its half of the log.
+    fn run_two(&mut self, first: &[u8], second: &[u8]) -> Result<(), Refusal> {
+        let mut machines = [
+            Machine::load(first, TWO_MEMORIES)?,
+            Machine::load(second, TWO_MEMORIES)?,
+        ];
+        machines[0].set_knobs()?;
+        let runs = run_page(&mut machines, BUDGET, &mut self.log)?;
+        println!("page by the table: trims 2, budget {BUDGET}");
+        let parts = self.log.chunks(self.log.len() / 2);
+        for (i, ((machine, run), part)) in machines.iter().zip(&runs).zip(parts).enumerate() {
+            show(&mut self.sheet, &format!("trim {i}"), run, machine, part)?;
+        }
+        Ok(())
+    }
+
     fn run_with_journal(&mut self, budget: u32, journal: &mut [u64]) -> Result<Report, Refusal> {
         self.machine
             .run_by_table_with_journal(budget, &mut self.log, journal)
     }
 }
 
-/// With up to three more files: for the key, for the single-memory board, for the knob.
+/// With up to four more files: for the key, for the single-memory board, for the knob, for the page.
 fn host(file: &[u8], more: &[Vec<u8>]) -> Result<(), Refusal> {
     let mut host = Host {
         machine: Machine::load(file, TWO_MEMORIES)?,
@@ -597,16 +710,16 @@ fn host(file: &[u8], more: &[Vec<u8>]) -> Result<(), Refusal> {
         sheet: Sheet::EMPTY,
     };
     let reset = host.machine.state;
-    host.set_knobs()?;
+    host.machine.set_knobs()?;
     let run = host.machine.run_by_rules(BUDGET, &mut host.log)?;
     host.show_run("run by the rules", &run)?;
     host.save_and_load()?;
     // Twice from a reset state again; memory and outputs are as they were left.
     host.machine.state = reset;
-    host.set_level()?;
+    host.machine.set_level()?;
     host.step_by_step()?;
     host.machine.state = reset;
-    host.set_level()?;
+    host.machine.set_level()?;
     host.back_and_forward()?;
     if let Some(key) = more.first() {
         host.press_key(key)?;
@@ -617,6 +730,9 @@ fn host(file: &[u8], more: &[Vec<u8>]) -> Result<(), Refusal> {
     if let Some(knob) = more.get(2) {
         host.wait_for_knob(knob)?;
     }
+    if let Some(other) = more.get(3) {
+        host.run_two(file, other)?;
+    }
     print_sheet(&host.sheet);
     Ok(())
 }
@@ -624,9 +740,9 @@ fn host(file: &[u8], more: &[Vec<u8>]) -> Result<(), Refusal> {
 fn main() -> ExitCode {
     let files: Result<Vec<_>, _> = std::env::args().skip(1).map(std::fs::read).collect();
     let (file, more) = match files.as_deref() {
-        Ok([file, more @ ..]) if more.len() < 4 => (file, more),
+        Ok([file, more @ ..]) if more.len() < 5 => (file, more),
         _ => {
-            eprintln!("usage: host_rs FILE.trim [KEY.trim [FANOUT.trim [KNOB.trim]]]");
+            eprintln!("usage: host_rs FILE.trim [KEY.trim [FANOUT.trim [KNOB.trim [OTHER.trim]]]]");
             return ExitCode::from(2);
         }
     };

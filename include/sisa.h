@@ -1,15 +1,15 @@
-/* The SISA trim processor: loading a trim, running it by the rules or by the control table, stepping back, saving it, writing
-   it as text, and reading and writing one instruction. Link libsisa.a (rt staticlib sisa).
+/* The SISA trim processor: loading a trim, running it by the rules or by the control table, running several of them as a page,
+   stepping back, saving it, writing it as text, and reading and writing one instruction. Link libsisa.a (rt staticlib sisa).
 
    There are two boards, and a load names one of them. The board with two memories fetches instructions from the program. The
    single-memory board fetches them from data memory, each just before its step: a store may change the instruction that
    follows. The program is lent there too; the load zeroes it, and it is never read.
 
-   A slice is passed as a pointer and the number of its elements. A pointer is never null, also where the number is 0, and
-   no two slices of a call overlap. Beyond that every value of every argument is allowed. A memory is 65,536 bytes, an array
-   of ports 256 words; any other length is refused with 1. A refusal is its number in the refusal table of documents 01 and 02, 0
-   where the call was accepted; a refused call changes nothing lent. Fields that a case does not speak of are 0. Every function
-   runs in a thread with 128 KiB of stack. */
+   A slice is passed as a pointer and the number of its elements. A pointer is never null, also where the number is 0, and no two
+   slices of a call overlap. Beyond that every value of every argument is allowed. A memory is 65,536 bytes, an array of ports
+   256 words, and a page is lent as many of each as it has trims, joined; any other length is refused with 1. A refusal is its
+   number in the refusal table of documents 01 and 02, 0 where the call was accepted; a refused call changes nothing lent. Fields
+   that a case does not speak of are 0. Every function runs in a thread with 128 KiB of stack. */
 #ifndef SISA_H
 #define SISA_H
 
@@ -21,11 +21,11 @@ extern "C" {
 #endif
 
 /* R0 to R7, PC, n, the count of steps done, and `journaled`, the count of journal entries: how many of the last steps runs
-   kept a journal of. It is 0 from a load, and from an accepted run without a journal. Then `board`: 0 the one with two
-   memories, any other number the single-memory one. It is 0 or 1 from a load, and all other calls leave it as it is. Then the
-   interrupts: lines are taken where `enabled` is not 0; bit k of `pending` says that line k waits; `line` and `return_address`
-   are the number of the line taken last and PC before it. They are 0 from a load. PC and the return address are even; a state
-   where one of them is odd is refused with 5. */
+   kept a journal of. It is 0 from a load, and from an accepted run without a journal, in a page too. Then `board`: 0 the one
+   with two memories, any other number the single-memory one. It is 0 or 1 from a load, and all other calls leave it as it is.
+   Then the interrupts: lines are taken where `enabled` is not 0; bit k of `pending` says that line k waits; `line` and
+   `return_address` are the number of the line taken last and PC before it. They are 0 from a load. PC and the return address are
+   even; a state where one of them is odd is refused with 5. */
 typedef struct {
     uint16_t r[8];
     uint16_t pc;
@@ -97,7 +97,7 @@ typedef struct {
     SisaUsage usage;
 } SisaRun;
 
-/* What a host step replies: SisaRun without the state, which the host holds. */
+/* What a host step replies: SisaRun without the state, which the host holds; and what a page replies of each trim. */
 typedef struct {
     uint8_t refusal;
     uint8_t stop;
@@ -106,6 +106,20 @@ typedef struct {
     uint64_t ticks;
     SisaUsage usage;
 } SisaAnswer;
+
+/* The states of a page's trims; those past the number of its trims are handed back as they are. */
+typedef struct {
+    SisaState states[8];
+} SisaTrims;
+
+/* What a page replies: every state (as handed, where the page is refused), the refusal, and an answer for each trim as of one run
+   without a journal. In a refused page all eight answers have the page's refusal and are 0 else, so that what is fed of them adds
+   nothing. In an accepted one the answers of trims past the count are 0: feed those below the count. */
+typedef struct {
+    SisaTrims trims;
+    uint8_t refusal;
+    SisaAnswer answers[8];
+} SisaPage;
 
 /* What stepping back replies: the state (as handed, where it is refused), the refusal, and how many log entries fall away: as
    many as the steps taken back wrote. */
@@ -224,16 +238,43 @@ SisaRun sisa_run_by_table_with_journal(SisaState state,
                                        uint64_t *log, size_t log_len,
                                        uint64_t *journal, size_t journal_len);
 
+/* A page runs 1 to 8 trims, `count` of them, under one budget, each with its own state, memories and ports: those of trim 0,
+   then those of trim 1 and so on, joined without gaps. The log is in equal parts, its length divided by the count, rounded down:
+   trim i's part begins at i times that, and the answer's `entries` says how many of its places are filled. Places after them,
+   and past all parts, keep their content.
+   In order, each trim runs with the budget divided by the count, rounded down. What is unused then goes whole to the first, what
+   it leaves to the next, and so on, each log part filled further. A trim that is left nothing keeps its first stop reason;
+   another's is that of its second run. `steps`, `entries`, `ticks` and counts are of both. Steps total at most the budget, and
+   less exactly where no trim ends with stop 0.
+   No trims or more than 8 are refused with 17, before all other tests. Then 1 tests the joined lengths, and then each trim in
+   order 5 and 6, as a run with the whole budget would; the first trim that is turned away decides for the page. */
+SisaPage sisa_page_by_rules(SisaTrims trims, uint8_t count,
+                            const uint8_t *programs, size_t programs_len,
+                            uint8_t *memories, size_t memories_len,
+                            uint16_t *inputs, size_t inputs_len,
+                            uint16_t *outputs, size_t outputs_len,
+                            uint32_t budget,
+                            uint64_t *log, size_t log_len);
+
+/* The same page by the control table. */
+SisaPage sisa_page_by_table(SisaTrims trims, uint8_t count,
+                            const uint8_t *programs, size_t programs_len,
+                            uint8_t *memories, size_t memories_len,
+                            uint16_t *inputs, size_t inputs_len,
+                            uint16_t *outputs, size_t outputs_len,
+                            uint32_t budget,
+                            uint64_t *log, size_t log_len);
+
 /* Goes back k steps. Given state, memory, outputs and journal as the counted steps left them, registers, PC, n, data and outputs
    become those of k steps earlier, and `journaled` is less by k. Inputs stay as set, but input 0 becomes what it held before the
    earliest IN from port 1 that is taken back, where there is one, even if it was set since. Program and journal stay as they are;
    running k steps again with the inputs of the first time, and no line raised since, writes the same log entries. A usage sheet is
    not taken back. `enabled`, `line` and `return_address` become those of k steps earlier, a line taken among them is pending again,
    and lines raised since stay pending.
-   A journal holds as many steps as the lesser of `journaled` and n, or none where it is shorter than `journaled`; where these are
-   fewer than k, the call is refused with 14. So an accepted run without a journal, be it a host step or of budget 0, ends what can
-   be stepped back. The journal may hold any numbers; others than runs wrote may leave PC odd, so that the next call is refused
-   with 5. */
+   A journal holds as many steps as the lesser of `journaled` and n, or none where it is shorter than `journaled`; where these
+   are fewer than k, the call is refused with 14. So an accepted run without a journal, be it a host step, in a page or of budget
+   0, ends what can be stepped back. The journal may hold any numbers; others than runs wrote may leave PC odd, so that the next
+   call is refused with 5. */
 SisaBack sisa_step_back(SisaState state,
                         const uint8_t *program, size_t program_len,
                         uint8_t *memory, size_t memory_len,

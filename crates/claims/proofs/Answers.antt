@@ -5,7 +5,7 @@ use mathlib.Core.List.{List, [], _∷_}
 use Prim.Native.Nat.{ℕ}
 use lib.ListN.{getD}
 use Rattle.refusal.specs.declared.Refusal.{Refusal}
-use Rattle.refusal.specs.declared.Refusal.the-variants.{LentLength, ShortFile, LargePart, PartOutside, OddPc, StepCount, InstructionPart, LongFile, ShortDestination, TextLine, TextName, TextValue, FullSheet, ShortJournal, SmallBoard, LineNumber}
+use Rattle.refusal.specs.declared.Refusal.the-variants.{LentLength, ShortFile, LargePart, PartOutside, OddPc, StepCount, InstructionPart, LongFile, ShortDestination, TextLine, TextName, TextValue, FullSheet, ShortJournal, SmallBoard, LineNumber, TrimCount}
 use Rattle.refusal.specs.Refusals.{refusalNumber, Verdict, accepted, refused}
 use Rattle.kinds.specs.declared.Kind.the-variants.{And}
 use Rattle.isa.specs.declared.Reading.{Reading}
@@ -30,7 +30,9 @@ use Rattle.assembler.specs.Passes.{shownAssembly}
 use Rattle.save.specs.Saved.{SaveReply, saved, save-refused, shownSaving}
 use Rattle.run.specs.declared.Answer.{Answer}
 use Rattle.run.specs.declared.Answer.the-variants.{Stopped, Refused as RunRefused}
-use Rattle.run.specs.Runs.{RunReply, stopped, run-refused, shownAnswer}
+use Rattle.run.specs.declared.Check.{Check}
+use Rattle.run.specs.declared.Check.the-variants.{Accepted as CheckAccepted, Refused as CheckRefused}
+use Rattle.run.specs.Runs.{RunReply, stopped, run-refused, shownAnswer, shownVerdict}
 use Rattle.back.specs.declared.Going.{Going}
 use Rattle.back.specs.declared.Going.the-variants.{Gone, Refused as BackRefused}
 use Rattle.back.specs.Backs.{BackReply, gone-back, back-refused, shownGoing}
@@ -48,7 +50,7 @@ undone f g h x y e = sym (h x) ∙ ap g e ∙ h y
 
 -- the refusal of a number
 abbrev refusal-at : ℕ → Refusal
-refusal-at n = getD (LentLength ∷ LentLength ∷ ShortFile ∷ LargePart ∷ PartOutside ∷ OddPc ∷ StepCount ∷ InstructionPart ∷ LongFile ∷ ShortDestination ∷ TextLine ∷ TextName ∷ TextValue ∷ FullSheet ∷ ShortJournal ∷ SmallBoard ∷ LineNumber ∷ []) n LentLength
+refusal-at n = getD (LentLength ∷ LentLength ∷ ShortFile ∷ LargePart ∷ PartOutside ∷ OddPc ∷ StepCount ∷ InstructionPart ∷ LongFile ∷ ShortDestination ∷ TextLine ∷ TextName ∷ TextValue ∷ FullSheet ∷ ShortJournal ∷ SmallBoard ∷ LineNumber ∷ TrimCount ∷ []) n LentLength
 
 refusal-back : (x : Refusal) → refusal-at (refusalNumber x) ≡ x
 refusal-back LentLength = refl
@@ -67,6 +69,7 @@ refusal-back FullSheet = refl
 refusal-back ShortJournal = refl
 refusal-back SmallBoard = refl
 refusal-back LineNumber = refl
+refusal-back TrimCount = refl
 
 reading-of : Read → Reading
 reading-of (instruction i) = ReadInstruction i
@@ -118,6 +121,11 @@ unfolding verdict-of
 feeding-back Taken = refl
 feeding-back (FeedRefused r) = ap FeedRefused (refusal-back r)
 
+check-back : (x : Check) → verdict-of CheckAccepted CheckRefused (shownVerdict x) ≡ x
+unfolding verdict-of
+check-back CheckAccepted = refl
+check-back (CheckRefused r) = ap CheckRefused (refusal-back r)
+
 saving-of : SaveReply → Saving
 saving-of (saved n) = Written n
 saving-of (save-refused n) = SaveRefused (refusal-at n)
@@ -167,6 +175,7 @@ answers =
       setting = undone shownSetting (verdict-of Done SetRefused) setting-back;
       raising = undone shownRaising (verdict-of RaiseDone RaiseRefused) raising-back;
       answer = undone shownAnswer answer-of answer-back;
+      check = undone shownVerdict (verdict-of CheckAccepted CheckRefused) check-back;
       going = undone shownGoing going-of going-back;
       feeding = undone shownFeeding (verdict-of Taken FeedRefused) feeding-back;
     }

@@ -3,13 +3,13 @@
 use mathlib.Core.Path.{_≡_, refl, sym, _∙_, ap, subst}
 use mathlib.Core.Bool.{Bool, true, false}
 use mathlib.Core.Logic.{_↔_, ⊎-elim}
-use mathlib.Core.List.{List}
-use Prim.Native.Nat.{ℕ, _<_, _≤_}
+use mathlib.Core.List.{List, [], _∷_, map}
+use Prim.Native.Nat.{ℕ, zero, suc, _-_, _<_, _≤_}
 use native.Mathlib.Omega.{arith}
 use borrow.Author.Tests.{ne-eqb, le-leb, lt-leb}
 use lib.Dec.{eqb}
 use lib.IntN.{ℤ}
-use lib.ListN.{length, getD}
+use lib.ListN.{length, getD, drop, replicate, getD-replicate}
 use Rattle.refusal.specs.Refusals.{Verdict, accepted, refused}
 use Rattle.word.specs.Word.{pick}
 use Rattle.word.proofs.Tests.{clash}
@@ -29,19 +29,24 @@ use Rattle.assembler.specs.Text.{Reply, words, text-refused, assembleLeft}
 use Rattle.control.specs.Control.{byTable}
 use Rattle.usage.specs.Usage.{unused}
 use Rattle.run.specs.Runs.{Given, stopped, run-refused, verdictOn, runLeftBy, runLeft, CountedLeft, countedBy, countedLeft}
+use Rattle.page.specs.declared.TrimAnswer.{TrimAnswer}
+use Rattle.page.specs.Pages.{PageGiven, PageLeft, noAnswer, pageLeft}
 use Rattle.back.specs.Backs.{gone-back, BackGiven, backVerdict, backLeftBy, backLeft}
 use Rattle.sheet.specs.declared.Sheet.{Sheet}
 use Rattle.sheet.specs.Sheet.{feedBy, wasAccepted, feedLeft}
 use Rattle.replies.specs.declared.SisaAnswer.{SisaAnswer}
+use Rattle.replies.specs.declared.SisaPage.{SisaPage}
 use Rattle.replies.specs.declared.SisaWord.{SisaWord}
-use Rattle.replies.specs.Sisa.{verdictNumber, sisaLoadLeft, sisaSaved, sisaSaveLeft, sisaAssembly, sisaAssembleLeft, sisaSetLeft, sisaRaise, SisaRunLeft, runInNumbers, sisaRunLeft, HostLent, HostStepMeets, backInNumbers, sisaBackLeft, instructionInNumbers, sisaWord, sisaWrite, sisaFeed}
+use Rattle.replies.specs.Sisa.{verdictNumber, sisaLoadLeft, sisaSaved, sisaSaveLeft, sisaAssembly, sisaAssembleLeft, sisaSetLeft, sisaRaise, SisaRunLeft, runInNumbers, sisaRunLeft, HostLent, HostStepMeets, sisaAnswer, pageInNumbers, sisaPageLeft, backInNumbers, sisaBackLeft, instructionInNumbers, sisaWord, sisaWrite, sisaFeed}
+use Rattle.claims.specs.Session.{Engine, stepperOf}
 use Rattle.claims.specs.HostSteps.{stepGiven, replyOf}
 use Rattle.claims_words.specs.Instructions.{cleared}
-use Rattle.claims.specs.CReplies.{verdictOf, LoadReplies, savedOf, SaveReplies, assemblyOf, AssembleReplies, SetReplies, RaiseReplies, answerOf, runOf, RunReplies, stepLeft, backOf, BackReplies, FeedReplies, sisaRead, instructionOf, readingOf, ReadReplies, sisaWriteOf, writtenOf, WriteReplies, CReplies}
+use Rattle.claims.specs.CReplies.{verdictOf, LoadReplies, savedOf, SaveReplies, assemblyOf, AssembleReplies, SetReplies, RaiseReplies, answerOf, runOf, RunReplies, stepLeft, trimOf, refusalAlone, PageReplies, backOf, BackReplies, FeedReplies, sisaRead, instructionOf, readingOf, ReadReplies, sisaWriteOf, writtenOf, WriteReplies, CReplies}
 use Rattle.claims_texts.proofs.Assembly.{refused-not-0}
 use Rattle.claims.proofs.Feeding.{turned}
 use Rattle.claims_words.proofs.Instructions.{instructions}
 use Rattle.claims_sheet.proofs.Masks.{mask-laws}
+use Rattle.claims.proofs.PageReplies.{run-not-0, Replied, replied}
 use Rattle.claims.proofs.Refusals.{refusals}
 use Rattle.claims.proofs.Saved.{saving}
 
@@ -136,11 +141,87 @@ module _ (v : Stepper) (g : Given) where
   pub run : RunReplies v g (sisaRunLeft v g)
   unfolding sisaRunLeft countedLeft runLeft
   run =
-      let b = run-back (verdictOn g) (λ k e z. ⊎-elim (λ h. omega arith) (⊎-elim (λ h. omega arith) (λ h. omega arith)) (refusals .run v g .no-other k (ap (λ (x : Verdict). runLeftBy v x g .reply) e))) in
+      let b = run-back (verdictOn g) (run-not-0 g) in
       record { gives-back = b .0; refusal-0 = b .1; others-0 = b .2 }
 
 pub host-step : (h after : HostLent) (a : SisaAnswer) → HostStepMeets h a after → RunReplies byTable (stepGiven h) (stepLeft a after)
 host-step h after a e = subst (RunReplies byTable (stepGiven h)) (sym e) (run byTable (stepGiven h))
+
+-- ---- Pages
+
+trims-back : (k : ℕ) (xs : List TrimAnswer) → map trimOf (map (sisaAnswer k) xs) ≡ xs
+trims-back k [] = refl
+trims-back k (x ∷ xs) = ap (λ ys. x ∷ ys) (trims-back k xs)
+
+same-refusal : (k n : ℕ) (xs : List TrimAnswer) → length xs ≡ n → map (λ a. a .refusal) (map (sisaAnswer k) xs) ≡ replicate n k
+same-refusal k zero [] e = refl
+same-refusal k zero (x ∷ xs) e = absurd (omega arith)
+same-refusal k (suc n) [] e = absurd (omega arith)
+same-refusal k (suc n) (x ∷ xs) e = ap (λ ys. k ∷ ys) (same-refusal k n xs (omega arith))
+
+alone : (k n : ℕ) → map (sisaAnswer k) (replicate n noAnswer) ≡ replicate n (refusalAlone k)
+alone k zero = refl
+alone k (suc n) = ap (λ ys. refusalAlone k ∷ ys) (alone k n)
+
+past-answers : (k n : ℕ) (xs : List TrimAnswer) → drop n (map (sisaAnswer k) xs) ≡ map (sisaAnswer k) (drop n xs)
+past-answers k zero xs = refl
+past-answers k (suc n) [] = refl
+past-answers k (suc n) (x ∷ xs) = past-answers k n xs
+
+fed-refused : (s : Sheet) (k : ℕ) → (k ≡ 0 → ⊥) → sisaFeed s k unused ≡ record { sheet = s; refusal = 0 }
+unfolding sisaFeed
+fed-refused s k n = rw (ne-eqb k 0 n)
+
+module _ (v : Stepper) (g : PageGiven) (l : PageLeft) (is : l ≡ pageLeft v g) (known : Replied g l) where
+  abbrev n : ℕ
+  n = verdictNumber (l .reply)
+
+  back-is : (verdictOf n ≡ l .reply) × ((n ≡ 0) ↔ (l .reply ≡ accepted))
+  back-is = verdict-back (l .reply) (known .not-0)
+
+  refused-is : (n ≡ 0 → ⊥) → pageInNumbers l .reply ≡ record { trims = record { states = g .states }; refusal = n; answers = replicate 8 (refusalAlone n) }
+  refused-is h = by-reply (l .reply) refl
+    where
+      by-reply : (x : Verdict) → l .reply ≡ x → pageInNumbers l .reply ≡ record { trims = record { states = g .states }; refusal = n; answers = replicate 8 (refusalAlone n) }
+      by-reply accepted e = absurd (h (back-is .1 .1 e))
+      by-reply (refused k) e =
+          let (s, a) = known .handed k e in
+          λ i. record { trims = record { states = s i }; refusal = n; answers = (ap (map (sisaAnswer n)) a ∙ alone n 8) i }
+
+  page-numbers : PageReplies v g (pageInNumbers l)
+  page-numbers =
+      record {
+        gives-back =
+            (λ i.
+            record {
+              reply = back-is .0 i;
+              states = l .states;
+              answers = trims-back n (l .answers) i;
+              P = l .P;
+              D = l .D;
+              I = l .I;
+              O = l .O;
+              log = l .log;
+            })
+            ∙ is;
+        refusal-0 = subst (λ (x : PageLeft). (n ≡ 0) ↔ (x .reply ≡ accepted)) is (back-is .1);
+        refusals = same-refusal n 8 (l .answers) (known .eight);
+        others-0 = refused-is;
+        adds-nothing = λ h s k few.
+            let a : getD (pageInNumbers l .reply .answers) k (refusalAlone 0) ≡ refusalAlone n =
+            ap (λ (x : SisaPage). getD (x .answers) k (refusalAlone 0)) (refused-is h) ∙ getD-replicate 8 k (refusalAlone n) (refusalAlone 0) few in
+            ap (λ (x : SisaAnswer). sisaFeed s (x .refusal) (x .usage)) a ∙ fed-refused s n h;
+        past-0 = λ z.
+            past-answers n (g .count) (l .answers)
+            ∙ ap (map (sisaAnswer n)) (known .past (back-is .1 .0 z))
+            ∙ alone n (8 - g .count)
+            ∙ ap (λ k. replicate (8 - g .count) (refusalAlone k)) z;
+        journaled-0 = λ z. known .journaled (back-is .1 .0 z);
+      }
+
+page : (e : Engine) (g : PageGiven) → PageReplies (stepperOf e) g (sisaPageLeft (stepperOf e) g)
+unfolding sisaPageLeft
+page e g = page-numbers (stepperOf e) g (pageLeft (stepperOf e) g) refl (replied e g)
 
 -- ---- Going back
 
@@ -252,6 +333,7 @@ c-replies =
       raise = raise;
       run = run;
       host-step = host-step;
+      page = page;
       back = back;
       feed = feed;
       feed-run = λ v g s. fed-run v g s (sisaRunLeft v g) (run v g);

@@ -12,6 +12,7 @@ pub mod HostSteps
 pub mod Journaled
 pub mod Lengths
 pub mod OtherProgram
+pub mod PageReplies
 pub mod Refusals
 pub mod Runs
 pub mod Saved

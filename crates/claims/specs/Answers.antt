@@ -13,7 +13,7 @@ use Rattle.image.specs.Image.{shownLoading}
 use Rattle.save.specs.Saved.{shownSaving}
 use Rattle.assembler.specs.Passes.{shownAssembly}
 use Rattle.run.specs.declared.Answer.{Answer}
-use Rattle.run.specs.Runs.{shownAnswer}
+use Rattle.run.specs.Runs.{shownAnswer, shownVerdict}
 use Rattle.back.specs.Backs.{shownGoing}
 use Rattle.sheet.specs.Sheet.{shownFeeding}
 use Rattle.kinds.specs.Kinds.{kindNumber}
@@ -34,5 +34,6 @@ pub record Answers : Type 0 where
   pub setting : Injective shownSetting
   pub raising : Injective shownRaising
   pub answer : Injective shownAnswer
+  pub check : Injective shownVerdict
   pub going : Injective shownGoing
   pub feeding : Injective shownFeeding

@@ -3,11 +3,11 @@
 -- window's reply its contract says which bytes it names (specs/Exports.antt).
 use mathlib.Core.Path.{_≡_}
 use mathlib.Core.Logic.{_↔_}
-use mathlib.Core.List.{List}
-use Prim.Native.Nat.{ℕ, _<_, _≤_}
+use mathlib.Core.List.{List, map}
+use Prim.Native.Nat.{ℕ, _-_, _<_, _≤_}
 use lib.Dec.{eqb}
 use lib.IntN.{ℤ, pos}
-use lib.ListN.{length, getD}
+use lib.ListN.{length, getD, drop, replicate}
 use Rattle.refusal.specs.Refusals.{Verdict, accepted, refused}
 use Rattle.word.specs.Word.{pick}
 use Rattle.kinds.specs.declared.Kind.the-variants.{And}
@@ -16,6 +16,7 @@ use Rattle.isa.specs.declared.Instruction.{Instruction}
 use Rattle.isa.specs.Instructions.{Read, instruction, unassigned, readOf, WriteReply, word, write-refused, writeOf}
 use Rattle.isa.specs.Masks.{Decoding, decodingOf}
 use Rattle.machine.specs.declared.State.{State}
+use Rattle.machine.specs.Machine.{reset}
 use Rattle.machine.specs.Run.{Stepper}
 use Rattle.panel.specs.Calls.{SetGiven, SetLeft, setLeft, RaiseLeft, raiseLeft}
 use Rattle.image.specs.Image.{LoadGiven, LoadLeft, loadLeft}
@@ -25,6 +26,8 @@ use Rattle.control.specs.Control.{byTable}
 use Rattle.usage.specs.declared.Usage.{Usage}
 use Rattle.usage.specs.Usage.{unused}
 use Rattle.run.specs.Runs.{no-journal, Given, left, RunReply, CountedLeft, countedLeft}
+use Rattle.page.specs.declared.TrimAnswer.{TrimAnswer}
+use Rattle.page.specs.Pages.{PageGiven, PageLeft, pageLeft}
 use Rattle.back.specs.Backs.{BackReply, gone-back, back-refused, BackGiven, BackLeft, backLeft}
 use Rattle.sheet.specs.declared.Sheet.{Sheet}
 use Rattle.sheet.specs.Sheet.{FeedLeft, feedLeft}
@@ -37,7 +40,8 @@ use Rattle.replies.specs.declared.SisaInstruction.{SisaInstruction}
 use Rattle.replies.specs.declared.SisaWord.{SisaWord}
 use Rattle.replies.specs.declared.SisaFed.{SisaFed}
 use Rattle.replies.specs.declared.SisaRaised.{SisaRaised}
-use Rattle.replies.specs.Sisa.{SisaLoadLeft, sisaLoadLeft, SisaSaveLeft, sisaSaveLeft, SisaAssembleLeft, sisaAssembleLeft, SisaSetLeft, sisaSetLeft, sisaRaise, SisaRunLeft, sisaLeft, sisaRunLeft, HostLent, withState, HostStepMeets, SisaBackLeft, sisaBackLeft, sisaInstruction, sisaWrite, sisaFeed}
+use Rattle.replies.specs.Sisa.{SisaLoadLeft, sisaLoadLeft, SisaSaveLeft, sisaSaveLeft, SisaAssembleLeft, sisaAssembleLeft, SisaSetLeft, sisaSetLeft, sisaRaise, SisaRunLeft, sisaLeft, sisaRunLeft, HostLent, withState, HostStepMeets, SisaPageLeft, sisaPageLeft, SisaBackLeft, sisaBackLeft, sisaInstruction, sisaWrite, sisaFeed}
+use Rattle.claims.specs.Session.{Engine, stepperOf}
 use Rattle.claims.specs.HostSteps.{stepGiven, replyOf}
 use Rattle.claims_words.specs.Instructions.{cleared}
 use Rattle.claims.specs.Refusals.{Accepts, AcceptsBack}
@@ -126,6 +130,53 @@ pub record RunReplies (v : Stepper) (g : Given) (l : SisaRunLeft) : Type 0 where
 abbrev pub stepLeft : SisaAnswer → HostLent → SisaRunLeft
 stepLeft a after = sisaLeft (withState (after .state) a) (after .P) (after .D) (after .I) (after .O) (after .log) no-journal
 
+-- ---- sisa_page_by_rules, sisa_page_by_table
+
+-- a trim's answer, without the page's refusal
+abbrev pub trimOf : SisaAnswer → TrimAnswer
+trimOf a = record { stop = a .stop; steps = a .steps; entries = a .entries; ticks = a .ticks; usage = a .usage }
+
+abbrev pub pagedOf : SisaPageLeft → PageLeft
+pagedOf l =
+    record {
+      reply = verdictOf (l .reply .refusal);
+      states = l .reply .trims .states;
+      answers = map trimOf (l .reply .answers);
+      P = l .P;
+      D = l .D;
+      I = l .I;
+      O = l .O;
+      log = l .log;
+    }
+
+-- an answer that is 0 but for its refusal
+abbrev pub refusalAlone : ℕ → SisaAnswer
+refusalAlone k = record { refusal = k; stop = 0; steps = 0; entries = 0; ticks = 0; usage = unused }
+
+-- what a page of g that goes by v replied and left
+pub record PageReplies (v : Stepper) (g : PageGiven) (l : SisaPageLeft) : Type 0 where
+  pub gives-back : pagedOf l ≡ pageLeft v g
+  pub refusal-0 : (l .reply .refusal ≡ 0) ↔ (pageLeft v g .reply ≡ accepted)
+  -- All eight answers have the page's refusal.
+  pub refusals : map (λ a. a .refusal) (l .reply .answers) ≡ replicate 8 (l .reply .refusal)
+  -- In a refused page they are 0 else, and every state is as handed;
+  pub others-0 :
+      (l .reply .refusal ≡ 0 → ⊥)
+      → l .reply
+      ≡ record {
+        trims = record { states = g .states };
+        refusal = l .reply .refusal;
+        answers = replicate 8 (refusalAlone (l .reply .refusal));
+      }
+  -- what is fed of them adds nothing.
+  pub adds-nothing :
+      (l .reply .refusal ≡ 0 → ⊥) → (s : Sheet) (k : ℕ) → k < 8
+      → (let a = getD (l .reply .answers) k (refusalAlone 0) in sisaFeed s (a .refusal) (a .usage) ≡ record { sheet = s; refusal = 0 })
+  -- In an accepted one the answers of trims past the count are 0,
+  pub past-0 : l .reply .refusal ≡ 0 → drop (g .count) (l .reply .answers) ≡ replicate (8 - g .count) (refusalAlone 0)
+  -- and in the states of the others `journaled` is.
+  pub journaled-0 : l .reply .refusal ≡ 0 → (k : ℕ) → k < g .count → getD (l .reply .trims .states) k reset .journaled ≡ 0
+
 -- ---- sisa_step_back
 
 abbrev pub wentBack : SisaBack → BackReply
@@ -198,6 +249,7 @@ pub record CReplies : Type 0 where
   -- a host step, known by its contract
   pub host-step :
       (h after : HostLent) (a : SisaAnswer) → HostStepMeets h a after → RunReplies byTable (stepGiven h) (stepLeft a after)
+  pub page : (e : Engine) (g : PageGiven) → PageReplies (stepperOf e) g (sisaPageLeft (stepperOf e) g)
   pub back : (g : BackGiven) → BackReplies g
   -- Feeding any numbers is feeding the reply that they stand for;
   pub feed : (s : Sheet) (a : SisaAnswer) → FeedReplies s a (replyOf a) (a .usage)

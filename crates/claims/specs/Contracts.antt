@@ -21,7 +21,10 @@ use Rattle.control.specs.Control.{byControl, byTable}
 use Rattle.usage.specs.declared.Usage.{Usage}
 use Rattle.run.specs.declared.Answer.{Answer}
 use Rattle.run.specs.declared.Counted.{Counted}
-use Rattle.run.specs.Runs.{Journal, no-journal, lent-journal, Given, given, Left, left, shownAnswer, RunMeets, CountedMeets}
+use Rattle.run.specs.Runs.{Journal, no-journal, lent-journal, Given, given, Left, left, shownAnswer, shownVerdict, RunMeets, CountedMeets}
+use Rattle.page.specs.declared.Trims.{Trims}
+use Rattle.page.specs.declared.Paged.{Paged}
+use Rattle.page.specs.Pages.{PageGiven, pageOf, PageMeets}
 use Rattle.back.specs.Backs.{BackGiven, BackLeft, shownGoing, backLeft}
 use Rattle.sheet.specs.declared.Sheet.{Sheet}
 use Rattle.sheet.specs.Sheet.{empty, FeedLeft, shownFeeding, feedLeft}
@@ -44,6 +47,8 @@ use Rattle.engine.proofs.run_by_table.Reads as run-by-table
 use Rattle.engine.proofs.run_by_rules_with_journal.Reads as run-by-rules-with-journal
 use Rattle.engine.proofs.run_by_table_with_journal.Reads as run-by-table-with-journal
 use Rattle.engine.proofs.run_by_control.Reads as run-by-control
+use Rattle.page.proofs.page_by_rules.Reads as page-by-rules
+use Rattle.page.proofs.page_by_table.Reads as page-by-table
 use Rattle.back.proofs.step_back.Reads as step-back
 use Rattle.sheet.proofs.Sheet.empty.Reads as sheet-empty
 use Rattle.sheet.proofs.feed.Reads as feed
@@ -83,6 +88,30 @@ leftAfter journal r state s =
 abbrev pub RunSays : {X : Type 0} → (X → Journal) → Stepper → RunArguments X → Counted → RunArguments X → Type 0
 RunSays journal v a r s =
     CountedMeets v (givenBy journal a) (record { left = leftAfter journal (r .answer) (r .state) s; usage = r .usage; ticks = r .ticks })
+
+-- a page's arguments: trims, count, programs, memories, inputs, outputs, budget, log
+abbrev pub PageArguments : Type 0
+PageArguments = Trims × (ℕ × (LentSlice × (LentSlice × (LentSlice × (LentSlice × (ℕ × (LentSlice × Unit {0})))))))
+
+abbrev pub pageGivenBy : PageArguments → PageGiven
+pageGivenBy a =
+    pageOf (a .0 .states) (a .1 .0) (now (a .1 .1 .0)) (now (a .1 .1 .1 .0)) (now (a .1 .1 .1 .1 .0)) (now (a .1 .1 .1 .1 .1 .0))
+    (a .1 .1 .1 .1 .1 .1 .0) (now (a .1 .1 .1 .1 .1 .1 .1 .0))
+
+-- what a page that goes by v says
+abbrev pub PageSays : Stepper → PageArguments → Paged → PageArguments → Type 0
+PageSays v a r s =
+    PageMeets v (pageGivenBy a)
+    (record {
+      reply = shownVerdict (r .check);
+      states = r .trims .states;
+      answers = r .answers;
+      P = now (s .1 .1 .0);
+      D = now (s .1 .1 .1 .0);
+      I = now (s .1 .1 .1 .1 .0);
+      O = now (s .1 .1 .1 .1 .1 .0);
+      log = now (s .1 .1 .1 .1 .1 .1 .1 .0);
+    })
 
 -- the arguments of going back: state, program, memory, inputs, outputs, journal, k
 abbrev pub BackArguments : Type 0
@@ -190,6 +219,12 @@ pub record Contracts : Type 1 where
   -- run_by_control, with its words before those of run_by_table; it reports no counts
   pub run-by-control-asks : (κs : Lfts 6) (a : _) → run-by-control.Asked κs a
   pub run-by-control : (κs : Lfts 6) (a : _) (r : _) (s : _) → run-by-control.Learnt κs a r s ↔ RunMeets (byControl (now (a .0))) (givenBy noJournal (a .1)) (leftAfter noJournal (r .answer) (r .state) (s .1))
+  -- page_by_rules(trims, count, programs, memories, inputs, outputs, budget, log)
+  pub page-by-rules-asks : (κs : Lfts 5) (a : _) → page-by-rules.Asked κs a
+  pub page-by-rules : (κs : Lfts 5) (a : _) (r : _) (s : _) → page-by-rules.Learnt κs a r s ↔ PageSays byRules a r s
+  -- page_by_table, the same
+  pub page-by-table-asks : (κs : Lfts 5) (a : _) → page-by-table.Asked κs a
+  pub page-by-table : (κs : Lfts 5) (a : _) (r : _) (s : _) → page-by-table.Learnt κs a r s ↔ PageSays byTable a r s
   -- step_back(state, program, memory, inputs, outputs, journal, k)
   pub step-back-asks : (κs : Lfts 5) (a : _) → step-back.Asked κs a
   pub step-back :

@@ -13,7 +13,8 @@ use Rattle.isa.specs.Masks.{decodingOf}
 use Rattle.control.specs.Control.{byTable}
 use Rattle.run.specs.Runs.{Journal}
 use Rattle.replies.specs.declared.SisaRun.{SisaRun}
-use Rattle.replies.specs.Sisa.{SisaLoadLeft, sisaLoadLeft, SisaSaveLeft, sisaSaveLeft, SisaAssembleLeft, sisaAssembleLeft, SisaSetLeft, sisaSetLeft, sisaRaise, sisaLeft, SisaRunMeets, SisaBackLeft, sisaBackLeft, sisaInstruction, sisaWrite, sisaFeed, sisaWindow, chosen, bytesOf}
+use Rattle.replies.specs.declared.SisaPage.{SisaPage}
+use Rattle.replies.specs.Sisa.{SisaLoadLeft, sisaLoadLeft, SisaSaveLeft, sisaSaveLeft, SisaAssembleLeft, sisaAssembleLeft, SisaSetLeft, sisaSetLeft, sisaRaise, sisaLeft, SisaRunMeets, SisaPageMeets, SisaBackLeft, sisaBackLeft, sisaInstruction, sisaWrite, sisaFeed, sisaWindow, chosen, bytesOf}
 use Rattle.sisa.proofs.sisa_load.Reads as load
 use Rattle.sisa.proofs.sisa_save.Reads as save
 use Rattle.sisa.proofs.sisa_assemble.Reads as assemble
@@ -23,12 +24,14 @@ use Rattle.sisa.proofs.sisa_run_by_rules.Reads as run-by-rules
 use Rattle.sisa.proofs.sisa_run_by_table.Reads as run-by-table
 use Rattle.sisa.proofs.sisa_run_by_rules_with_journal.Reads as run-by-rules-with-journal
 use Rattle.sisa.proofs.sisa_run_by_table_with_journal.Reads as run-by-table-with-journal
+use Rattle.sisa.proofs.sisa_page_by_rules.Reads as page-by-rules
+use Rattle.sisa.proofs.sisa_page_by_table.Reads as page-by-table
 use Rattle.sisa.proofs.sisa_step_back.Reads as step-back
 use Rattle.sisa.proofs.sisa_feed.Reads as feed
 use Rattle.sisa.proofs.sisa_read.Reads as read
 use Rattle.sisa.proofs.sisa_write.Reads as write
 use Rattle.sisa.proofs.sisa_window.Reads as window
-use Rattle.claims.specs.Contracts.{RunArguments, noJournal, withJournal, givenBy, backGivenBy}
+use Rattle.claims.specs.Contracts.{RunArguments, noJournal, withJournal, givenBy, PageArguments, pageGivenBy, backGivenBy}
 
 -- what a run that goes by v says
 abbrev pub RunSays : {X : Type 0} → (X → Journal) → Stepper → RunArguments X → SisaRun → RunArguments X → Type 0
@@ -36,6 +39,19 @@ RunSays journal v a r s =
     SisaRunMeets v (givenBy journal a)
     (sisaLeft r (now (s .1 .0)) (now (s .1 .1 .0)) (now (s .1 .1 .1 .0)) (now (s .1 .1 .1 .1 .0)) (now (s .1 .1 .1 .1 .1 .1 .0))
     (journal (s .1 .1 .1 .1 .1 .1 .1)))
+
+-- what a page that goes by v says
+abbrev pub PageSays : Stepper → PageArguments → SisaPage → PageArguments → Type 0
+PageSays v a r s =
+    SisaPageMeets v (pageGivenBy a)
+    (record {
+      reply = r;
+      P = now (s .1 .1 .0);
+      D = now (s .1 .1 .1 .0);
+      I = now (s .1 .1 .1 .1 .0);
+      O = now (s .1 .1 .1 .1 .1 .0);
+      log = now (s .1 .1 .1 .1 .1 .1 .1 .0);
+    })
 
 pub record Exports : Type 1 where
   -- sisa_load(file, board, program, memory, inputs, outputs)
@@ -97,6 +113,12 @@ pub record Exports : Type 1 where
   pub run-by-table-with-journal-asks : (κs : Lfts 6) (a : _) → run-by-table-with-journal.Asked κs a
   pub run-by-table-with-journal :
       (κs : Lfts 6) (a : _) (r : _) (s : _) → run-by-table-with-journal.Learnt κs a r s ↔ RunSays withJournal byTable a r s
+  -- sisa_page_by_rules(trims, count, programs, memories, inputs, outputs, budget, log)
+  pub page-by-rules-asks : (κs : Lfts 5) (a : _) → page-by-rules.Asked κs a
+  pub page-by-rules : (κs : Lfts 5) (a : _) (r : _) (s : _) → page-by-rules.Learnt κs a r s ↔ PageSays byRules a r s
+  -- sisa_page_by_table, the same
+  pub page-by-table-asks : (κs : Lfts 5) (a : _) → page-by-table.Asked κs a
+  pub page-by-table : (κs : Lfts 5) (a : _) (r : _) (s : _) → page-by-table.Learnt κs a r s ↔ PageSays byTable a r s
   -- sisa_step_back(state, program, memory, inputs, outputs, journal, k)
   pub step-back-asks : (κs : Lfts 5) (a : _) → step-back.Asked κs a
   pub step-back :

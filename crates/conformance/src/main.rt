@@ -10,6 +10,7 @@ mod instructions;
 mod journals;
 mod keys;
 mod knobs;
+mod pages;
 mod printed;
 mod runs;
 mod saves;
@@ -59,5 +60,8 @@ fn main() {
             &mut outputs,
             &mut log,
         );
+    }
+    for c in 97..103 {
+        pages::play(c, &mut log);
     }
 }

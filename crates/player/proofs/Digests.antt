@@ -8,7 +8,7 @@ use native.Mathlib.Omega.{arith}
 use lib.ListN.{length, getD, drop, drop-of-length-le}
 use lib.Seq.{drop-cons}
 use Rattle.machine.specs.declared.State.{State}
-use Rattle.player.specs.Digest.{takenIn, digestFrom, halves, stateNumbers, digestOfLeft}
+use Rattle.player.specs.Digest.{takenIn, digestFrom, halves, stateNumbers, lentNumbers, digestOfLeft}
 
 -- i elements are passed; `numbers` are what the elements give
 pub record Taking (numbers : List ℕ → List ℕ) (h : ℕ) (part : List ℕ) (after i : ℕ) : Type 0 where
@@ -50,11 +50,15 @@ unfolding digestFrom
 digest-append h [] ys = refl
 digest-append h (x ∷ xs) ys = digest-append (takenIn h x) xs ys
 
-pub state-digest : (r : List ℕ) (pc n : ℕ) → takenIn (takenIn (digestFrom 0 r) pc) n ≡ digestFrom 0 (r ++ (pc ∷ n ∷ []))
+pub state-digest : (h : ℕ) (r : List ℕ) (pc n : ℕ) → takenIn (takenIn (digestFrom h r) pc) n ≡ digestFrom h (r ++ (pc ∷ n ∷ []))
 unfolding digestFrom
-state-digest r pc n = sym (digest-append 0 r (pc ∷ n ∷ []))
+state-digest h r pc n = sym (digest-append h r (pc ∷ n ∷ []))
+
+pub lent-digest : (h : ℕ) (P D I O log : List ℕ)
+    → digestFrom (digestFrom (digestFrom (digestFrom (digestFrom h P) D) I) O) (halves log) ≡ digestFrom h (lentNumbers P D I O log)
+lent-digest h P D I O log = sym (simp digest-append)
 
 pub left-digest : (state : State) (P D I O log : List ℕ)
-    → digestFrom (digestFrom (digestFrom (digestFrom (digestFrom (digestFrom 0 (stateNumbers state)) P) D) I) O) (halves log) ≡ digestOfLeft state P D I O log
+    → digestFrom (digestFrom 0 (stateNumbers state)) (lentNumbers P D I O log) ≡ digestOfLeft state P D I O log
 unfolding digestOfLeft
-left-digest state P D I O log = sym (simp digest-append)
+left-digest state P D I O log = sym (digest-append 0 (stateNumbers state) (lentNumbers P D I O log))

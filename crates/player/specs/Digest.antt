@@ -21,8 +21,10 @@ halves (x ∷ xs) = x % 4294967296 ∷ x / 4294967296 ∷ halves xs
 abbrev pub stateNumbers : State → List ℕ
 stateNumbers state = state .r ++ state .pc ∷ state .n ∷ []
 
--- The digest of what is left takes in, in this order: R0 to R7, PC, n; every byte of program, then of memory; every word of inputs, then of
--- outputs; of every place of the log its halves.
+-- every byte of program, then of memory; every word of inputs, then of outputs; of every place of the log its halves
+abbrev pub lentNumbers : List ℕ → List ℕ → List ℕ → List ℕ → List ℕ → List ℕ
+lentNumbers program memory inputs outputs log = program ++ memory ++ inputs ++ outputs ++ halves log
+
+-- The digest of what is left takes in the numbers of the state, then those of what is lent.
 unfoldable pub digestOfLeft : State → List ℕ → List ℕ → List ℕ → List ℕ → List ℕ → ℕ
-digestOfLeft state program memory inputs outputs log =
-    digestFrom 0 (stateNumbers state ++ program ++ memory ++ inputs ++ outputs ++ halves log)
+digestOfLeft state program memory inputs outputs log = digestFrom 0 (stateNumbers state ++ lentNumbers program memory inputs outputs log)

@@ -1,5 +1,5 @@
 -- The file of case c (docs/CONFORMANCE.md), of each sort: as under "The file of case c", as under "Keys", as under "The single-memory
--- board", as for a table from 128 on, as under "Knob interrupts", and as for a table from 160 on.
+-- board", as for a table from 128 on, as under "Knob interrupts", as for a table from 160 on, and as under "Pages".
 use Prim.Native.Nat.{ℕ, _+_, _-_, _*_, _/_, _%_}
 use mathlib.Core.List.{List, [], _∷_}
 use lib.Dec.{ltb, eqb}
@@ -8,9 +8,9 @@ use Rattle.word.specs.Word.{pick, flag}
 use Rattle.numbers.specs.Numbers.{numberOf}
 use Rattle.player.specs.Lists.{places}
 use Rattle.player.specs.declared.file.Sort.{Sort}
-use Rattle.player.specs.declared.file.Sort.the-variants.{Any, Keys, Stores, LowPorts, Knobs, Enabling}
+use Rattle.player.specs.declared.file.Sort.the-variants.{Any, Keys, Stores, LowPorts, Knobs, Enabling, Pages}
 
--- W = 1 + number(c, 0) mod 200, C = number(c, 1) mod 300; under "Keys" and "The single-memory board" W is 32, under "Knob
+-- W = 1 + number(c, 0) mod 200, C = number(c, 1) mod 300; under "Keys", "The single-memory board" and "Pages" W is 32, under "Knob
 -- interrupts" 136
 abbrev pub anyW : ℕ → ℕ
 anyW c = 1 + numberOf c 0 % 200
@@ -22,6 +22,7 @@ W Stores c = 32
 W LowPorts c = anyW c
 W Knobs c = 136
 W Enabling c = anyW c
+W Pages c = 32
 
 abbrev pub C : ℕ → ℕ
 C c = numberOf c 1 % 300
@@ -82,6 +83,22 @@ enablingWord c j = pick (eqb (numberOf c (4000 + j) % 4) 0) (interruptWord (numb
 unfoldable pub knobWord : ℕ → ℕ → ℕ
 knobWord c j = pick (eqb j 30) 32993 (pick (eqb j 31) 33248 (pick (eqb j 135) 49154 (enablingWord c j)))
 
+-- 41,216 + 512 · (x mod 8) + (x / 8) mod 256, an OUT
+abbrev pub outWord : ℕ → ℕ
+outWord x = 41216 + 512 * (x % 8) + x / 8 % 256
+
+-- 8,192 + x mod 4,096, an ADDI
+abbrev pub addiWord : ℕ → ℕ
+addiWord x = 8192 + x % 4096
+
+-- Under "Pages": words 30 and 31 are those of "Keys"; every other word j is, where number(c, 4,000 + j) mod 8 is 0, as above; where it is
+-- 1, such an OUT; else such an ADDI.
+unfoldable pub pageWord : ℕ → ℕ → ℕ
+pageWord c j =
+    let k = numberOf c (4000 + j) % 8 in
+    let x = numberOf c (1000 + j) in
+    pick (ltb j 30) (pick (eqb k 0) (anyWord c j) (pick (eqb k 1) (outWord x) (addiWord x))) (pick (eqb j 30) 32993 33248)
+
 unfoldable pub programWord : Sort → ℕ → ℕ → ℕ
 programWord Any c j = anyWord c j
 programWord Keys c j = keyWord c j
@@ -89,6 +106,7 @@ programWord Stores c j = storeWord c j
 programWord LowPorts c j = lowPortWord c j
 programWord Knobs c j = knobWord c j
 programWord Enabling c j = enablingWord c j
+programWord Pages c j = pageWord c j
 
 -- the bytes of a number under 65,536, the low one first; others are 0
 abbrev pub bytesOf : ℕ → List ℕ

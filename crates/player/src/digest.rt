@@ -1,7 +1,7 @@
 // Digests.
 ghost use mathlib.Core.Path.{_≡_};
 ghost use Prim.Native.Nat.{_/_, _%_};
-ghost use Rattle.player.specs.Digest.{takenIn, digestFrom, halves, stateNumbers, digestOfLeft};
+ghost use Rattle.player.specs.Digest.{takenIn, digestFrom, halves, stateNumbers, lentNumbers, digestOfLeft};
 use crate::lent::Log;
 use crate::lent::Memory;
 use crate::lent::Ports;
@@ -63,12 +63,31 @@ pub fn places(digest: u32, log: &[u64]) -> u32
     after
 }
 
-fn of_state(state: State) -> u32
-    ensures { λ r. ⌜ r ≡ digestFrom 0 (stateNumbers state) ⌝ }
+// The digest, with R0 to R7, PC and n of a state taken in.
+pub fn registers(digest: u32, state: State) -> u32
+    ensures { λ r. ⌜ r ≡ digestFrom digest (stateNumbers state) ⌝ }
 {
     let r = state.r;
-    let after = words(0, &r);
+    let after = words(digest, &r);
     taken(taken(after, word(state.pc)), state.n)
+}
+
+// The digest, with memories, ports and log taken in.
+pub fn lent(
+    digest: u32,
+    program: &[u8],
+    memory: &[u8],
+    inputs: &[u16],
+    outputs: &[u16],
+    log: &[u64],
+) -> u32
+    ensures { λ r. ⌜ r ≡ digestFrom digest (lentNumbers (now (program .entry)) (now (memory .entry)) (now (inputs .entry)) (now (outputs .entry)) (now (log .entry))) ⌝ }
+{
+    let after = bytes(digest, program);
+    let after = bytes(after, memory);
+    let after = words(after, inputs);
+    let after = words(after, outputs);
+    places(after, log)
 }
 
 // The digest of what is left.
@@ -82,9 +101,5 @@ pub fn of_all(
 ) -> u32
     ensures { λ r. ⌜ r ≡ digestOfLeft state (now (program .entry)) (now (memory .entry)) (now (inputs .entry)) (now (outputs .entry)) (now (log .entry)) ⌝ }
 {
-    let after = bytes(of_state(state), program);
-    let after = bytes(after, memory);
-    let after = words(after, inputs);
-    let after = words(after, outputs);
-    places(after, log)
+    lent(registers(0, state), program, memory, inputs, outputs, log)
 }

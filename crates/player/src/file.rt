@@ -4,12 +4,12 @@ ghost use Prim.Native.Nat.{_<_};
 ghost use lib.Dec.{eqb};
 ghost use lib.ListN.{getD};
 ghost use Rattle.word.specs.Word.{flag};
-ghost use Rattle.player.specs.File.{anyW, W, C, damageOf, lengthOf, header, anyWord, loopWord, keyWord, storeWord, lowPortWord, interruptF, interruptWord, enablingWord, knobWord, programWord, byteOf, fileByte, fileOf};
+ghost use Rattle.player.specs.File.{anyW, W, C, damageOf, lengthOf, header, anyWord, loopWord, keyWord, storeWord, lowPortWord, interruptF, interruptWord, enablingWord, knobWord, outWord, addiWord, pageWord, programWord, byteOf, fileByte, fileOf};
 use crate::lent::File;
 use numbers::number;
 
-// The sort of a file, by its program: a case's, one of "Keys", of "The single-memory board" or of "Knob interrupts", or one for a table
-// from 128 or from 160 on.
+// The sort of a file, by its program: a case's, one of "Keys", of "The single-memory board", of "Knob interrupts" or of "Pages", or one for a
+// table from 128 or from 160 on.
 pub enum Sort {
     Any,
     Keys,
@@ -17,6 +17,7 @@ pub enum Sort {
     LowPorts,
     Knobs,
     Enabling,
+    Pages,
 }
 
 // A damage that is none.
@@ -46,6 +47,7 @@ fn words(sort: Sort, c: u16) -> u16
         Sort::LowPorts => any_words(c),
         Sort::Knobs => 136,
         Sort::Enabling => any_words(c),
+        Sort::Pages => 32,
     }
 }
 
@@ -174,6 +176,33 @@ fn knob_word(c: u16, j: u16) -> u16
     }
 }
 
+fn out_word(x: u16) -> u16
+    ensures { λ r. ⌜ r ≡ outWord x ⌝ }
+{
+    41216 + 512 * (x % 8) + x / 8 % 256
+}
+
+fn addi_word(x: u16) -> u16
+    ensures { λ r. ⌜ r ≡ addiWord x ⌝ }
+{
+    8192 + x % 4096
+}
+
+// Any word, an OUT or an ADDI; at the end a BZ and a BNZ of R0 to address 0.
+fn page_word(c: u16, j: u16) -> u16
+    requires { ⌜ j < 200 ⌝ }
+    ensures { λ r. ⌜ r ≡ pageWord c j ⌝ }
+{
+    if j >= 30 {
+        return if j == 30 { 32993 } else { 33248 };
+    }
+    match number(c, 4000 + j) % 8 {
+        0 => any_word(c, j),
+        1 => out_word(number(c, 1000 + j)),
+        _ => addi_word(number(c, 1000 + j)),
+    }
+}
+
 // Word j of the program.
 fn program_word(sort: Sort, c: u16, j: u16) -> u16
     requires { ⌜ j < 200 ⌝ }
@@ -186,6 +215,7 @@ fn program_word(sort: Sort, c: u16, j: u16) -> u16
         Sort::LowPorts => low_port_word(c, j),
         Sort::Knobs => knob_word(c, j),
         Sort::Enabling => enabling_word(c, j),
+        Sort::Pages => page_word(c, j),
     }
 }
 

@@ -2,7 +2,7 @@
 -- accepted or refused with a number.
 use Prim.Native.Nat.{ℕ}
 use Rattle.refusal.specs.declared.Refusal.{Refusal}
-use Rattle.refusal.specs.declared.Refusal.the-variants.{LentLength, ShortFile, LargePart, PartOutside, OddPc, StepCount, InstructionPart, LongFile, ShortDestination, TextLine, TextName, TextValue, FullSheet, ShortJournal, SmallBoard, LineNumber}
+use Rattle.refusal.specs.declared.Refusal.the-variants.{LentLength, ShortFile, LargePart, PartOutside, OddPc, StepCount, InstructionPart, LongFile, ShortDestination, TextLine, TextName, TextValue, FullSheet, ShortJournal, SmallBoard, LineNumber, TrimCount}
 
 abbrev pub refusalNumber : Refusal → ℕ
 -- P or D not 65,536 bytes, or I or O not 256 words (set looks at I only)
@@ -37,6 +37,8 @@ refusalNumber ShortJournal = 14
 refusalNumber SmallBoard = 15
 -- line over 7 (02, L12)
 refusalNumber LineNumber = 16
+-- no trims or more than 8 (02, L13)
+refusalNumber TrimCount = 17
 
 -- whether a call is accepted: it is, or it is refused with this number
 pub data Verdict : Type 0 where

@@ -19,6 +19,7 @@ pub enum Refusal {
     ShortJournal,
     SmallBoard,
     LineNumber,
+    TrimCount,
 }
 
 // The refusal's number in the table.
@@ -42,5 +43,6 @@ pub fn number(refusal: Refusal) -> u8
         Refusal::ShortJournal => 14,
         Refusal::SmallBoard => 15,
         Refusal::LineNumber => 16,
+        Refusal::TrimCount => 17,
     }
 }

@@ -1,11 +1,11 @@
 -- What each function of include/sisa.h replies and leaves, of what it is given. The crates that do the work decide it
--- (`loadLeft`, `saveLeft`, `assembleLeft`, `setLeft`, `countedLeft`, `backLeft`, `decodingOf`, `writeOf`, `windowOf`); here their replies become the numbers of the header's
--- structs. A refusal of 0 is an accepted call; a field that a case does not speak of is 0.
+-- (`loadLeft`, `saveLeft`, `assembleLeft`, `setLeft`, `raiseLeft`, `countedLeft`, `pageLeft`, `backLeft`, `decodingOf`, `writeOf`, `windowOf`); here their replies become the
+-- numbers of the header's structs. A refusal of 0 is an accepted call; a field that a case does not speak of is 0.
 use Prim.Native.Nat.{ℕ, _+_}
 use denote.Ref.{RefT, now}
 use denote.Triple.Both.{Both}
 use mathlib.Core.Bool.{_&&_, not}
-use mathlib.Core.List.{List}
+use mathlib.Core.List.{List, map}
 use mathlib.Core.Path.{_≡_}
 use lib.Dec.{eqb, leb}
 use lib.IntN.{ℤ, pos}
@@ -29,12 +29,16 @@ use Rattle.usage.specs.declared.Usage.{Usage}
 use Rattle.sheet.specs.declared.Sheet.{Sheet}
 use Rattle.sheet.specs.Sheet.{FeedLeft, feedBy}
 use Rattle.run.specs.Runs.{Journal, no-journal, lent-journal, Given, given, RunReply, stopped, run-refused, CountedLeft, countedLeft, lentTo}
+use Rattle.page.specs.declared.Trims.{Trims}
+use Rattle.page.specs.declared.TrimAnswer.{TrimAnswer}
+use Rattle.page.specs.Pages.{PageGiven, PageLeft, pageLeft, lentPage}
 use Rattle.back.specs.Backs.{BackReply, gone-back, back-refused, BackGiven, BackLeft, backLeft, lentBack}
 use Rattle.replies.specs.declared.SisaLoad.{SisaLoad}
 use Rattle.replies.specs.declared.SisaSaved.{SisaSaved}
 use Rattle.replies.specs.declared.SisaAssembly.{SisaAssembly}
 use Rattle.replies.specs.declared.SisaRun.{SisaRun}
 use Rattle.replies.specs.declared.SisaAnswer.{SisaAnswer}
+use Rattle.replies.specs.declared.SisaPage.{SisaPage}
 use Rattle.replies.specs.declared.SisaBack.{SisaBack}
 use Rattle.replies.specs.declared.SisaInstruction.{SisaInstruction}
 use Rattle.replies.specs.declared.SisaWord.{SisaWord}
@@ -207,6 +211,42 @@ abbrev pub HostSteps : Both (RefT State) (RefT State) → Slice → Slice → Sl
 HostSteps state program memory inputs outputs log r =
     HostStepMeets (hostLent (now (state .entry)) (before program) (before memory) (before inputs) (before outputs) (before log)) r
     (hostLent (now (state .exit)) (after program) (after memory) (after inputs) (after outputs) (after log))
+
+-- ---- sisa_page_by_rules, sisa_page_by_table
+
+-- a trim's answer, with the page's refusal
+abbrev pub sisaAnswer : ℕ → TrimAnswer → SisaAnswer
+sisaAnswer refusal a =
+    record { refusal = refusal; stop = a .stop; steps = a .steps; entries = a .entries; ticks = a .ticks; usage = a .usage }
+
+-- All eight answers have the page's refusal: those of a refused page are 0 else, as are in an accepted one those past its trims (`pageLeft`).
+abbrev pub sisaPage : Verdict → Trims → List TrimAnswer → SisaPage
+sisaPage reply trims answers =
+    let k = verdictNumber reply in record { trims = trims; refusal = k; answers = map (sisaAnswer k) answers }
+
+pub record SisaPageLeft : Type 0 where
+  pub reply : SisaPage
+  pub P : List ℕ
+  pub D : List ℕ
+  pub I : List ℕ
+  pub O : List ℕ
+  pub log : List ℕ
+
+abbrev pub pageInNumbers : PageLeft → SisaPageLeft
+pageInNumbers l =
+    record { reply = sisaPage (l .reply) (record { states = l .states }) (l .answers); P = l .P; D = l .D; I = l .I; O = l .O; log = l .log }
+
+unfoldable pub sisaPageLeft : Stepper → PageGiven → SisaPageLeft
+sisaPageLeft v g = pageInNumbers (pageLeft v g)
+
+-- the contract of a page, where v is what its runs go by
+abbrev pub SisaPageMeets : Stepper → PageGiven → SisaPageLeft → Type 0
+SisaPageMeets v g l = l ≡ sisaPageLeft v g
+
+abbrev pub SisaPages : Stepper → Trims → ℕ → Slice → Slice → Slice → Slice → ℕ → Slice → SisaPage → Type 0
+SisaPages v trims count programs memories inputs outputs budget log r =
+    SisaPageMeets v (lentPage trims count programs memories inputs outputs budget log)
+    (record { reply = r; P = after programs; D = after memories; I = after inputs; O = after outputs; log = after log })
 
 -- ---- sisa_step_back
 

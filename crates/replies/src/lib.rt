@@ -6,12 +6,12 @@ ghost use Rattle.image.specs.Image.{shownLoading};
 ghost use Rattle.save.specs.Saved.{shownSaving};
 ghost use Rattle.assembler.specs.Passes.{shownAssembly};
 ghost use Rattle.panel.specs.Calls.{shownSetting, shownRaising};
-ghost use Rattle.run.specs.Runs.{shownAnswer};
+ghost use Rattle.run.specs.Runs.{shownAnswer, shownVerdict};
 ghost use Rattle.sheet.specs.Sheet.{shownFeeding};
 ghost use Rattle.back.specs.Backs.{shownGoing};
 ghost use Rattle.isa.specs.Instructions.{shownWriting};
 ghost use Rattle.isa.specs.Masks.{shownDecoded};
-ghost use Rattle.replies.specs.Sisa.{sisaLoad, sisaSaved, sisaAssembly, verdictNumber, sisaRun, sisaInstruction, sisaWord, sisaWrite, sisaFed, sisaBack, sisaRaised};
+ghost use Rattle.replies.specs.Sisa.{sisaLoad, sisaSaved, sisaAssembly, verdictNumber, sisaRun, sisaInstruction, sisaWord, sisaWrite, sisaFed, sisaBack, sisaRaised, sisaAnswer, sisaPage};
 use assembler::Assembly;
 use back::Backed;
 use back::Going;
@@ -22,11 +22,15 @@ use isa::Instruction;
 use isa::Reading;
 use isa::Writing;
 use machine::State;
+use page::Paged;
+use page::TrimAnswer;
+use page::Trims;
 use panel::Raised;
 use panel::Raising;
 use panel::Setting;
 use refusal::Refusal;
 use run::Answer;
+use run::Check;
 use run::Counted;
 use save::Saved;
 use save::Saving;
@@ -60,6 +64,13 @@ pub struct SisaAnswer {
     pub entries: u64,
     pub ticks: u64,
     pub usage: Usage,
+}
+
+#[repr(C)]
+pub struct SisaPage {
+    pub trims: Trims,
+    pub refusal: u8,
+    pub answers: [SisaAnswer; 8],
 }
 
 #[repr(C)]
@@ -217,6 +228,54 @@ pub fn run(ran: Counted) -> SisaRun
             ticks: ran.ticks,
             usage,
         },
+    }
+}
+
+fn check(check: Check) -> u8
+    ensures { λ r. ⌜ r ≡ verdictNumber (shownVerdict check) ⌝ }
+{
+    match check {
+        Check::Accepted => 0,
+        Check::Refused(refusal) => refusal::number(refusal),
+    }
+}
+
+// A trim's answer, with the page's refusal.
+fn answer(refusal: u8, answer: TrimAnswer) -> SisaAnswer
+    ensures { λ r. ⌜ r ≡ sisaAnswer refusal answer ⌝ }
+{
+    let usage = answer.usage;
+    SisaAnswer {
+        refusal,
+        stop: answer.stop,
+        steps: answer.steps,
+        entries: answer.entries as u64,
+        ticks: answer.ticks,
+        usage,
+    }
+}
+
+pub fn page(paged: Paged) -> SisaPage
+    ensures { λ r. ⌜ r ≡ sisaPage (shownVerdict (paged .check)) (paged .trims) (paged .answers) ⌝ }
+{
+    let trims = paged.trims;
+    let checked = paged.check;
+    let given = paged.answers;
+    let refusal = check(checked);
+    let answers = [
+        answer(refusal, given[0]),
+        answer(refusal, given[1]),
+        answer(refusal, given[2]),
+        answer(refusal, given[3]),
+        answer(refusal, given[4]),
+        answer(refusal, given[5]),
+        answer(refusal, given[6]),
+        answer(refusal, given[7]),
+    ];
+    SisaPage {
+        trims,
+        refusal,
+        answers,
     }
 }
 

@@ -23,9 +23,9 @@ use Rattle.run.proofs.Journals.{is-started}
 -- ---- The machines of a trace
 
 -- a run from m that ends with z and has the trace ms
-record Traced (v : Stepper) (budget : ℕ) (m : Machine) (z : Outcome) (ms : List Machine) : Type 0 where
-  few : length ms ≤ budget
-  grew : Lawful v → z .after .state .n ≡ m .state .n + length ms
+pub record Traced (v : Stepper) (budget : ℕ) (m : Machine) (z : Outcome) (ms : List Machine) : Type 0 where
+  pub few : length ms ≤ budget
+  pub grew : Lawful v → z .after .state .n ≡ m .state .n + length ms
 
 goes : (full : Bool) (x : Next) {next : Machine} → unless full x ≡ to next → x ≡ to next
 goes full (cannot q) e = e
@@ -49,14 +49,14 @@ traced v (suc budget) full m = go (traced v budget full) (unless (noPlace v full
         }
 
 -- no count is over the number of machines
-trace-most : (ms : List Machine) → AtMost (length ms) (usageOf ms)
+pub trace-most : (ms : List Machine) → AtMost (length ms) (usageOf ms)
 unfolding usageOf
 trace-most [] = unused-most
 trace-most (m ∷ ms) = let one : length ms + 1 ≡ suc (length ms) = omega arith in subst (λ n. AtMost n (usageOf (m ∷ ms))) one (step-most m (trace-most ms))
 
 -- ---- A run
 
-traced-on : (v : Stepper) (g : Given) → Traced v (allowed g) (machineAt g) (outcomeOn v g) (traceOn v g)
+pub traced-on : (v : Stepper) (g : Given) → Traced v (allowed g) (machineAt g) (outcomeOn v g) (traceOn v g)
 traced-on v g = traced v (allowed g) _ (machineAt g)
 
 -- the reported steps are as many as the machines of the trace

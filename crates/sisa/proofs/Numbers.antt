@@ -13,13 +13,17 @@ use Rattle.save.specs.Saved.{SaveReply, SaveGiven, SaveLeft, saveLeft}
 use Rattle.assembler.specs.Text.{Reply, AssembleLeft, assembleLeft}
 use Rattle.usage.specs.declared.Usage.{Usage}
 use Rattle.run.specs.Runs.{Journal, Given, left, RunReply, CountedMeets}
+use Rattle.page.specs.declared.Trims.{Trims}
+use Rattle.page.specs.declared.TrimAnswer.{TrimAnswer}
+use Rattle.page.specs.Pages.{PageGiven, PageMeets}
 use Rattle.back.specs.Backs.{BackReply, BackGiven, BackLeft, backLeft}
 use Rattle.replies.specs.declared.SisaLoad.{SisaLoad}
 use Rattle.replies.specs.declared.SisaSaved.{SisaSaved}
 use Rattle.replies.specs.declared.SisaAssembly.{SisaAssembly}
 use Rattle.replies.specs.declared.SisaRun.{SisaRun}
+use Rattle.replies.specs.declared.SisaPage.{SisaPage}
 use Rattle.replies.specs.declared.SisaBack.{SisaBack}
-use Rattle.replies.specs.Sisa.{sisaLoad, SisaLoadLeft, loadInNumbers, sisaLoadLeft, sisaSaved, SisaSaveLeft, saveInNumbers, sisaSaveLeft, sisaAssembly, SisaAssembleLeft, assemblyInNumbers, sisaAssembleLeft, verdictNumber, SisaSetLeft, setInNumbers, sisaSetLeft, sisaRun, sisaLeft, runInNumbers, sisaRunLeft, SisaRunMeets, sisaBack, SisaBackLeft, backInNumbers, sisaBackLeft}
+use Rattle.replies.specs.Sisa.{sisaLoad, SisaLoadLeft, loadInNumbers, sisaLoadLeft, sisaSaved, SisaSaveLeft, saveInNumbers, sisaSaveLeft, sisaAssembly, SisaAssembleLeft, assemblyInNumbers, sisaAssembleLeft, verdictNumber, SisaSetLeft, setInNumbers, sisaSetLeft, sisaRun, sisaLeft, runInNumbers, sisaRunLeft, SisaRunMeets, sisaPage, pageInNumbers, sisaPageLeft, SisaPageMeets, sisaBack, SisaBackLeft, backInNumbers, sisaBackLeft}
 
 -- the board that a number names
 pub board-load : (file P D I O : List ℕ) {b b′ : Board} {l : LoadLeft} → b ≡ b′
@@ -61,6 +65,13 @@ pub run-meets : (v : Stepper) (g : Given) {reply : RunReply} {state : State} {P 
     → SisaRunMeets v g (sisaLeft r P D I O log journal)
 unfolding sisaRunLeft
 run-meets v g e h = rw h (ap runInNumbers e)
+
+pub page-meets : (v : Stepper) (g : PageGiven) {reply : Verdict} {trims : Trims} {answers : List TrimAnswer} {P D I O log : List ℕ} {r : SisaPage}
+    → PageMeets v g (record { reply = reply; states = trims .states; answers = answers; P = P; D = D; I = I; O = O; log = log })
+    → r ≡ sisaPage reply trims answers
+    → SisaPageMeets v g (record { reply = r; P = P; D = D; I = I; O = O; log = log })
+unfolding sisaPageLeft
+page-meets v g e h = rw h (ap pageInNumbers e)
 
 pub back-meets : (g : BackGiven) {reply : BackReply} {state : State} {P D I O journal : List ℕ} {r : SisaBack}
     → _≡_ {A = BackLeft} (record { reply = reply; state = state; P = P; D = D; I = I; O = O; journal = journal }) (backLeft g)

@@ -4,14 +4,16 @@ ghost use mathlib.Core.Path.{_≡_};
 ghost use Rattle.machine.specs.Run.{byRules};
 ghost use Rattle.control.specs.Control.{byTable};
 ghost use Rattle.isa.specs.Masks.{decodingOf};
-ghost use Rattle.replies.specs.Sisa.{SisaLoads, SisaSaves, SisaAssembles, SisaSets, SisaRuns, SisaRunsJournaled, SisaGoesBack, sisaInstruction, sisaWrite, sisaFeed, sisaRaise, SisaShows};
+ghost use Rattle.replies.specs.Sisa.{SisaLoads, SisaSaves, SisaAssembles, SisaSets, SisaRuns, SisaRunsJournaled, SisaPages, SisaGoesBack, sisaInstruction, sisaWrite, sisaFeed, sisaRaise, SisaShows};
 use machine::Port;
 use machine::State;
+use page::Trims;
 use replies::SisaAssembly;
 use replies::SisaBack;
 use replies::SisaFed;
 use replies::SisaInstruction;
 use replies::SisaLoad;
+use replies::SisaPage;
 use replies::SisaRaised;
 use replies::SisaRun;
 use replies::SisaSaved;
@@ -155,6 +157,58 @@ pub extern "C" fn sisa_run_by_table_with_journal(
         journal,
     );
     replies::run(ran)
+}
+
+#[no_mangle]
+pub extern "C" fn sisa_page_by_rules(
+    trims: Trims,
+    count: u8,
+    programs: &[u8],
+    memories: &mut [u8],
+    inputs: &mut [u16],
+    outputs: &mut [u16],
+    budget: u32,
+    log: &mut [u64],
+) -> SisaPage
+    ensures { λ r. ⌜ SisaPages byRules trims count programs memories inputs outputs budget log r ⌝ }
+{
+    let paged = page::page_by_rules(
+        trims,
+        count,
+        programs,
+        memories,
+        inputs,
+        outputs,
+        budget,
+        log,
+    );
+    replies::page(paged)
+}
+
+#[no_mangle]
+pub extern "C" fn sisa_page_by_table(
+    trims: Trims,
+    count: u8,
+    programs: &[u8],
+    memories: &mut [u8],
+    inputs: &mut [u16],
+    outputs: &mut [u16],
+    budget: u32,
+    log: &mut [u64],
+) -> SisaPage
+    ensures { λ r. ⌜ SisaPages byTable trims count programs memories inputs outputs budget log r ⌝ }
+{
+    let paged = page::page_by_table(
+        trims,
+        count,
+        programs,
+        memories,
+        inputs,
+        outputs,
+        budget,
+        log,
+    );
+    replies::page(paged)
 }
 
 #[no_mangle]

@@ -9,6 +9,7 @@ mod files;
 mod host;
 mod keys;
 mod knobs;
+mod pages;
 mod runs;
 mod saves;
 mod tables;
@@ -19,6 +20,7 @@ pub use calls::lines;
 pub use files::file;
 pub use keys::key_file;
 pub use knobs::knob_file;
+pub use pages::{trim_file, trims};
 pub use tables::{file as table_file, lines as table_lines, table};
 
 use std::fmt;

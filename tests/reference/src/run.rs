@@ -164,21 +164,33 @@ impl Returned {
 pub(crate) fn admit(state: State, lent: Lent<'_>) -> Result<Places<'_>, u8> {
     // "1 | P or D not 65,536 bytes, or I or O not 256 words"
     let places = Places::of(lent).ok_or(1)?;
-    // "5 | PC odd"; L12: "An odd return address is refused like an odd PC."
+    not_odd(&state)?;
+    Ok(places)
+}
+
+/// "5 | PC odd"; L12: "An odd return address is refused like an odd PC."
+fn not_odd(state: &State) -> Result<(), u8> {
     match (state.pc % 2, state.return_address % 2) {
-        (0, 0) => Ok(places),
+        (0, 0) => Ok(()),
         _ => Err(5),
+    }
+}
+
+/// The tests of a run's state, 5 and 6.
+pub(crate) fn admit_state(state: &State, budget: u32) -> Result<(), u8> {
+    not_odd(state)?;
+    // "6 | n plus budget over 4,294,967,295"
+    match u64::from(state.n) + u64::from(budget) {
+        0..=4_294_967_295 => Ok(()),
+        _ => Err(6),
     }
 }
 
 /// The tests of the refusal table, "run 1, 5, 6": the places, or the number.
 fn admit_run(state: State, lent: Lent<'_>, budget: u32) -> Result<Places<'_>, u8> {
     let places = admit(state, lent)?;
-    // "6 | n plus budget over 4,294,967,295"
-    match u64::from(state.n) + u64::from(budget) {
-        0..=4_294_967_295 => Ok(places),
-        _ => Err(6),
-    }
+    admit_state(&state, budget)?;
+    Ok(places)
 }
 
 /// "A run gets a state, the memories and ports, a 32-bit budget and a log of
@@ -265,6 +277,9 @@ fn counted(
     }
     returned
 }
+
+/// A run by either engine.
+pub type RunBy = fn(State, Lent, u32, &mut [u64], Journal) -> Returned;
 
 /// A run by the rules, with a journal or none, its counts and ticks.
 pub fn run_by_rules(

@@ -29,6 +29,16 @@ impl Default for Usage {
 }
 
 impl Usage {
+    /// These counts and those of a run that went on from there.
+    pub fn and(mut self, more: Usage) -> Usage {
+        let kinds = self.kinds.iter_mut().chain([&mut self.taken]);
+        let all = kinds.chain(&mut self.reads).chain(&mut self.writes);
+        let kinds = more.kinds.iter().chain([&more.taken]);
+        let added = kinds.chain(&more.reads).chain(&more.writes);
+        all.zip(added).for_each(|(count, x)| *count += x);
+        self
+    }
+
     /// Counts a step on this word, "a register once a step by its masks". An
     /// unassigned word, on which there is no step, adds nothing.
     pub fn count(&mut self, w: u16) {

@@ -9,7 +9,7 @@ mod ffi;
 #[path = "../../../bench/assembling/src/texts.rs"]
 mod texts;
 
-use ffi::{Lent, Sheet, State, Usage};
+use ffi::{Lent, Sheet, State, Trims, Usage};
 use std::thread;
 
 const STACK_BYTES: usize = 128 * 1024;
@@ -197,6 +197,24 @@ fn with_lines() -> (World, State) {
     (world, state)
 }
 
+/// A page of eight trims.
+fn page(export: &'static str, page: fn(Trims, u8, u32, &mut Lent) -> ffi::Page) -> Call {
+    let one = World::with_every_kind();
+    let mut eight = World {
+        program: one.program.repeat(8),
+        memory: one.memory.repeat(8),
+        inputs: one.inputs.repeat(8),
+        outputs: one.outputs.repeat(8),
+        log: one.log,
+    };
+    call(export, "8 trims, every kind", move || {
+        let trims = Trims { states: [RESET; 8] };
+        let reply = page(trims, 8, LONG_RUN, &mut eight.lent());
+        let steps: u32 = reply.answers.iter().map(|answer| answer.steps).sum();
+        (reply.refusal, steps) == (0, LONG_RUN)
+    })
+}
+
 fn by_rules_with_journal(state: State, budget: u32, lent: &mut Lent) -> ffi::Run {
     ffi::run_by_rules_with_journal(state, budget, lent, &mut vec![0; budget as usize])
 }
@@ -300,6 +318,8 @@ fn calls() -> Vec<Call> {
     all.extend(runs("sisa_run_by_table", ffi::run_by_table));
     all.extend(runs("sisa_run_by_rules_with_journal", by_rules_with_journal));
     all.extend(runs("sisa_run_by_table_with_journal", by_table_with_journal));
+    all.push(page("sisa_page_by_rules", ffi::page_by_rules));
+    all.push(page("sisa_page_by_table", ffi::page_by_table));
     all.extend([back(100, 1), back(LONG_RUN, LONG_RUN.into()), back_over_lines()]);
     all.extend(host_steps());
     all.push(feeding());

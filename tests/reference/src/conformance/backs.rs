@@ -5,9 +5,8 @@ use super::knobs::{is_of_knobs, lines_line};
 use super::runs::numbers_of_returned;
 use super::{number, Call};
 use crate::back::{step_back, Back};
-use crate::journal::Journal;
-use crate::machine::{Lent, State, PORTS};
-use crate::run::{run_by_rules, run_by_table, Returned};
+use crate::machine::PORTS;
+use crate::run::{run_by_rules, run_by_table, RunBy};
 
 /// Which calls a case makes with a journal.
 pub struct Calls {
@@ -26,9 +25,6 @@ pub const GOING_BACK: Calls = Calls {
     sets: 1,
     ports: 256,
 };
-
-/// A run by either engine.
-type RunBy = fn(State, Lent, u32, &mut [u64], Journal) -> Returned;
 
 /// "the journal lent is its first 8 + number(c, 7) mod 200 places", or "where
 /// number(c, q + 3) mod 16 is 4", "its first number(c, q + 4) mod 8 places".

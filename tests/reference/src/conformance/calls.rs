@@ -29,6 +29,7 @@ pub fn lines() -> Vec<String> {
     lines.extend(host.keys());
     lines.extend(host.boards());
     lines.extend(host.knobs());
+    lines.extend(host.pages());
     lines
 }
 

@@ -42,7 +42,7 @@ pub fn numbers_of_returned(returned: &Returned) -> String {
 }
 
 /// "The digest of counts"
-fn digest(counts: Usage) -> u64 {
+pub fn digest(counts: Usage) -> u64 {
     let mut digest = Digest::default();
     digest.take_halves(&counts.kinds);
     digest.take_halves(&[counts.taken]);

@@ -107,6 +107,22 @@ impl Run {
     }
 }
 
+/// `SisaTrims`
+#[repr(C)]
+#[derive(Clone, Copy, Debug, PartialEq, Eq)]
+pub struct Trims {
+    pub states: [State; 8],
+}
+
+/// `SisaPage`
+#[repr(C)]
+#[derive(Clone, Copy, Debug, PartialEq, Eq)]
+pub struct Page {
+    pub trims: Trims,
+    pub refusal: u8,
+    pub answers: [Answer; 8],
+}
+
 /// `SisaRaised`
 #[repr(C)]
 #[derive(Clone, Copy, Debug, PartialEq, Eq)]
@@ -205,6 +221,23 @@ type JournaledExport = unsafe extern "C" fn(
     *mut u64,
     usize,
 ) -> Run;
+
+/// The arguments of a page by either engine.
+type PageExport = unsafe extern "C" fn(
+    Trims,
+    u8,
+    *const u8,
+    usize,
+    *mut u8,
+    usize,
+    *mut u16,
+    usize,
+    *mut u16,
+    usize,
+    u32,
+    *mut u64,
+    usize,
+) -> Page;
 
 #[link(name = "sisa", kind = "static")]
 extern "C" {
@@ -309,6 +342,36 @@ extern "C" {
         log: *mut u64,
         log_len: usize,
     ) -> Answer;
+    fn sisa_page_by_rules(
+        trims: Trims,
+        count: u8,
+        programs: *const u8,
+        programs_len: usize,
+        memories: *mut u8,
+        memories_len: usize,
+        inputs: *mut u16,
+        inputs_len: usize,
+        outputs: *mut u16,
+        outputs_len: usize,
+        budget: u32,
+        log: *mut u64,
+        log_len: usize,
+    ) -> Page;
+    fn sisa_page_by_table(
+        trims: Trims,
+        count: u8,
+        programs: *const u8,
+        programs_len: usize,
+        memories: *mut u8,
+        memories_len: usize,
+        inputs: *mut u16,
+        inputs_len: usize,
+        outputs: *mut u16,
+        outputs_len: usize,
+        budget: u32,
+        log: *mut u64,
+        log_len: usize,
+    ) -> Page;
     fn sisa_raise(state: State, line: u8) -> Raised;
     fn sisa_feed(sheet: Sheet, run_refusal: u8, usage: Usage) -> Fed;
     fn sisa_read(word: u16) -> Instruction;
@@ -473,6 +536,37 @@ pub fn host_step(state: &mut State, lent: &mut Lent) -> Answer {
             lent.inputs.len(),
             lent.outputs.as_mut_ptr(),
             lent.outputs.len(),
+            lent.log.as_mut_ptr(),
+            lent.log.len(),
+        )
+    }
+}
+
+/// Memories and ports of `lent` are the trims' joined.
+pub fn page_by_rules(trims: Trims, count: u8, budget: u32, lent: &mut Lent) -> Page {
+    page(sisa_page_by_rules, trims, count, budget, lent)
+}
+
+pub fn page_by_table(trims: Trims, count: u8, budget: u32, lent: &mut Lent) -> Page {
+    page(sisa_page_by_table, trims, count, budget, lent)
+}
+
+fn page(export: PageExport, trims: Trims, count: u8, budget: u32, lent: &mut Lent) -> Page {
+    // SAFETY: pointers and lengths are those of slices that don't overlap, and
+    // the caller is one of the two functions above.
+    unsafe {
+        export(
+            trims,
+            count,
+            lent.program.as_ptr(),
+            lent.program.len(),
+            lent.memory.as_mut_ptr(),
+            lent.memory.len(),
+            lent.inputs.as_mut_ptr(),
+            lent.inputs.len(),
+            lent.outputs.as_mut_ptr(),
+            lent.outputs.len(),
+            budget,
             lent.log.as_mut_ptr(),
             lent.log.len(),
         )

@@ -14,6 +14,7 @@ mod lines;
 mod lists;
 mod make;
 mod masks;
+mod pages;
 #[path = "../shared/random.rs"]
 mod random;
 #[path = "../shared/registers.rs"]

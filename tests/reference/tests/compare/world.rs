@@ -37,6 +37,38 @@ impl Lengths {
             journal: 0,
         }
     }
+
+    /// The right lengths for so many trims joined.
+    pub fn joined(trims: usize, log: usize) -> Lengths {
+        Lengths {
+            program: trims * 65_536,
+            memory: trims * 65_536,
+            inputs: trims * 256,
+            outputs: trims * 256,
+            log,
+            journal: 0,
+        }
+    }
+
+    /// Whether they are right for so many trims.
+    pub fn are_joined(&self, trims: usize) -> bool {
+        let bytes = [self.program, self.memory] == [trims * 65_536; 2];
+        bytes && [self.inputs, self.outputs] == [trims * 256; 2]
+    }
+
+    /// Makes one of them one less or more.
+    pub fn one_off(&mut self, random: &mut Random) {
+        let length = match random.below(4) {
+            0 => &mut self.program,
+            1 => &mut self.memory,
+            2 => &mut self.inputs,
+            _ => &mut self.outputs,
+        };
+        match random.below(2) {
+            0 => *length -= 1,
+            _ => *length += 1,
+        }
+    }
 }
 
 #[derive(Clone, PartialEq, Eq)]
@@ -52,9 +84,14 @@ pub struct World {
 impl World {
     /// Random content, the program nearly all assigned words.
     pub fn random(random: &mut Random) -> World {
+        World::joined(random, 1)
+    }
+
+    /// The same for so many trims.
+    pub fn joined(random: &mut Random, trims: usize) -> World {
         // A memory can be lent with one element too many.
-        let bytes = 2 * GUARD + 65_538;
-        let words = 2 * GUARD + 257;
+        let bytes = 2 * GUARD + trims * 65_536 + 2;
+        let words = 2 * GUARD + trims * 256 + 1;
         World {
             program: (0..bytes / 2)
                 .flat_map(|_| program_word(random).to_le_bytes())

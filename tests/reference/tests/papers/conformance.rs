@@ -5,6 +5,7 @@ mod backs;
 mod boards;
 mod keys;
 mod knobs;
+mod pages;
 mod sheets;
 
 use reference::conformance::{file, lines, number, table, table_lines, Digest};

@@ -15,6 +15,7 @@ mod lines;
 mod listing;
 mod marked;
 mod masks;
+mod pages;
 mod printed;
 #[path = "../shared/random.rs"]
 mod random;

@@ -1,0 +1,14 @@
+pub mod Allowance
+pub mod Alone
+pub mod Before
+pub mod Ends
+pub mod Firsts
+pub mod OneWord
+pub mod Own
+pub mod Pages
+pub mod Parts
+pub mod Refusals
+pub mod Rounds
+pub mod Rows
+pub mod Turns
+pub mod TwoTrims
