@@ -1,7 +1,8 @@
 /* The engines of libsisa.a beside a plain C interpreter (plain.c) and a faster one (flat.c), and its save beside plain C
    (save.c), in one process. All count what a run uses, but for the plain interpreter compiled a second time (uncounted.c). Runs
    with a journal (journaled.c, journaled_flat.c) and steps back (back.c) are beside those of C too, and a page beside the runs that it
-   is. All test for a line to be taken at every step; none is pending in a timed run, and a run that takes lines is compared beforehand.
+   is. All test for a line to be taken at every step and for locked bytes at every load and store; none is pending and none locked in
+   a timed run; a run that takes lines, and one that stops at a locked byte and its save, are compared beforehand.
 
    Time is the CPU time of this process, so that being scheduled out does not count. All engines are lent the same
    buffers, which are made anew before each timed run (memory and inputs as the workload says, outputs and log zero), so
@@ -36,6 +37,7 @@ enum {
     PART_PLACES = SHARE / STEPS_PER_OUT + 1, /* of its log */
     LATE_STEPS = 100000,    /* the end of the random program's run, where the addresses are counted */
     RANDOM_SEED = 251,
+    LOCKED_BYTE = 1000,     /* where a run that is compared stops */
     C = 0,                  /* the engine, and the save, that the others are compared with */
     RULES = 2,
     TABLE,
@@ -107,7 +109,6 @@ typedef struct {
     SisaSaved reply;
 } Saved;
 
-static const SisaState reset;
 static Workload load;
 static Lent lent, expected;
 static uint8_t programs[TRIMS * MEMORY_BYTES];
@@ -213,7 +214,8 @@ static int same_state(const SisaState *x, const SisaState *y)
 {
     return memcmp(x->r, y->r, sizeof x->r) == 0 && x->pc == y->pc && x->n == y->n && x->journaled == y->journaled
         && x->board == y->board && x->enabled == y->enabled && x->pending == y->pending && x->line == y->line
-        && x->return_address == y->return_address;
+        && x->return_address == y->return_address && x->locked == y->locked && x->first_locked == y->first_locked
+        && x->last_locked == y->last_locked;
 }
 
 static int same_reply(const SisaRun *x, const SisaRun *y)
@@ -536,7 +538,7 @@ static double timed_saves(int saver)
     memset(saved.destination, 0xFF, FILE_BYTES);
     double start = now();
     for (int i = 0; i < SAVES; i++)
-        saved.reply = savers[saver].save(reset, load.program, MEMORY_BYTES, load.memory, MEMORY_BYTES, saved.destination,
+        saved.reply = savers[saver].save(load.start, load.program, MEMORY_BYTES, load.memory, MEMORY_BYTES, saved.destination,
                                          FILE_BYTES);
     double end = now();
     return (end - start) / SAVES;
@@ -646,6 +648,29 @@ static void check_lines(void)
     in_rounds(times, CALLED, 1, 1, timed_calls, check_run);
 }
 
+/* A run that stops at a locked byte, by all engines, and a save that leaves it as zero. */
+static void check_locked(void)
+{
+    loads_and_stores(&load);
+    load.start.locked = 1;
+    load.start.first_locked = load.start.last_locked = LOCKED_BYTE;
+    for (int engine = C; engine < ENGINES; engine++) {
+        clear(1);
+        lent.reply = run(engine, load.start, COUNTED_STEPS);
+        if (engine == C)
+            keep_as_expected();
+        check_run(engine);
+    }
+    if (expected.reply.stop != 4) {
+        fprintf(stderr, "%s: C did not stop at the locked byte\n", load.name);
+        exit(1);
+    }
+    timed_saves(C);
+    expected_save = saved;
+    timed_saves(LIBRARY);
+    check_save(LIBRARY);
+}
+
 /* The first table, and what counting costs C. */
 static void print_steps(void)
 {
@@ -719,16 +744,21 @@ static void count_others(const char *what, int kinds, int steps)
     }
 }
 
-/* One run of each engine on each workload, then calls with budget 1. */
+static void count_workload(void (*make)(Workload *))
+{
+    make(&load);
+    count_forms(load.name, COUNTED_STEPS);
+    count_others(load.name, ENGINES, COUNTED_STEPS);
+}
+
+/* One run of each engine on each workload and on one with a range locked, then calls with budget 1. */
 static void run_all_counted(void)
 {
     repeat.budget = COUNTED_STEPS;
     repeat.calls = 1;
-    for (int i = 0; i < WORKLOADS; i++) {
-        workloads[i](&load);
-        count_forms(load.name, COUNTED_STEPS);
-        count_others(load.name, ENGINES, COUNTED_STEPS);
-    }
+    for (int i = 0; i < WORKLOADS; i++)
+        count_workload(workloads[i]);
+    count_workload(loads_beside_range);
     mix(&load);
     repeat.budget = 1;
     repeat.calls = COUNTED_CALLS;
@@ -753,6 +783,7 @@ int main(int argc, char **argv)
         return 0;
     }
     check_lines();
+    check_locked();
     if (strcmp(what, "calls") == 0) {
         mix(&load);
         print_call_costs();

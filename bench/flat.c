@@ -25,6 +25,7 @@ static SisaRun run_accepted(SisaState state, const uint8_t *restrict program, ui
     uint32_t steps = 0;
     size_t entries = 0;
     uint8_t stop = 0;
+    const Range range = range_of(&state);
     budget = allowed(budget, state.journaled, journal_len);
     memcpy(r, state.r, sizeof r);
     while (steps < budget) {
@@ -48,10 +49,18 @@ static SisaRun run_accepted(SisaState state, const uint8_t *restrict program, ui
         case CASE(1, 4): PUT_REGISTER(D, r[A] < r[B]); COUNT(CMPLTU, A, B, D); break;
         case CASE(1, 5): PUT_REGISTER(D, r[A] <= r[B]); COUNT(CMPLEU, A, B, D); break;
         case ANY_F(2): PUT_REGISTER(B, ADDRESS); COUNT(ADDI, A, NONE, B); break;
-        case ANY_F(3): PUT_REGISTER(B, load_word(memory, ADDRESS)); COUNT(LD, A, NONE, B); break;
-        case ANY_F(4): PUT_WORD(ADDRESS, r[B]); COUNT(ST, A, B, NONE); break;
-        case ANY_F(5): PUT_REGISTER(B, extend8(memory[ADDRESS])); COUNT(LDB, A, NONE, B); break;
-        case ANY_F(6): PUT_BYTE(ADDRESS, r[B]); COUNT(STB, A, B, NONE); break;
+        case ANY_F(3):
+            if (LOCKED_WORD(ADDRESS)) { stop = 4; goto stopped; }
+            PUT_REGISTER(B, load_word(memory, ADDRESS)); COUNT(LD, A, NONE, B); break;
+        case ANY_F(4):
+            if (LOCKED_WORD(ADDRESS)) { stop = 4; goto stopped; }
+            PUT_WORD(ADDRESS, r[B]); COUNT(ST, A, B, NONE); break;
+        case ANY_F(5):
+            if (LOCKED_BYTE(ADDRESS)) { stop = 4; goto stopped; }
+            PUT_REGISTER(B, extend8(memory[ADDRESS])); COUNT(LDB, A, NONE, B); break;
+        case ANY_F(6):
+            if (LOCKED_BYTE(ADDRESS)) { stop = 4; goto stopped; }
+            PUT_BYTE(ADDRESS, r[B]); COUNT(STB, A, B, NONE); break;
         case ANY_F(7): target = r[A] & 0xFFFE; PUT_REGISTER(B, next); next = target; COUNT(JALR, A, NONE, B); break;
         case ANY_F(8):
             PUT_NOTHING(); if ((r[A] == 0) != E) next = (uint16_t)(next + 2 * extend8(w));

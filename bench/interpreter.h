@@ -44,6 +44,23 @@ static inline uint16_t high_unsigned(uint16_t a, uint16_t b) { return (uint16_t)
 /* The low 16 bits of a signed quotient, rounded toward zero; b is not 0. */
 static inline uint16_t divide_signed(uint16_t a, uint16_t b) { return (uint16_t)((int16_t)a / (int16_t)b); }
 
+/* The locked bytes of data memory, first to last; where there are none, first is past the memory. */
+typedef struct {
+    uint32_t first, last;
+} Range;
+
+static inline Range range_of(const SisaState *state)
+{
+    int none = state->locked == 0 || state->first_locked > state->last_locked;
+    return none ? (Range){ MEMORY_BYTES, 0 } : (Range){ state->first_locked, state->last_locked };
+}
+
+/* One of the bytes from `at` to `end` is locked. */
+static inline int is_locked(Range range, uint16_t at, uint16_t end)
+{
+    return __builtin_expect(end >= range.first, 0) && at <= range.last;
+}
+
 /* Kinds by their number. */
 enum {
     AND, OR, XOR, NOT, ADD, SUB, SHA, SHL, CMPLT, CMPLE, CMPEQ, CMPLTU, CMPLEU, ADDI, LD, ST, LDB, STB, JALR, BZ, BNZ, MOVI,
@@ -128,6 +145,10 @@ static inline void take(SisaState *state, unsigned line, uint16_t pc)
 #define TAKES_LINE __builtin_expect(state.enabled != 0 && state.pending != 0, 0)
 #define TAKE_LINE() \
     (PUT_TAKEN((unsigned)__builtin_ctz(state.pending)), usage.taken += COUNTING, pc = 0x0100, steps++)
+
+/* A load or store of run_accepted touches a locked byte of the word or byte at an address. */
+#define LOCKED_WORD(at) is_locked(range, (at) & 0xFFFE, (at) | 1)
+#define LOCKED_BYTE(at) is_locked(range, at, at)
 
 /* The steps that a run may take: a full journal counts as a used budget. */
 static inline uint32_t allowed(uint32_t budget, uint64_t journaled, size_t journal_len)

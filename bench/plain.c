@@ -1,5 +1,6 @@
 /* The interpreter that the engines are measured against: a switch on the opcode, for opcodes 0, 1 and 11 one on f, the
-   registers in a local array, each word fetched from the program's bytes, and lines taken before that. */
+   registers in a local array, each word fetched from the program's bytes, lines taken before that, and loads and stores held to
+   the bytes that are not locked. */
 #include "interpreter.h"
 
 #include <string.h>
@@ -57,6 +58,7 @@ static SisaRun run_accepted(SisaState state, const uint8_t *restrict program, ui
     uint32_t steps = 0;
     size_t entries = 0;
     uint8_t stop = 0;
+    const Range range = range_of(&state);
     budget = allowed(budget, state.journaled, journal_len);
     memcpy(r, state.r, sizeof r);
     while (steps < budget) {
@@ -73,10 +75,18 @@ static SisaRun run_accepted(SisaState state, const uint8_t *restrict program, ui
             if ((x = compare(f, r[a], r[b])) < 0) { stop = 1; goto stopped; }
             PUT_REGISTER(d, x); count(&usage, CMPLT + f - (f > 2), a, b, d); break;
         case 2: PUT_REGISTER(b, ADDRESS); count(&usage, ADDI, a, NONE, b); break;
-        case 3: PUT_REGISTER(b, load_word(memory, ADDRESS)); count(&usage, LD, a, NONE, b); break;
-        case 4: PUT_WORD(ADDRESS, r[b]); count(&usage, ST, a, b, NONE); break;
-        case 5: PUT_REGISTER(b, extend8(memory[ADDRESS])); count(&usage, LDB, a, NONE, b); break;
-        case 6: PUT_BYTE(ADDRESS, r[b]); count(&usage, STB, a, b, NONE); break;
+        case 3:
+            if (LOCKED_WORD(ADDRESS)) { stop = 4; goto stopped; }
+            PUT_REGISTER(b, load_word(memory, ADDRESS)); count(&usage, LD, a, NONE, b); break;
+        case 4:
+            if (LOCKED_WORD(ADDRESS)) { stop = 4; goto stopped; }
+            PUT_WORD(ADDRESS, r[b]); count(&usage, ST, a, b, NONE); break;
+        case 5:
+            if (LOCKED_BYTE(ADDRESS)) { stop = 4; goto stopped; }
+            PUT_REGISTER(b, extend8(memory[ADDRESS])); count(&usage, LDB, a, NONE, b); break;
+        case 6:
+            if (LOCKED_BYTE(ADDRESS)) { stop = 4; goto stopped; }
+            PUT_BYTE(ADDRESS, r[b]); count(&usage, STB, a, b, NONE); break;
         case 7: x = r[a] & 0xFFFE; PUT_REGISTER(b, next); next = (uint16_t)x; count(&usage, JALR, a, NONE, b); break;
         case 8:
             PUT_NOTHING(); if ((r[a] == 0) != e) next = (uint16_t)(next + 2 * extend8(w));

@@ -75,14 +75,28 @@ void alu_loop(Workload *load)
     make(load, "ALU loop", words, sizeof words / sizeof *words, 1);
 }
 
-void loads_and_stores(Workload *load)
+/* The address grows by this each time. */
+static void make_loads(Workload *load, const char *name, int stride)
 {
-    static const uint16_t words[] = {
+    const uint16_t words[] = {
         MOVI(1, 1),
-        LD(2, 0, 0), LDB(3, 5, 0), ADD(4, 2, 3), ST(8, 0, 4), STB(-3, 0, 2), LD(5, 20, 0), ST(-10, 0, 5), ADDI(0, 0, 22),
+        LD(2, 0, 0), LDB(3, 5, 0), ADD(4, 2, 3), ST(8, 0, 4), STB(-3, 0, 2), LD(5, 20, 0), ST(-10, 0, 5), ADDI(0, 0, stride),
         BNZ(1, -9),
     };
-    make(load, "loads and stores", words, sizeof words / sizeof *words, 2);
+    make(load, name, words, sizeof words / sizeof *words, 2);
+}
+
+void loads_and_stores(Workload *load)
+{
+    make_loads(load, "loads and stores", 22);
+}
+
+void loads_beside_range(Workload *load)
+{
+    make_loads(load, "range locked", 0);
+    load->start.locked = 1;
+    load->start.first_locked = 0x8000;
+    load->start.last_locked = 0xBFFF;
 }
 
 void mix(Workload *load)

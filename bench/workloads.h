@@ -6,7 +6,8 @@
 enum { STEPS_PER_OUT = 16 };
 
 /* What a run starts from, beside outputs of 0. None of the programs ends by itself, and none does an OUT more often than
-   once in STEPS_PER_OUT steps. The state is a reset one, but for the lines that are pending. */
+   once in STEPS_PER_OUT steps. The state is a reset one, but for the lines that are pending and the range
+   that is locked. */
 typedef struct {
     const char *name;
     SisaState start;
@@ -20,6 +21,9 @@ void alu_loop(Workload *load);
 
 /* LD, ST, LDB and STB at an address that walks through the whole memory. */
 void loads_and_stores(Workload *load);
+
+/* The same at one address, with a range locked that it does not touch. */
+void loads_beside_range(Workload *load);
 
 /* Shifts, compares, branches that depend on data, a subroutine by JALR, IN and OUT. */
 void mix(Workload *load);

@@ -1,10 +1,11 @@
 /* A host in C: loads a trim, sets three inputs, runs it, shows the corrections, saves both memories and loads them again;
    then takes the first steps one by one, steps back from the end of a run and goes forward again; presses the key for a second
    trim, if one is named; runs a third, which changes its own code, on the single-memory board, if one is named; turns a knob for
-   a fourth, if one is named; runs the first and a fifth as a page, if one is named; and shows the usage sheet of it all.
+   a fourth, if one is named; runs the first and a fifth as a page, if one is named; locks bytes of a sixth, if one is named; and
+   shows the usage sheet of it all.
 
        gcc -O2 -Iinclude examples/host.c target/staticlib/libsisa.a -o target/host_c
-       target/host_c examples/gain.trim examples/key.trim examples/fanout.trim examples/knob.trim examples/endless.trim */
+       target/host_c examples/gain.trim examples/key.trim examples/fanout.trim examples/knob.trim examples/endless.trim examples/curve.trim */
 #include "sisa.h"
 
 #include <stdio.h>
@@ -14,6 +15,14 @@ enum { MEMORY_BYTES = 65536, PORTS = 256, LOG_PLACES = 64, BUDGET = 1000, HOST_S
 enum { TWO_MEMORIES = 0, SINGLE_MEMORY = 1 };
 enum { KNOB = 3, KNOB_PORT = 16, WAIT_STEPS = 10 };
 enum { TRIMS = 2, PART_PLACES = LOG_PLACES / TRIMS }; /* of a page */
+
+/* Bytes of data memory that a load locks, first to last; none where `locked` is 0. */
+typedef struct {
+    uint8_t locked;
+    uint16_t first, last;
+} Range;
+
+static const Range none, corrections = { 1, 16, 23 };
 
 static uint8_t file[16 + 2 * MEMORY_BYTES], program[MEMORY_BYTES], memory[MEMORY_BYTES];
 static uint16_t inputs[PORTS], outputs[PORTS];
@@ -54,24 +63,25 @@ static int refused(uint8_t refusal)
     return refusal != 0;
 }
 
-/* Reads a trim file and loads it for a board into these memories and ports. Returns 0 where it can't be read or is refused. */
+/* Reads a trim file and loads it for a board, with a range locked, into these memories and ports. Returns 0 where it can't be
+   read or is refused. */
 static int load_into(uint8_t *to_program, uint8_t *to_memory, uint16_t *to_inputs, uint16_t *to_outputs, const char *path,
-                     uint8_t board, SisaState *state)
+                     uint8_t board, Range range, SisaState *state)
 {
     long length = read_file(path);
     if (length < 0) {
         fprintf(stderr, "%s: no file of at most %zu bytes\n", path, sizeof file);
         return 0;
     }
-    SisaLoad loaded = sisa_load(file, (size_t)length, board, to_program, MEMORY_BYTES, to_memory, MEMORY_BYTES, to_inputs, PORTS,
-                                to_outputs, PORTS);
+    SisaLoad loaded = sisa_load(file, (size_t)length, board, range.locked, range.first, range.last, to_program, MEMORY_BYTES,
+                                to_memory, MEMORY_BYTES, to_inputs, PORTS, to_outputs, PORTS);
     *state = loaded.state;
     return !refused(loaded.refusal);
 }
 
-static int load(const char *path, uint8_t board, SisaState *state)
+static int load(const char *path, uint8_t board, Range range, SisaState *state)
 {
-    return load_into(program, memory, inputs, outputs, path, board, state);
+    return load_into(program, memory, inputs, outputs, path, board, range, state);
 }
 
 /* Port 0 is set before each run: reading port 1, the key's data, sets it to 0, also where the two are knobs. */
@@ -124,21 +134,26 @@ static int show_run(const char *title, const SisaRun *run)
     return show_lent(title, run, port_log, outputs);
 }
 
-/* Saves what the trim left and loads it, for the same board, into memories of its own. Returns 0 where one of the two is
-   refused. */
+/* Saves what the trim left and loads it, for the same board and with the same range, into memories of its own. Locked bytes are
+   zero then. Returns 0 where one of the two is refused. */
 static int save_and_load(SisaState state)
 {
-    static uint8_t saved_file[sizeof file], program_again[MEMORY_BYTES], memory_again[MEMORY_BYTES];
+    static uint8_t saved_file[sizeof file], program_again[MEMORY_BYTES], memory_again[MEMORY_BYTES], unlocked[MEMORY_BYTES];
     static uint16_t inputs_again[PORTS], outputs_again[PORTS];
     SisaSaved saved = sisa_save(state, program, sizeof program, memory, sizeof memory, saved_file, sizeof saved_file);
     if (refused(saved.refusal))
         return 0;
-    SisaLoad loaded = sisa_load(saved_file, saved.length, state.board, program_again, sizeof program_again, memory_again,
-                                sizeof memory_again, inputs_again, PORTS, outputs_again, PORTS);
+    SisaLoad loaded = sisa_load(saved_file, saved.length, state.board, state.locked, state.first_locked, state.last_locked,
+                                program_again, sizeof program_again, memory_again, sizeof memory_again, inputs_again, PORTS,
+                                outputs_again, PORTS);
     if (refused(loaded.refusal))
         return 0;
-    int same = memcmp(program_again, program, sizeof program) == 0 && memcmp(memory_again, memory, sizeof memory) == 0;
-    printf("saved %zu bytes, loaded again: %s memories\n", saved.length, same ? "equal" : "other");
+    memcpy(unlocked, memory, sizeof memory);
+    if (state.locked)
+        memset(unlocked + state.first_locked, 0, state.last_locked - state.first_locked + 1u);
+    int same = memcmp(program_again, program, sizeof program) == 0 && memcmp(memory_again, unlocked, sizeof memory) == 0;
+    printf("saved %zu bytes, loaded again: %s memories%s\n", saved.length, same ? "equal" : "other",
+           state.locked ? " but for the locked bytes, which are zero" : "");
     return 1;
 }
 
@@ -200,7 +215,7 @@ static void print_key(const char *title)
 static int press_key(const char *path)
 {
     SisaState state;
-    if (!load(path, TWO_MEMORIES, &state))
+    if (!load(path, TWO_MEMORIES, none, &state))
         return 0;
     sisa_set_input(inputs, PORTS, 0, 1);
     sisa_set_input(inputs, PORTS, 1, 65);
@@ -226,7 +241,7 @@ static void print_code(const char *title)
 static int change_code(const char *path)
 {
     SisaState state;
-    if (!load(path, SINGLE_MEMORY, &state))
+    if (!load(path, SINGLE_MEMORY, none, &state))
         return 0;
     set_level(inputs);
     print_code("single-memory board");
@@ -260,7 +275,7 @@ static int turn_knob(SisaState *state)
 static int wait_for_knob(const char *path)
 {
     SisaState state;
-    if (!load(path, TWO_MEMORIES, &state))
+    if (!load(path, TWO_MEMORIES, none, &state))
         return 0;
     SisaRun run = run_with_journal(state, WAIT_STEPS);
     if (!show_run("run by the table, with a journal", &run))
@@ -299,7 +314,7 @@ static int run_page(const char *const *paths)
     SisaTrims trims = { .states = { { .pc = 0 } } };
     for (int i = 0; i < TRIMS; i++)
         if (!load_into(programs + i * MEMORY_BYTES, memories + i * MEMORY_BYTES, page_inputs + i * PORTS,
-                       page_outputs + i * PORTS, paths[i], TWO_MEMORIES, &trims.states[i]))
+                       page_outputs + i * PORTS, paths[i], TWO_MEMORIES, none, &trims.states[i]))
             return 0;
     set_knobs(page_inputs);
     SisaPage page = sisa_page_by_table(trims, TRIMS, programs, sizeof programs, memories, sizeof memories, page_inputs,
@@ -310,6 +325,29 @@ static int run_page(const char *const *paths)
     for (int i = 0; i < TRIMS; i++)
         show_trim(i, &page, page_outputs);
     return 1;
+}
+
+/* How many bytes a window on data memory shows. */
+static void print_window(const SisaState *state, size_t start, size_t count)
+{
+    SisaWindow window = sisa_window(*state, program, sizeof program, memory, sizeof memory, 1, start, count);
+    printf("window on %zu bytes from %04zX: shows %zu\n", count, start, window.count);
+}
+
+/* Locks the corrections of a curve, which follow it in data memory. The run stops where the trim would read one, and neither a
+   window nor a saved file shows them. Returns 0 where a call is refused. */
+static int lock_corrections(const char *path)
+{
+    SisaState state;
+    if (!load(path, TWO_MEMORIES, corrections, &state))
+        return 0;
+    printf("locked: bytes %04X to %04X\n", state.first_locked, state.last_locked);
+    SisaRun run = run_with_journal(state, BUDGET);
+    if (!show_run("run by the table, with a journal", &run))
+        return 0;
+    print_window(&run.state, 0, corrections.first);
+    print_window(&run.state, corrections.first, corrections.last - corrections.first + 1u);
+    return save_and_load(run.state);
 }
 
 static void print_steps(const char *what, uint64_t steps)
@@ -338,17 +376,19 @@ static int show_others(int argc, char **argv)
         return 0;
     if (argc > 4 && !wait_for_knob(argv[4]))
         return 0;
-    return argc <= 5 || run_page((const char *const[TRIMS]){ argv[1], argv[5] });
+    if (argc > 5 && !run_page((const char *const[TRIMS]){ argv[1], argv[5] }))
+        return 0;
+    return argc <= 6 || lock_corrections(argv[6]);
 }
 
 int main(int argc, char **argv)
 {
-    if (argc < 2 || argc > 6) {
-        fprintf(stderr, "usage: %s FILE.trim [KEY.trim [FANOUT.trim [KNOB.trim [OTHER.trim]]]]\n", argv[0]);
+    if (argc < 2 || argc > 7) {
+        fprintf(stderr, "usage: %s FILE.trim [KEY.trim [FANOUT.trim [KNOB.trim [OTHER.trim [CURVE.trim]]]]]\n", argv[0]);
         return 2;
     }
     SisaState reset;
-    if (!load(argv[1], TWO_MEMORIES, &reset))
+    if (!load(argv[1], TWO_MEMORIES, none, &reset))
         return 1;
     set_knobs(inputs);
     SisaRun run = sisa_run_by_rules(reset, program, sizeof program, memory, sizeof memory, inputs, PORTS, outputs, PORTS, BUDGET,

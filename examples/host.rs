@@ -1,11 +1,11 @@
 //! A host in Rust: loads a trim, sets three inputs, runs it, shows the corrections, saves both memories and loads them
 //! again; then takes the first steps one by one, steps back from the end of a run and goes forward again; presses the
 //! key for a second trim, if one is named; runs a third, which changes its own code, on the single-memory board, if one
-//! is named; turns a knob for a fourth, if one is named; runs the first and a fifth as a page, if one is named; and
-//! shows the usage sheet of it all. It prints what host.c prints.
+//! is named; turns a knob for a fourth, if one is named; runs the first and a fifth as a page, if one is named; locks
+//! bytes of a sixth, if one is named; and shows the usage sheet of it all. It prints what host.c prints.
 //!
 //!     rustc --edition 2021 -O examples/host.rs -L target/staticlib -l static=sisa -o target/host_rs
-//!     target/host_rs examples/gain.trim examples/key.trim examples/fanout.trim examples/knob.trim examples/endless.trim
+//!     target/host_rs examples/gain.trim examples/key.trim examples/fanout.trim examples/knob.trim examples/endless.trim examples/curve.trim
 
 use std::process::ExitCode;
 
@@ -23,6 +23,9 @@ mod ffi {
         pub pending: u8,
         pub line: u8,
         pub return_address: u16,
+        pub locked: u8,
+        pub first_locked: u16,
+        pub last_locked: u16,
     }
 
     #[repr(C)]
@@ -68,6 +71,9 @@ mod ffi {
             pending: 0,
             line: 0,
             return_address: 0,
+            locked: 0,
+            first_locked: 0,
+            last_locked: 0,
         };
     }
 
@@ -133,10 +139,16 @@ mod ffi {
         pub refusal: u8,
     }
 
+    #[repr(C)]
+    pub struct Window {
+        pub start: usize,
+        pub count: usize,
+    }
+
     #[rustfmt::skip]
     unsafe extern "C" {
         pub fn sisa_load(
-            file: *const u8, file_len: usize, board: u8,
+            file: *const u8, file_len: usize, board: u8, locked: u8, first: u16, last: u16,
             program: *mut u8, program_len: usize, memory: *mut u8, memory_len: usize,
             inputs: *mut u16, inputs_len: usize, outputs: *mut u16, outputs_len: usize,
         ) -> Load;
@@ -171,6 +183,10 @@ mod ffi {
             inputs: *mut u16, inputs_len: usize, outputs: *mut u16, outputs_len: usize,
             log: *mut u64, log_len: usize,
         ) -> Answer;
+        pub fn sisa_window(
+            state: State, program: *const u8, program_len: usize, memory: *const u8, memory_len: usize,
+            of_data: u8, start: usize, count: usize,
+        ) -> Window;
         pub fn sisa_feed(sheet: Sheet, run_refusal: u8, usage: Usage) -> Fed;
     }
 }
@@ -188,6 +204,24 @@ const SINGLE_MEMORY: u8 = 1;
 const KNOB: u8 = 3;
 const KNOB_PORT: u8 = 16;
 const WAIT_STEPS: u32 = 10;
+/// Bytes of data memory that a load locks, first to last; none where `locked` is 0.
+#[derive(Clone, Copy)]
+struct Range {
+    locked: u8,
+    first: u16,
+    last: u16,
+}
+
+const NONE: Range = Range {
+    locked: 0,
+    first: 0,
+    last: 0,
+};
+const CORRECTIONS: Range = Range {
+    locked: 1,
+    first: 16,
+    last: 23,
+};
 /// No file that a save writes is longer.
 const FILE_BYTES: usize = 16 + 2 * MEMORY_BYTES;
 
@@ -264,7 +298,7 @@ struct Machine {
 }
 
 impl Machine {
-    fn load(file: &[u8], board: u8) -> Result<Machine, Refusal> {
+    fn load(file: &[u8], board: u8, range: Range) -> Result<Machine, Refusal> {
         let (mut program, mut memory) = (vec![0; MEMORY_BYTES], vec![0; MEMORY_BYTES]);
         let (mut inputs, mut outputs) = (vec![0; PORTS], vec![0; PORTS]);
         // SAFETY: each pointer and length is of one slice, and no two slices overlap.
@@ -273,6 +307,9 @@ impl Machine {
                 file.as_ptr(),
                 file.len(),
                 board,
+                range.locked,
+                range.first,
+                range.last,
                 program.as_mut_ptr(),
                 program.len(),
                 memory.as_mut_ptr(),
@@ -313,6 +350,47 @@ impl Machine {
         self.state = reply.state;
         file.truncate(reply.length);
         accepted(reply.refusal, file)
+    }
+
+    /// The range that is locked.
+    fn range(&self) -> Range {
+        Range {
+            locked: self.state.locked,
+            first: self.state.first_locked,
+            last: self.state.last_locked,
+        }
+    }
+
+    /// Data memory with its locked bytes zero.
+    fn unlocked(&self) -> Vec<u8> {
+        let mut memory = self.memory.clone();
+        let Range {
+            locked,
+            first,
+            last,
+        } = self.range();
+        if locked != 0 {
+            memory[first.into()..=last.into()].fill(0);
+        }
+        memory
+    }
+
+    /// How many bytes a window on data memory shows.
+    fn window(&self, start: usize, count: usize) -> usize {
+        // SAFETY: each pointer and length is of one slice, and no two slices overlap.
+        let window = unsafe {
+            ffi::sisa_window(
+                self.state,
+                self.program.as_ptr(),
+                self.program.len(),
+                self.memory.as_ptr(),
+                self.memory.len(),
+                1,
+                start,
+                count,
+            )
+        };
+        window.count
     }
 
     fn set_input(&mut self, port: u8, value: u16) -> Result<(), Refusal> {
@@ -551,13 +629,19 @@ impl Host {
         show(&mut self.sheet, title, run, &self.machine, &self.log)
     }
 
-    /// Saves what the trim left and loads it, for the same board, into memories of its own.
+    /// Saves what the trim left and loads it, for the same board and with the same range, into memories of its own.
+    /// Locked bytes are zero then.
     fn save_and_load(&mut self) -> Result<(), Refusal> {
         let saved = self.machine.save()?;
-        let again = Machine::load(&saved, self.machine.state.board)?;
-        let same = again.program == self.machine.program && again.memory == self.machine.memory;
+        let range = self.machine.range();
+        let again = Machine::load(&saved, self.machine.state.board, range)?;
+        let same = again.program == self.machine.program && again.memory == self.machine.unlocked();
+        let but = match range.locked {
+            0 => "",
+            _ => " but for the locked bytes, which are zero",
+        };
         println!(
-            "saved {} bytes, loaded again: {} memories",
+            "saved {} bytes, loaded again: {} memories{but}",
             saved.len(),
             if same { "equal" } else { "other" }
         );
@@ -600,7 +684,7 @@ impl Host {
     /// Presses the key for a trim that waits for it. Reading the data takes the key: the status is 0 after that. Taking
     /// the steps back gives the status what it was before the read.
     fn press_key(&mut self, file: &[u8]) -> Result<(), Refusal> {
-        self.machine = Machine::load(file, TWO_MEMORIES)?;
+        self.machine = Machine::load(file, TWO_MEMORIES, NONE)?;
         self.machine.set_input(0, 1)?;
         self.machine.set_input(1, 65)?;
         self.print_key("key pressed");
@@ -624,7 +708,7 @@ impl Host {
     /// Runs a trim that changes its own code, on the single-memory board. A save has the code as it is then, and taking
     /// the steps back gives the code back too.
     fn change_code(&mut self, file: &[u8]) -> Result<(), Refusal> {
-        self.machine = Machine::load(file, SINGLE_MEMORY)?;
+        self.machine = Machine::load(file, SINGLE_MEMORY, NONE)?;
         self.machine.set_level()?;
         self.print_code("single-memory board");
         let mut journal = [0; BUDGET as usize];
@@ -647,7 +731,7 @@ impl Host {
     /// Runs a trim that waits for a knob, turns it, and goes on: the line is taken before the next instruction, and the
     /// trim's handler reads the knob. Taking the steps back gives the line its bit again.
     fn wait_for_knob(&mut self, file: &[u8]) -> Result<(), Refusal> {
-        self.machine = Machine::load(file, TWO_MEMORIES)?;
+        self.machine = Machine::load(file, TWO_MEMORIES, NONE)?;
         let mut journal = [0; BUDGET as usize];
         let run = self.run_with_journal(WAIT_STEPS, &mut journal)?;
         self.show_run("run by the table, with a journal", &run)?;
@@ -683,8 +767,8 @@ impl Host {
     /// its half of the log.
     fn run_two(&mut self, first: &[u8], second: &[u8]) -> Result<(), Refusal> {
         let mut machines = [
-            Machine::load(first, TWO_MEMORIES)?,
-            Machine::load(second, TWO_MEMORIES)?,
+            Machine::load(first, TWO_MEMORIES, NONE)?,
+            Machine::load(second, TWO_MEMORIES, NONE)?,
         ];
         machines[0].set_knobs()?;
         let runs = run_page(&mut machines, BUDGET, &mut self.log)?;
@@ -696,16 +780,35 @@ impl Host {
         Ok(())
     }
 
+    /// Locks the corrections of a curve, which follow it in data memory. The run stops where the trim would read one, and
+    /// neither a window nor a saved file shows them.
+    fn lock_corrections(&mut self, file: &[u8]) -> Result<(), Refusal> {
+        self.machine = Machine::load(file, TWO_MEMORIES, CORRECTIONS)?;
+        let Range { first, last, .. } = self.machine.range();
+        println!("locked: bytes {first:04X} to {last:04X}");
+        let mut journal = [0; BUDGET as usize];
+        let run = self.run_with_journal(BUDGET, &mut journal)?;
+        self.show_run("run by the table, with a journal", &run)?;
+        self.print_window(0, first.into());
+        self.print_window(first.into(), (last - first + 1).into());
+        self.save_and_load()
+    }
+
+    fn print_window(&self, start: usize, count: usize) {
+        let shown = self.machine.window(start, count);
+        println!("window on {count} bytes from {start:04X}: shows {shown}");
+    }
+
     fn run_with_journal(&mut self, budget: u32, journal: &mut [u64]) -> Result<Report, Refusal> {
         self.machine
             .run_by_table_with_journal(budget, &mut self.log, journal)
     }
 }
 
-/// With up to four more files: for the key, for the single-memory board, for the knob, for the page.
+/// With up to five more files: for the key, for the single-memory board, for the knob, for the page, for the range.
 fn host(file: &[u8], more: &[Vec<u8>]) -> Result<(), Refusal> {
     let mut host = Host {
-        machine: Machine::load(file, TWO_MEMORIES)?,
+        machine: Machine::load(file, TWO_MEMORIES, NONE)?,
         log: [0; 64],
         sheet: Sheet::EMPTY,
     };
@@ -733,6 +836,9 @@ fn host(file: &[u8], more: &[Vec<u8>]) -> Result<(), Refusal> {
     if let Some(other) = more.get(3) {
         host.run_two(file, other)?;
     }
+    if let Some(curve) = more.get(4) {
+        host.lock_corrections(curve)?;
+    }
     print_sheet(&host.sheet);
     Ok(())
 }
@@ -740,9 +846,9 @@ fn host(file: &[u8], more: &[Vec<u8>]) -> Result<(), Refusal> {
 fn main() -> ExitCode {
     let files: Result<Vec<_>, _> = std::env::args().skip(1).map(std::fs::read).collect();
     let (file, more) = match files.as_deref() {
-        Ok([file, more @ ..]) if more.len() < 5 => (file, more),
+        Ok([file, more @ ..]) if more.len() < 6 => (file, more),
         _ => {
-            eprintln!("usage: host_rs FILE.trim [KEY.trim [FANOUT.trim [KNOB.trim [OTHER.trim]]]]");
+            eprintln!("usage: host_rs FILE.trim [KEY.trim [FANOUT.trim [KNOB.trim [OTHER.trim [CURVE.trim]]]]]");
             return ExitCode::from(2);
         }
     };

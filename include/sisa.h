@@ -25,7 +25,9 @@ extern "C" {
    with two memories, any other number the single-memory one. It is 0 or 1 from a load, and all other calls leave it as it is.
    Then the interrupts: lines are taken where `enabled` is not 0; bit k of `pending` says that line k waits; `line` and
    `return_address` are the number of the line taken last and PC before it. They are 0 from a load. PC and the return address are
-   even; a state where one of them is odd is refused with 5. */
+   even; a state where one of them is odd is refused with 5. Then the locked range of data memory: none where `locked` is 0, else
+   the bytes `first_locked` to `last_locked`, both in it, and no byte where the first is over the last. All calls but a load leave
+   it as it is. */
 typedef struct {
     uint16_t r[8];
     uint16_t pc;
@@ -36,9 +38,13 @@ typedef struct {
     uint8_t pending;
     uint8_t line;
     uint16_t return_address;
+    uint8_t locked;
+    uint16_t first_locked;
+    uint16_t last_locked;
 } SisaState;
 
-/* What a load replies. The state is the reset one of the board loaded for, and all 0 where the load is refused. */
+/* What a load replies. The state is the reset one of the board loaded for, with the range named, and all 0 where the load is
+   refused. */
 typedef struct {
     SisaState state;
     uint8_t refusal;
@@ -85,8 +91,9 @@ typedef struct {
 } SisaFed;
 
 /* What a run replies: the state (as handed, where the run is refused), the refusal, the stop reason (0 budget used or journal
-   full, 1 unassigned word, 2 OUT with the log full, 3 DIV or DIVU by zero), the steps taken, the entries written to the log,
-   the ticks that these steps take on the multicycle board (3 an instruction, and 4 for LD, ST, LDB and STB), and the counts. */
+   full, 1 unassigned word, 2 OUT with the log full, 3 DIV or DIVU by zero, 4 a fetch, load or store that touches a locked byte),
+   the steps taken, the entries written to the log, the ticks that these steps take on the multicycle board (3 an instruction,
+   and 4 for LD, ST, LDB and STB), and the counts. */
 typedef struct {
     SisaState state;
     uint8_t refusal;
@@ -164,9 +171,12 @@ typedef struct {
 /* Copies the file's parts to the program and the data memory, and zeroes all other memory and both arrays of ports. The board is
    0 for two memories, any other number for the single memory. For that one both parts go to data memory, the program part from
    address 0 on and straight after it the data part, and all of the program is zeroed; parts that are more than 65,536 bytes
-   together are refused with 15. */
+   together are refused with 15. `locked` not 0 locks the bytes `first` to `last` of data memory, both among them, which the state
+   keeps with the flag 1; a first over the last is refused with 18. With `locked` 0 there is no range, and the state's three
+   fields are 0. */
 SisaLoad sisa_load(const uint8_t *file, size_t file_len,
                    uint8_t board,
+                   uint8_t locked, uint16_t first, uint16_t last,
                    uint8_t *program, size_t program_len,
                    uint8_t *memory, size_t memory_len,
                    uint16_t *inputs, size_t inputs_len,
@@ -175,9 +185,10 @@ SisaLoad sisa_load(const uint8_t *file, size_t file_len,
 /* Writes the trim file of both memories to the front of the destination, whose unused end keeps its bytes: the program
    from offset 16 on, without its trailing zero words, and straight after it the data, without its trailing zero bytes. Where
    the state is one of the single-memory board the file has no program words (W is 0), whatever the program holds, and data
-   memory as its data. Loading the file for the state's board gives back both memories, on the single-memory board data memory,
-   with the program zero. A destination shorter than the file is refused with 9. A file can have 131,088 bytes, 65,552 on the
-   single-memory board; panelrun takes files of at most 65,536, and loads them for two memories. */
+   memory as its data. Bytes that the state locks are written as zero, and trailing zeros are dropped then. Loading the file for
+   the state's board and range gives back both memories, on the single-memory board data memory, with the program zero; locked
+   bytes come back as zero. A destination shorter than the file is refused with 9. A file can have 131,088 bytes, 65,552 on the
+   single-memory board; panelrun takes files of at most 65,536, and loads them for two memories and without a range. */
 SisaSaved sisa_save(SisaState state,
                     const uint8_t *program, size_t program_len,
                     const uint8_t *memory, size_t memory_len,
@@ -274,7 +285,7 @@ SisaPage sisa_page_by_table(SisaTrims trims, uint8_t count,
    A journal holds as many steps as the lesser of `journaled` and n, or none where it is shorter than `journaled`; where these
    are fewer than k, the call is refused with 14. So an accepted run without a journal, be it a host step, in a page or of budget
    0, ends what can be stepped back. The journal may hold any numbers; others than runs wrote may leave PC odd, so that the next
-   call is refused with 5. */
+   call is refused with 5, or write locked bytes, which the entries of a run under the same range never do. */
 SisaBack sisa_step_back(SisaState state,
                         const uint8_t *program, size_t program_len,
                         uint8_t *memory, size_t memory_len,
@@ -302,9 +313,11 @@ SisaInstruction sisa_read(uint16_t word);
 SisaWord sisa_write(uint8_t kind, uint8_t a, uint8_t b, uint8_t d, int16_t n);
 
 /* The bytes start .. start + count of the data memory (of_data not 0) or of the program (of_data 0); the empty part
-   where they end beyond the memory lent, whatever its length. On the single-memory board the instructions are in data memory,
-   and a window on the program shows the zeros that the load left there. */
-SisaWindow sisa_window(const uint8_t *program, size_t program_len,
+   where they end beyond the memory lent, whatever its length, or where a byte of data memory among them is locked. On the
+   single-memory board the instructions are in data memory, and a window on the program shows the zeros that the load left
+   there. */
+SisaWindow sisa_window(SisaState state,
+                       const uint8_t *program, size_t program_len,
                        const uint8_t *memory, size_t memory_len,
                        uint8_t of_data, size_t start, size_t count);
 

@@ -1,11 +1,11 @@
 -- A function that another undoes is injective.
 -- Assumes nothing.
 use mathlib.Core.Path.{_≡_, refl, sym, _∙_, ap}
-use mathlib.Core.List.{List, [], _∷_}
+use mathlib.Core.List.{[], _∷_}
 use Prim.Native.Nat.{ℕ}
 use lib.ListN.{getD}
 use Rattle.refusal.specs.declared.Refusal.{Refusal}
-use Rattle.refusal.specs.declared.Refusal.the-variants.{LentLength, ShortFile, LargePart, PartOutside, OddPc, StepCount, InstructionPart, LongFile, ShortDestination, TextLine, TextName, TextValue, FullSheet, ShortJournal, SmallBoard, LineNumber, TrimCount}
+use Rattle.refusal.specs.declared.Refusal.the-variants.{LentLength, ShortFile, LargePart, PartOutside, OddPc, StepCount, InstructionPart, LongFile, ShortDestination, TextLine, TextName, TextValue, FullSheet, ShortJournal, SmallBoard, LineNumber, TrimCount, LockedRange}
 use Rattle.refusal.specs.Refusals.{refusalNumber, Verdict, accepted, refused}
 use Rattle.kinds.specs.declared.Kind.the-variants.{And}
 use Rattle.isa.specs.declared.Reading.{Reading}
@@ -50,7 +50,7 @@ undone f g h x y e = sym (h x) ∙ ap g e ∙ h y
 
 -- the refusal of a number
 abbrev refusal-at : ℕ → Refusal
-refusal-at n = getD (LentLength ∷ LentLength ∷ ShortFile ∷ LargePart ∷ PartOutside ∷ OddPc ∷ StepCount ∷ InstructionPart ∷ LongFile ∷ ShortDestination ∷ TextLine ∷ TextName ∷ TextValue ∷ FullSheet ∷ ShortJournal ∷ SmallBoard ∷ LineNumber ∷ TrimCount ∷ []) n LentLength
+refusal-at n = getD (LentLength ∷ LentLength ∷ ShortFile ∷ LargePart ∷ PartOutside ∷ OddPc ∷ StepCount ∷ InstructionPart ∷ LongFile ∷ ShortDestination ∷ TextLine ∷ TextName ∷ TextValue ∷ FullSheet ∷ ShortJournal ∷ SmallBoard ∷ LineNumber ∷ TrimCount ∷ LockedRange ∷ []) n LentLength
 
 refusal-back : (x : Refusal) → refusal-at (refusalNumber x) ≡ x
 refusal-back LentLength = refl
@@ -70,6 +70,7 @@ refusal-back ShortJournal = refl
 refusal-back SmallBoard = refl
 refusal-back LineNumber = refl
 refusal-back TrimCount = refl
+refusal-back LockedRange = refl
 
 reading-of : Read → Reading
 reading-of (instruction i) = ReadInstruction i

@@ -14,6 +14,7 @@ use Rattle.machine.specs.declared.Board.the-variants.{SingleMemory}
 use Rattle.machine.specs.Machine.{Machine, isSingle}
 use Rattle.machine.specs.Run.{Stepper, byRules}
 use Rattle.machine.proofs.Runs.{Lawful}
+use Rattle.image.specs.declared.Range.{Range}
 use Rattle.image.specs.Image.{W, programOffset, C, dataOffset, partOf, singleMemoryOf, loaded, boardHolds, LoadGiven, LoadLeft, loadLeft}
 use Rattle.image.specs.Parts.{Placeable}
 use Rattle.image.proofs.Fits.{fits}
@@ -72,10 +73,10 @@ in-a-row file p a d b n h i =
 
 -- the machine that is loaded for that board
 single-load :
-    (file : List ℕ) → Placeable file → boardHolds SingleMemory file ≡ true
-    → (l : LoadLeft) → machineOn (hostOf l) [] ≡ loaded file SingleMemory → SingleLoad file l
+    (file : List ℕ) (range : Range) → Placeable file → boardHolds SingleMemory file ≡ true
+    → (l : LoadLeft) → machineOn (hostOf l) [] ≡ loaded file SingleMemory range → SingleLoad file range l
 unfolding loaded
-single-load file f h l e =
+single-load file range f h l e =
     let D : l .D ≡ singleMemoryOf file = ap (λ (m : Machine). m .D) e in
     let row = in-a-row file (programOffset file) (2 * W file) (dataOffset file) (C file) (65536 - (2 * W file + C file))
     (f .program .inside-file) (f .bytes .inside-file) in
@@ -91,11 +92,11 @@ single-load file f h l e =
     }
 
 -- and what an accepted load left is that machine
-load : (g : LoadGiven) (l : LoadLeft) → l ≡ loadLeft g → l .reply ≡ accepted → g .board ≡ SingleMemory → SingleLoad (g .file) l
+load : (g : LoadGiven) (l : LoadLeft) → l ≡ loadLeft g → l .reply ≡ accepted → g .board ≡ SingleMemory → SingleLoad (g .file) (g .range) l
 load g l e ok b =
     let r = accepted-load g l e ok in
     let fit = fits g (sym (r .0)) in
-    single-load (g .file) (fit .file) (subst (λ x. boardHolds x (g .file) ≡ true) b (fit .holds)) l (r .1 ∙ ap (loaded (g .file)) b)
+    single-load (g .file) (g .range) (fit .file) (subst (λ x. boardHolds x (g .file) ≡ true) b (fit .holds)) l (r .1 ∙ ap (λ x. loaded (g .file) x (g .range)) b)
 
 -- ---- Runs
 

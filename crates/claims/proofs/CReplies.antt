@@ -64,7 +64,7 @@ load : (g : LoadGiven) → LoadReplies g
 unfolding sisaLoadLeft
 load g =
     let l = loadLeft g in
-    let b = verdict-back (l .reply) (λ k e z. ⊎-elim (λ h. omega arith) (⊎-elim (λ h. omega arith) (⊎-elim (λ h. omega arith) (⊎-elim (λ h. omega arith) (λ h. omega arith)))) (refusals .load g .no-other k e)) in
+    let b = verdict-back (l .reply) (λ k e z. ⊎-elim (λ h. omega arith) (⊎-elim (λ h. omega arith) (⊎-elim (λ h. omega arith) (⊎-elim (λ h. omega arith) (⊎-elim (λ h. omega arith) (λ h. omega arith))))) (refusals .load g .no-other k e)) in
     record {
       gives-back = ap (λ (x : Verdict). record { reply = x; state = l .state; P = l .P; D = l .D; I = l .I; O = l .O }) (b .0);
       refusal-0 = b .1;

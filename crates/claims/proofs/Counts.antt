@@ -19,7 +19,7 @@ use Rattle.isa.specs.Sheet.{kindAt}
 use Rattle.isa.specs.Instructions.{readAs, readOf}
 use Rattle.isa.specs.Masks.{Masks, inMask, masksOf}
 use Rattle.isa.proofs.Every.{listed}
-use Rattle.machine.specs.Machine.{Machine, takesLine}
+use Rattle.machine.specs.Machine.{Machine, takesLine, fetchLocked}
 use Rattle.machine.specs.Step.{Next, cannot, to, fetched, step}
 use Rattle.machine.specs.Run.{byRules, Outcome, noPlace, unless, runFrom, traceFrom}
 use Rattle.control.proofs.Laws.{lawful-rules}
@@ -171,6 +171,14 @@ assigned m next fetches s = go (kindAt (opcode (fetched m)) (e-of (fetched m)) (
         let stops = rules .unassigned-stops (fetched m) (ap (λ x. readAs x (fetched m)) e) m fetches refl in
         clash (cc)
 
+-- where it takes no line and steps, it fetches
+fetches-too : (m next : Machine) → takesLine (m .state) ≡ false → step m ≡ to next → FetchesNow m
+fetches-too m next t s = go (fetchLocked (m .state)) refl
+  where
+    go : (l : Bool) → fetchLocked (m .state) ≡ l → FetchesNow m
+    go true e = let stops = rules .locked-fetch m t e in clash (cc)
+    go false e = λ i. not (t i) && not (e i)
+
 -- from m, a run that ends with z and has the counts u
 pub record Traced (budget : ℕ) (m : Machine) (z : Outcome) (u : Usage) : Type 0 where
   pub steps : ℕ
@@ -199,7 +207,7 @@ later budget m next z u s t =
     by-line true e = counts-taking (record { reads = 0; writes = 0 }) u (t .steps) (t .counts)
     by-line false e =
         let masks = masksOf (fetched m) in
-        let k = assigned m next e s in
+        let k = assigned m next (fetches-too m next e s) s in
         subst (λ (x : Entry). Counts (tookLines 0 (counted (isKind x) masks u)) (t .steps + 1)) (sym (k .1)) (counts-step (k .0) masks u (t .steps) (t .counts))
 
 pub traced : (budget full : ℕ) (m : Machine) → Traced budget m (runFrom byRules budget full m) (usageOf (traceFrom byRules budget full m))

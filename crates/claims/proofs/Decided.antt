@@ -38,7 +38,7 @@ callsOn : Host → List Call → Host
 callsOn h [] = h
 callsOn h (c ∷ cs) = callsOn (callOn h c) cs
 
-does-decided : {h h′ : Host} {c : Call} {r : Reply} → CallMeets h c r h′ → (r ≡ replyTo h (plain c)) × (h′ ≡ callOn h (plain c))
+pub does-decided : {h h′ : Host} {c : Call} {r : Reply} → CallMeets h c r h′ → (r ≡ replyTo h (plain c)) × (h′ ≡ callOn h (plain c))
 does-decided (a-run h e lent x promise) =
     let p : x ≡ ranOn h lent = both e (givenTo h lent) x promise in
     (ap told p, ap (λ (y : CountedLeft). afterRun (y .left)) p)

@@ -27,7 +27,7 @@ step-runs : (h : Host) (log : List ℕ) (x : SisaRunLeft) → x ≡ sisaRunLeft 
     → CallMeets h (asRun (host-step log)) (toldBy (x .reply) (x .log) (x .journal)) (hostBy x)
 step-runs h log x e = a-run h by-table (budget1 log) (runOf x) (ap runOf e ∙ run-replies byTable (givenTo h (budget1 log)) .gives-back)
 
-does-run : {h after : Host} {c : HostCall} {r : Reply} → HostCallMeets h c r after → CallMeets h (asRun c) r after
+pub does-run : {h after : Host} {c : HostCall} {r : Reply} → HostCallMeets h c r after → CallMeets h (asRun c) r after
 does-run (a-call d) = d
 does-run (a-step h log answer state P D I O returned e) = step-runs h log (sisaLeft (withState state answer) P D I O returned no-journal) e
 

@@ -9,15 +9,15 @@ use lib.Dec.{eqb, leb}
 use lib.ListN.{length, getD}
 use Rattle.word.specs.Fields.{N8}
 use Rattle.word.specs.Word.{pick}
-use Rattle.machine.specs.Machine.{Machine, isSingle, takesLine, putPC, putN, putBoard, count, onState, putD, onInputs, putO}
+use Rattle.machine.specs.Machine.{Machine, isSingle, takesLine, fetchLocked, putPC, putN, putBoard, count, onState, putD, onInputs, putO}
 use Rattle.machine.specs.Step.{PC, Ra, Rb, fetched, cannot, to, taking}
 use Rattle.machine.specs.Run.{byRules, noPlace}
 use Rattle.journal.specs.Journal.{Overwritten, nothing, register, data-word, data-byte, output-word, key-read, enable-flag, line-taken, byTaking, pcIn, entryWith, overwritten, entryOf, overwrittenIn, putBack, undo}
-use Rattle.control.specs.Control.{unit, result, inputsAfter, next, writesPort, storedData, stored, written, performed, assigned, zeroDivisor, byInterrupt, interrupted, interruptAssigned, controlStep, controlIn, byControl, table}
+use Rattle.control.specs.Control.{unit, result, inputsAfter, next, writesPort, storedData, stored, written, performed, assigned, zeroDivisor, lockedAccess, byInterrupt, interrupted, interruptAssigned, controlStep, controlIn, byControl, table}
 use Rattle.control.proofs.Agreement.{same-stepper}
 use Rattle.control.proofs.Laws.{lawful-control}
 use Rattle.back.specs.Backs.{undone}
-use Rattle.claims.proofs.Alike.{mapNext, Seen, Maps}
+use Rattle.claims.proofs.Alike.{mapNext, Seen, seen-by, Maps}
 
 -- the program memory becomes P
 abbrev pub putP : List ℕ → Machine → Machine
@@ -56,45 +56,44 @@ module _ (P : List ℕ) where
 
   controls : (c w : ℕ) (m : Machine) → controlStep c w (putP P m) ≡ mapNext (putP P) (controlStep c w m)
   unfolding controlStep interrupted
-  controls c w m = by-tests (byInterrupt c) (interruptAssigned c w) (assigned c w) (zeroDivisor c w (Rb w m))
+  controls c w m = by-tests (byInterrupt c) (interruptAssigned c w) (assigned c w) (zeroDivisor c w (Rb w m)) (lockedAccess c w (m .state))
     where
-      by-tests : (b i t z : Bool)
-          → pick b (pick i (to (interrupted c w (putP P m))) (cannot 1)) (pick t (pick z (cannot 3) (to (performed c w (putP P m)))) (cannot 1))
-          ≡ mapNext (putP P) (pick b (pick i (to (interrupted c w m)) (cannot 1)) (pick t (pick z (cannot 3) (to (performed c w m))) (cannot 1)))
-      by-tests true true t z = refl
-      by-tests true false t z = refl
-      by-tests false i true true = refl
-      by-tests false i true false = ap to (performs c w m)
-      by-tests false i false z = refl
+      by-tests : (b i t z l : Bool)
+          → pick b (pick i (to (interrupted c w (putP P m))) (cannot 1)) (pick t (pick z (cannot 3) (pick l (cannot 4) (to (performed c w (putP P m))))) (cannot 1))
+          ≡ mapNext (putP P) (pick b (pick i (to (interrupted c w m)) (cannot 1)) (pick t (pick z (cannot 3) (pick l (cannot 4) (to (performed c w m)))) (cannot 1)))
+      by-tests true true t z l = refl
+      by-tests true false t z l = refl
+      by-tests false i true true l = refl
+      by-tests false i true false true = refl
+      by-tests false i true false false = ap to (performs c w m)
+      by-tests false i false z l = refl
 
-  -- a line is taken, or the word fetched is done
+  -- a line is taken, or the fetch touches a locked byte, or the word fetched is done
   steps-alike : (words : List ℕ) (m : Machine) → Single m → byControl words .steps (putP P m) ≡ mapNext (putP P) (byControl words .steps m)
-  steps-alike words m h = by-line (takesLine (m .state))
+  steps-alike words m h = by-line (takesLine (m .state)) (fetchLocked (m .state))
     where
-      by-line : (t : Bool)
-          → pick t (taking (putP P m)) (controlStep (controlIn words (fetched (putP P m))) (fetched (putP P m)) (putP P m))
-          ≡ mapNext (putP P) (pick t (taking m) (controlStep (controlIn words (fetched m)) (fetched m) m))
-      by-line true = refl
-      by-line false = ap (λ w. controlStep (controlIn words w) w (putP P m)) (fetches m h) ∙ controls (controlIn words (fetched m)) (fetched m) m
+      by-line : (t l : Bool)
+          → pick t (taking (putP P m)) (pick l (cannot 4) (controlStep (controlIn words (fetched (putP P m))) (fetched (putP P m)) (putP P m)))
+          ≡ mapNext (putP P) (pick t (taking m) (pick l (cannot 4) (controlStep (controlIn words (fetched m)) (fetched m) m)))
+      by-line true l = refl
+      by-line false true = refl
+      by-line false false = ap (λ w. controlStep (controlIn words w) w (putP P m)) (fetches m h) ∙ controls (controlIn words (fetched m)) (fetched m) m
 
   -- ---- A run
 
   sees : (m : Machine) → Single m → Seen (putP P) m
   unfolding entryOf overwritten
   sees m h =
-      record {
-        takes = refl;
-        word = fetches m h;
-        entry = ap (λ w. entryWith (PC m) (pick (takesLine (m .state)) (byTaking (m .state)) (overwritten w m))) (fetches m h);
-      }
+      seen-by (putP P) m refl (λ t. fetches m h)
+      (ap (λ w. entryWith (PC m) (pick (takesLine (m .state)) (byTaking (m .state)) (overwritten w m))) (fetches m h))
 
   pub by-any-table : (words : List ℕ) → Maps (byControl words) (putP P) (λ full. full) Single
   unfolding noPlace
   by-any-table words =
       record {
         steps = steps-alike words;
-        places = λ full m h. ap (λ w. (not (takesLine (m .state)) && writesPort (controlIn words w)) && leb full (length (m .L))) (fetches m h);
-        seen = sees;
+        places = λ full m next e h. ap (λ w. (not (takesLine (m .state)) && writesPort (controlIn words w)) && leb full (length (m .L))) (fetches m h);
+        seen = λ m next e. sees m;
         keeps = λ m next e h. ap (λ u. not (eqb (u .1) 0)) (lawful-control words .leaves m next e) ∙ h;
       }
 

@@ -1,13 +1,13 @@
 -- The calls' replies are chains of tests; each condition is where its test fails.
 -- Assumes nothing.
-use mathlib.Core.Path.{_≡_, refl, sym, ap}
-use mathlib.Core.Bool.{Bool, true, false, and-assoc}
+use mathlib.Core.Path.{_≡_, refl, sym, ap, subst, _∙_}
+use mathlib.Core.Bool.{Bool, true, false, _||_, and-assoc}
 use mathlib.Core.Logic.{_⊎_, inl, inr, ⊎-elim, _↔_}
 use mathlib.Core.List.{List}
 use Prim.Native.Nat.{ℕ, _+_, _*_, _%_, _<_, min}
 use native.Mathlib.Omega.{arith}
-use borrow.Author.Tests.{leb-true, leb-false, ltb-false, le-ltb}
-use lib.Dec.{leb, ltb}
+use borrow.Author.Tests.{leb-true, leb-false, ltb-false, le-ltb, eqb-false, ne-eqb, lt-leb}
+use lib.Dec.{eqb, leb, ltb}
 use lib.ListN.{length, set}
 use Rattle.refusal.specs.Refusals.{Verdict, accepted, refused}
 use Rattle.word.specs.Word.{pick}
@@ -19,14 +19,14 @@ use Rattle.machine.specs.Machine.{evenPlaces, withLine, putPending}
 use Rattle.machine.specs.Run.{Stepper}
 use Rattle.machine.specs.Lengths.{lengthsFit}
 use Rattle.panel.specs.Calls.{SetGiven, SetLeft, setLeft, RaiseLeft, raiseLeft}
-use Rattle.image.specs.Image.{W, programOffset, C, dataOffset, boardHolds, LoadGiven, fileReply, loadReply, loadLeftBy, loadLeft}
+use Rattle.image.specs.Image.{W, programOffset, C, dataOffset, partsFit, partsInside, boardHolds, rangeFits, thenRange, LoadGiven, fileReply, loadReply, loadLeftBy, loadLeft}
 use Rattle.usage.specs.Usage.{unused}
 use Rattle.run.specs.Runs.{Given, stopped, run-refused, verdict, verdictOn, runLeftBy, runLeft, countedBy, countedLeft}
 use Rattle.run.proofs.Uncounted.{uncounted}
 use Rattle.back.specs.Backs.{BackGiven, gone-back, back-refused, stepsHeld, backVerdict, backLeftBy, backLeft}
 use Rattle.claims.specs.Refusals.{Lengths, OddPlace, ShortJournal, LoadRefusals, SetRefusals, RaiseRefusals, RunRefusals, BackRefusals, Refusals}
 use Rattle.claims_words.proofs.Decides.{Fails, fails-eq, fails-le, fails-and, decides-eq, decides-stable}
-use Rattle.claims.proofs.Chains.{Reply, Tests, last, _then_, at, number, none, one-of}
+use Rattle.claims.proofs.Chains.{Reply, Tests, last, _then_, at, answer, number, none, one-of}
 
 -- ---- The products as 01's table has them
 
@@ -38,6 +38,10 @@ flat4 e = (λ x. let h = e .0 x in (h .0, h .1 .0, h .1 .1 .0, h .1 .1 .1), λ h
 
 flat5 : {X A B C D E : Type 0} → X ↔ (A × (B × (C × (D × E)))) → X ↔ (A × B × C × D × E)
 flat5 e = (λ x. let h = e .0 x in (h .0, h .1 .0, h .1 .1 .0, h .1 .1 .1 .0, h .1 .1 .1 .1), λ h. e .1 (h .0, (h .1, (h .2, (h .3, h .4)))))
+
+flat6 : {X A B C D E F : Type 0} → X ↔ (A × (B × (C × (D × (E × F))))) → X ↔ (A × B × C × D × E × F)
+flat6 e =
+    (λ x. let h = e .0 x in (h .0, h .1 .0, h .1 .1 .0, h .1 .1 .1 .0, h .1 .1 .1 .1 .0, h .1 .1 .1 .1 .1), λ h. e .1 (h .0, (h .1, (h .2, (h .3, (h .4, h .5))))))
 
 lengths : (P D I O : List ℕ) → Fails (lengthsFit P D I O) (Lengths P D I O)
 lengths P D I O =
@@ -68,6 +72,13 @@ module _ (g : LoadGiven) where
   holds TwoMemories file = (λ e. never (sym e), λ h. let z = h .0 in clash (cc))
   holds SingleMemory file = let f = fails-le (2 * W file + C file) 65536 in (λ e. (refl, f .0 e), λ h. f .1 (h .1))
 
+  ranged : (l a b : ℕ) → Fails (eqb l 0 || leb a b) ((l ≡ 0 → ⊥) × (b < a))
+  ranged l a b = (go (eqb l 0) refl, λ h. rw (ne-eqb l 0 (h .0)) (lt-leb a b (h .1)))
+    where
+      go : (t : Bool) → eqb l 0 ≡ t → (t || leb a b) ≡ false → (l ≡ 0 → ⊥) × (b < a)
+      go true e z = never (sym z)
+      go false e z = (eqb-false l 0 e, fails-le a b .0 z)
+
   load-tests : Tests
   load-tests =
       let file = g .file in
@@ -77,21 +88,47 @@ module _ (g : LoadGiven) where
       then at 4 (fails-and
       (fails-and (fails-le 16 (programOffset file)) (fails-le (programOffset file + 2 * W file) (length file)))
       (fails-and (fails-le 16 (dataOffset file)) (fails-le (dataOffset file + C file) (length file))))
-      then last (at 15 (holds (g .board) file))
+      then at 15 (holds (g .board) file)
+      then last (at 18 (ranged (g .range .locked) (g .range .first) (g .range .last)))
+
+  -- the range's test comes last
+  in-order : loadReply g ≡ answer load-replies load-tests
+  unfolding loadReply fileReply load-replies load-tests
+  in-order =
+      let file = g .file in
+      ap (λ v. pick (lengthsFit (g .P) (g .D) (g .I) (g .O)) v (refused 1)) (go (leb 16 (length file)) (partsFit file) (partsInside file) (boardHolds (g .board) file))
+    where
+      go : (a b c d : Bool)
+          → thenRange (g .range) (pick a (pick b (pick c (pick d accepted (refused 15)) (refused 4)) (refused 3)) (refused 2))
+          ≡ pick a (pick b (pick c (pick d (pick (rangeFits (g .range)) accepted (refused 18)) (refused 15)) (refused 4)) (refused 3)) (refused 2)
+      go true true true true = refl
+      go true true true false = refl
+      go true true false d = refl
+      go true false c d = refl
+      go false b c d = refl
+
+  -- so the load's reply is what they decide
+  replied : {A : Type 0} (x : Verdict) → ((loadLeftBy (answer load-replies load-tests) g .reply ≡ x) ↔ A) → ((loadLeft g .reply ≡ x) ↔ A)
+  unfolding loadLeft
+  replied {A} x h = subst (λ v. (loadLeftBy v g .reply ≡ x) ↔ A) (sym in-order) h
 
   load : LoadRefusals g
-  unfolding loadLeft loadReply fileReply load-replies load-tests
+  unfolding loadLeft load-replies load-tests
   load =
       record {
-        number-1 = number load-replies load-tests 0 1 refl;
-        number-2 = number load-replies load-tests 0 2 refl;
-        number-3 = flat3 (number load-replies load-tests 0 3 refl);
-        number-4 = flat4 (number load-replies load-tests 0 4 refl);
-        number-15 = flat5 (number load-replies load-tests 0 15 refl);
-        accepts = flat5 (none load-replies load-tests);
-        no-other = λ k e. one-of load-replies load-tests k e .0;
-        nothing-changes = λ k e. ap (λ v. loadLeftBy v g) (one-of load-replies load-tests k e .1);
+        number-1 = replied (refused 1) (number load-replies load-tests 0 1 refl);
+        number-2 = replied (refused 2) (number load-replies load-tests 0 2 refl);
+        number-3 = replied (refused 3) (flat3 (number load-replies load-tests 0 3 refl));
+        number-4 = replied (refused 4) (flat4 (number load-replies load-tests 0 4 refl));
+        number-15 = replied (refused 15) (flat5 (number load-replies load-tests 0 15 refl));
+        number-18 = replied (refused 18) (flat6 (number load-replies load-tests 0 18 refl));
+        accepts = replied accepted (flat6 (none load-replies load-tests));
+        no-other = λ k e. one-of load-replies load-tests k (decided e) .0;
+        nothing-changes = λ k e. ap (λ v. loadLeftBy v g) (in-order ∙ one-of load-replies load-tests k (decided e) .1);
       }
+    where
+      decided : {k : ℕ} → loadLeft g .reply ≡ refused k → loadLeftBy (answer load-replies load-tests) g .reply ≡ refused k
+      decided e = ap (λ v. loadLeftBy v g .reply) (sym in-order) ∙ e
 
 -- ---- Set
 

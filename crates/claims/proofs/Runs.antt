@@ -3,7 +3,7 @@
 use mathlib.Core.Path.{_≡_, refl, sym, _∙_, ap, subst}
 use mathlib.Core.Bool.{Bool, true, false}
 use mathlib.Core.List.{List, [], _∷_, _++_, map}
-use mathlib.Core.Logic.{_⊎_, ⊎-elim}
+use mathlib.Core.Logic.{⊎-elim}
 use Prim.Native.Nat.{ℕ, zero, suc, _+_, _-_, _<_, _≤_}
 use native.Mathlib.Omega.{arith}
 use lib.ListN.{length, getD, drop, length-map}
@@ -15,10 +15,10 @@ use Rattle.machine.specs.Run.{Stepper, byRules, Outcome, noPlace, runFrom, trac
 use Rattle.machine.proofs.Runs.{Lawful, run-none, run-cannot, run-full, run-on, trace-none, trace-cannot, trace-full, trace-on}
 use Rattle.journal.specs.Journal.{entryOf}
 use Rattle.control.specs.Control.{byControl}
-use Rattle.control.proofs.Laws.{lawful-control, lawful-rules, cannot-rules, cannot-control}
+use Rattle.control.proofs.Laws.{lawful-control, lawful-rules, Reason, cannot-rules, cannot-control}
 use Rattle.run.specs.Runs.{Journal, no-journal, lent-journal, Given, left, stopped, allowedIn, placed, keptIn, allowed, machineAt, leftOf, runLeftBy, runLeft, verdictOn}
 use Rattle.run.proofs.Uncounted.{uncounted}
-use Rattle.claims.specs.Runs.{Takes, none, more, MayGoOn, First, budget-used, journal-full, word-unassigned, zero-divisor, no-place, Kept, none-kept, kept, Reported, Runs}
+use Rattle.claims.specs.Runs.{Takes, none, more, MayGoOn, First, budget-used, journal-full, word-unassigned, zero-divisor, locked-byte, no-place, Kept, none-kept, kept, Reported, Runs}
 use Rattle.claims.proofs.Journaled.{start-is, count-after, may-go-on, used-up, length-placed, placed-at, placed-other}
 
 -- the number of steps, said in another way
@@ -28,7 +28,7 @@ said {v} {g} {q = q} {m = m} e = subst (λ i. First v g i m q) e
 -- what v is known for
 record Known (v : Stepper) : Type 0 where
   lawful : Lawful v
-  reasons : (m : Machine) (q : ℕ) → v .steps m ≡ cannot q → (q ≡ 1) ⊎ (q ≡ 3)
+  reasons : (m : Machine) (q : ℕ) → v .steps m ≡ cannot q → Reason q
 
 module _ (v : Stepper) (known : Known v) (g : Given) where
   -- a run from m, j steps after its start, that takes the steps ms and ends with z
@@ -67,6 +67,7 @@ module _ (v : Stepper) (known : Known v) (g : Given) where
   none-here j m next h s f p (journal-full e) = h .1 e
   none-here j m next h s f p (word-unassigned n e) = clash (cc)
   none-here j m next h s f p (zero-divisor n e) = clash (cc)
+  none-here j m next h s f p (locked-byte n e) = clash (cc)
   none-here j m next h s f p (no-place n e t) = never (sym f ∙ t)
 
   later : (j : ℕ) (m next : Machine) (z : Outcome) (ms : List Machine) → MayGoOn g j → v .steps m ≡ to next → noPlace v full m ≡ false → Ends (suc j) next z ms → Ends j m z (m ∷ ms)
@@ -105,7 +106,9 @@ module _ (v : Stepper) (known : Known v) (g : Given) where
           (here j q m (omega arith)
           (⊎-elim
           (λ e. subst (First v g j m) (sym e) (word-unassigned may (s ∙ ap cannot e)))
+          (⊎-elim
           (λ e. subst (First v g j m) (sym e) (zero-divisor may (s ∙ ap cannot e)))
+          (λ e. subst (First v g j m) (sym e) (locked-byte may (s ∙ ap cannot e))))
           (known .reasons m q s)))
       turn may go (to next) s true f =
           rw (run-full v rest full m next s f, trace-full v rest full m next s f) (here j 2 m (omega arith) (no-place may s f))

@@ -1,17 +1,26 @@
 -- By the laws of save/proofs/Files.antt.
 -- Assumes nothing.
 use mathlib.Core.Path.{_≡_, refl, sym, ap, subst, _∙_}
-use mathlib.Core.Logic.{_↔_, inl, inr, ⊎-elim}
-use mathlib.Core.List.{List, _++_}
+use mathlib.Core.Bool.{true, _||_, or-true}
+use mathlib.Core.Logic.{inl, inr, ⊎-elim}
+use mathlib.Core.List.{List}
 use Prim.Native.Nat.{ℕ, _<_, _≤_}
 use native.Mathlib.Omega.{arith}
-use lib.ListN.{length, take, drop}
+use borrow.Author.Tests.{eq-eqb, le-leb}
+use lib.Dec.{eqb}
+use lib.ListN.{length, getD, take, drop, replicate}
 use lib.Seq.{take-append-seam}
+use Rattle.refusal.specs.Refusals.{accepted}
+use Rattle.word.specs.Word.{pick}
 use Rattle.word.proofs.Tests.{clash}
 use Rattle.machine.specs.declared.State.{State}
-use Rattle.save.specs.Saved.{savedFile, SaveReply, saved, save-refused, SaveGiven, SaveLeft, saveReply, saveLeftBy, saveLeft}
+use Rattle.machine.specs.declared.Board.{Board}
+use Rattle.machine.specs.Machine.{resetOn}
+use Rattle.image.specs.Image.{withRange, rangeFits, LoadLeft}
+use Rattle.save.specs.Saved.{unlocked, savedFile, SaveReply, saved, save-refused, SaveGiven, SaveLeft, saveReply, saveLeftBy, saveLeft}
 use Rattle.save.proofs.Files.{RightLengths, file-length, file-at-most, loads-back, loads-back-single, last-word, least-words, last-byte, least-bytes, number-1, number-9, saves, no-other, nothing-changes}
-use Rattle.claims.specs.Saved.{LoadsBack, MemoryLengths, ShortDestination, SaveRefusals, Saved}
+use Rattle.save.proofs.Unlocked.{unlocked-length, unlocked-at, unlocked-none}
+use Rattle.claims.specs.Saved.{rangeOf, GivenBack, LoadsBack, InOrder, MemoryLengths, ShortDestination, SaveRefusals, Saved}
 use Rattle.claims_words.proofs.Decides.{decides-eq, decides-le, decides-stable}
 
 -- ---- The refusals
@@ -46,9 +55,35 @@ module _ (g : SaveGiven) where
 
 -- ---- What a save left
 
-back : (s : State) (P D : List ℕ) → length P ≡ 65536 → length D ≡ 65536 → LoadsBack s (savedFile s P D) P D
-back s P D p d =
-    (λ e P′ D′ I′ O′ p′ d′ i′ o′. loads-back s P D p d P′ D′ I′ O′ p′ d′ i′ o′ e, λ e P′ D′ I′ O′ p′ d′ i′ o′. loads-back-single s P D p d P′ D′ I′ O′ p′ d′ i′ o′ e)
+-- the range of the state is one that a load accepts
+in-order : (s : State) → InOrder s → rangeFits (rangeOf s) ≡ true
+in-order s (inl e) = rw (eq-eqb _ _ e)
+in-order s (inr h) = ap (λ t. eqb (s .locked) 0 || t) (le-leb _ _ h) ∙ or-true (eqb (s .locked) 0)
+
+-- a load that left the data memory with its locked bytes zero gave back the others
+gave-back : (s : State) (board : Board) (P D : List ℕ) (l : LoadLeft)
+    → l ≡ record { reply = accepted; state = withRange (rangeOf s) (resetOn board); P = P; D = unlocked s D; I = replicate 256 0; O = replicate 256 0 }
+    → GivenBack s board P D l
+gave-back s board P D l e =
+    let D-is : l .D ≡ unlocked s D = ap (λ (x : LoadLeft). x .D) e in
+    record {
+      reply = ap (λ (x : LoadLeft). x .reply) e;
+      state = ap (λ (x : LoadLeft). x .state) e;
+      program = ap (λ (x : LoadLeft). x .P) e;
+      memory = ap length D-is ∙ unlocked-length s D;
+      others = λ k n. ap (λ M. getD M k 0) D-is ∙ unlocked-at s D k ∙ ap (λ t. pick t 0 (getD D k 0)) n;
+      zeros = λ k n. ap (λ M. getD M k 0) D-is ∙ unlocked-at s D k ∙ ap (λ t. pick t 0 (getD D k 0)) n;
+      whole = λ n. D-is ∙ unlocked-none s D n;
+      inputs = ap (λ (x : LoadLeft). x .I) e;
+      outputs = ap (λ (x : LoadLeft). x .O) e;
+    }
+
+back : (s : State) → InOrder s → (P D : List ℕ) → length P ≡ 65536 → length D ≡ 65536 → LoadsBack s (savedFile s P D) P D
+back s o P D p d =
+    let named = in-order s o in (
+      λ e P′ D′ I′ O′ p′ d′ i′ o′. gave-back s _ _ D _ (loads-back s (rangeOf s) named P D p d P′ D′ I′ O′ p′ d′ i′ o′ e),
+      λ e P′ D′ I′ O′ p′ d′ i′ o′. gave-back s _ _ D _ (loads-back-single s (rangeOf s) named P D p d P′ D′ I′ O′ p′ d′ i′ o′ e),
+    )
 
 state-back : (g : SaveGiven) → saveLeft g .state ≡ g .state
 unfolding saveLeft
@@ -58,13 +93,13 @@ state-back g = go (saveReply g)
     go (saved n) = refl
     go (save-refused k) = refl
 
-then-loaded : (g : SaveGiven) (l : SaveLeft) (n : ℕ) → l ≡ saveLeft g → l .reply ≡ saved n → LoadsBack (g .state) (take n (l .destination)) (g .P) (g .D)
+then-loaded : (g : SaveGiven) → InOrder (g .state) → (l : SaveLeft) (n : ℕ) → l ≡ saveLeft g → l .reply ≡ saved n → LoadsBack (g .state) (take n (l .destination)) (g .P) (g .D)
 unfolding saveLeft
-then-loaded g l n e r =
+then-loaded g o l n e r =
     let s = saves g n .0 (ap (λ (x : SaveLeft). x .reply) (sym e) ∙ r) in
     let file : take n (l .destination) ≡ savedFile (g .state) (g .P) (g .D) =
     ap (λ (x : SaveLeft). take n (x .destination)) e ∙ by-reply (saveReply g) (ap (λ (x : SaveLeft). x .reply) (sym e) ∙ r) (s .0) in
-    subst (λ f. LoadsBack (g .state) f (g .P) (g .D)) (sym file) (back (g .state) (g .P) (g .D) (s .1 .0) (s .1 .1))
+    subst (λ f. LoadsBack (g .state) f (g .P) (g .D)) (sym file) (back (g .state) o (g .P) (g .D) (s .1 .0) (s .1 .1))
   where
     by-reply : (x : SaveReply) → saveLeftBy x g .reply ≡ saved n → n ≡ length (savedFile (g .state) (g .P) (g .D)) → take n (saveLeftBy x g .destination) ≡ savedFile (g .state) (g .P) (g .D)
     by-reply (saved k) q z = let same : k ≡ n = cc in rw (same, z) (take-append-seam (savedFile (g .state) (g .P) (g .D)) (drop (length (savedFile (g .state) (g .P) (g .D))) (g .destination)))

@@ -1,17 +1,24 @@
 -- By call: the host and the machine stay together (Together), the contracts decide the replies (Decided), the lengths stay (Lengths).
 -- Assumes nothing.
 use mathlib.Core.Path.{_≡_, refl, sym, ap, subst, _∙_}
-use mathlib.Core.Bool.{true}
+use mathlib.Core.Bool.{Bool, true, false, _||_, or-true}
 use mathlib.Core.List.{List, []}
+use mathlib.Core.Logic.{_⊎_, inl, inr}
 use Prim.Native.Nat.{ℕ, _+_, _-_, _*_, _≤_}
 use native.Mathlib.Omega.{arith}
-use borrow.Author.Tests.{leb-true}
+use borrow.Author.Tests.{leb-true, eq-eqb, le-leb}
+use lib.Dec.{eqb}
 use lib.ListN.{length, replicate, length-append, length-take, length-drop, length-replicate}
 use Rattle.refusal.specs.Refusals.{Verdict, accepted, refused}
 use Rattle.word.proofs.Tests.{clash}
+use Rattle.word.specs.Word.{pick}
+use Rattle.machine.specs.declared.State.{State}
 use Rattle.machine.specs.declared.Board.{Board}
 use Rattle.machine.specs.declared.Board.the-variants.{TwoMemories, SingleMemory}
-use Rattle.image.specs.Image.{W, C, programOffset, dataOffset, memoryOf, loadedP, loadedD, boardHolds, loaded, LoadGiven, LoadLeft, fileReply, loadReply, loadLeftBy, loadLeft}
+use Rattle.machine.specs.Machine.{putLocked, resetOn}
+use Rattle.machine.proofs.Runs.{Even}
+use Rattle.image.specs.declared.Range.{Range}
+use Rattle.image.specs.Image.{W, C, programOffset, dataOffset, memoryOf, loadedP, loadedD, boardHolds, withRange, rangeFits, loaded, LoadGiven, LoadLeft, fileReply, loadReply, loadLeftBy, loadLeft}
 use Rattle.image.specs.Parts.{Placeable}
 use Rattle.image.proofs.Fits.{fits}
 use Rattle.report.specs.Example.{exampleFile}
@@ -38,30 +45,43 @@ loaded-lengths file SingleMemory f h =
       simp (length-append, length-take, length-drop, length-replicate) (omega (arith, both, f .program .inside-file, f .bytes .inside-file)),
     )
 
-pub loaded-fits : (g : LoadGiven) → loadReply g ≡ accepted → Fit (loaded (g .file) (g .board))
+-- naming a range, or none, sets the range alone
+pub range-kept : (range : Range) (s : State) → let t = withRange range s in t ≡ putLocked (t .locked) (t .«first_locked») (t .«last_locked») s
+range-kept range s = go (eqb (range .locked) 0)
+  where
+    go : (b : Bool) → let t = pick b (putLocked 0 0 0 s) (putLocked 1 (range .first) (range .last) s) in t ≡ putLocked (t .locked) (t .«first_locked») (t .«last_locked») s
+    go true = refl
+    go false = refl
+
+pub loaded-fits : (g : LoadGiven) → loadReply g ≡ accepted → Fit (loaded (g .file) (g .board) (g .range))
 unfolding loaded
 loaded-fits g e =
     let fit = fits g (sym e) in
     let l = loaded-lengths (g .file) (g .board) (fit .file) (fit .holds) in
-    (λ i. (l .0 i, l .1 i, 256, 256), (refl, refl))
+    (λ i. (l .0 i, l .1 i, 256, 256), subst Even (sym (range-kept (g .range) (resetOn (g .board)))) (refl, refl))
 
--- it left the machine that 01 loads from the file, of that board
-pub accepted-load : (g : LoadGiven) (l : LoadLeft) → l ≡ loadLeft g → l .reply ≡ accepted → (loadReply g ≡ accepted) × (machineOn (hostOf l) [] ≡ loaded (g .file) (g .board))
+-- it left the machine that 01 loads from the file, of that board and with that range
+pub accepted-load : (g : LoadGiven) (l : LoadLeft) → l ≡ loadLeft g → l .reply ≡ accepted → (loadReply g ≡ accepted) × (machineOn (hostOf l) [] ≡ loaded (g .file) (g .board) (g .range))
 unfolding loadLeft loaded
 accepted-load g l e ok = go (loadReply g) e
   where
-    go : (r : Verdict) → l ≡ loadLeftBy r g → (r ≡ accepted) × (machineOn (hostOf l) [] ≡ loaded (g .file) (g .board))
+    go : (r : Verdict) → l ≡ loadLeftBy r g → (r ≡ accepted) × (machineOn (hostOf l) [] ≡ loaded (g .file) (g .board) (g .range))
     go accepted e = (refl, ap (λ x. machineOn (hostOf x) []) e)
     go (refused k) e = let z : refused k ≡ accepted = sym (ap (λ x. x .reply) e) ∙ ok in clash (cc)
 
 -- ---- The example
 
+-- none, or one that begins no later than it ends
+range-fits : (range : Range) → (range .locked ≡ 0) ⊎ (range .first ≤ range .last) → rangeFits range ≡ true
+range-fits range (inl e) = rw (eq-eqb _ _ e)
+range-fits range (inr h) = ap (λ t. eqb (range .locked) 0 || t) (le-leb _ _ h) ∙ or-true (eqb (range .locked) 0)
+
 example-accepted :
-    (board : Board) (P D I O : List ℕ) → length P ≡ 65536 → length D ≡ 65536 → length I ≡ 256 → length O ≡ 256
-    → loadLeft (record { file = exampleFile; board = board; P = P; D = D; I = I; O = O }) .reply ≡ accepted
+    (board : Board) (range : Range) → rangeFits range ≡ true → (P D I O : List ℕ) → length P ≡ 65536 → length D ≡ 65536 → length I ≡ 256 → length O ≡ 256
+    → loadLeft (record { file = exampleFile; board = board; range = range; P = P; D = D; I = I; O = O }) .reply ≡ accepted
 unfolding loadLeft loadReply fileReply
-example-accepted TwoMemories P D I O p d i o = rw (p, d, i, o)
-example-accepted SingleMemory P D I O p d i o = rw (p, d, i, o)
+example-accepted TwoMemories range f P D I O p d i o = rw (p, d, i, o, f)
+example-accepted SingleMemory range f P D I O p d i o = rw (p, d, i, o, f)
 
 zeros : (n : ℕ) → _≡_ {A = ℕ} (length (replicate {A = ℕ} n 0)) n
 zeros n = length-replicate n 0
@@ -82,7 +102,7 @@ session =
             same-host = s .1;
           };
       replies-exist = calls-exist;
-      load-exists = λ board. example-accepted board (replicate 65536 0) (replicate 65536 0) (replicate 256 0) (replicate 256 0)
+      load-exists = λ board range h. example-accepted board range (range-fits range h) (replicate 65536 0) (replicate 65536 0) (replicate 256 0) (replicate 256 0)
           (zeros 65536) (zeros 65536) (zeros 256) (zeros 256);
       only-6 = λ g l e ok cs rs h ds. let r = accepted-load g l e ok in calls-fit ds (subst Fit (sym (r .1)) (loaded-fits g (r .0)));
     }

@@ -17,7 +17,7 @@ use Rattle.journal.specs.Journal.{overwritten, entryOf}
 use Rattle.usage.specs.Usage.{usageOf, ticksOf}
 use Rattle.control.proofs.Laws.{shift, shiftNext, local-rules}
 use Rattle.run.specs.Runs.{Journal, keptIn}
-use Rattle.claims.proofs.Alike.{mapNext, mapOutcome, Seen, Maps, Alike, alike, usage-alike, ticks-alike, kept-alike, steps-keep}
+use Rattle.claims.proofs.Alike.{mapNext, mapOutcome, Seen, seen-by, Maps, Alike, alike, usage-alike, ticks-alike, kept-alike, steps-keep}
 
 abbrev pub shiftOutcome : List ℕ → Outcome → Outcome
 shiftOutcome l z = mapOutcome (shift l) z
@@ -42,14 +42,14 @@ module _ (l : List ℕ) where
 
   seen-shift : (m : Machine) → Seen (shift l) m
   unfolding entryOf overwritten fetched
-  seen-shift m = record { takes = refl; word = refl; entry = refl }
+  seen-shift m = seen-by (shift l) m refl (λ t. refl) refl
 
   maps-shift : Maps byRules (shift l) (λ full. length l + full) (λ m. Unit {0})
   maps-shift =
       record {
         steps = λ m q. local-rules .steps-shift l m ∙ next-shift (byRules .steps m);
-        places = λ full m q. place-shift full m;
-        seen = λ m q. seen-shift m;
+        places = λ full m next e q. place-shift full m;
+        seen = λ m next e q. seen-shift m;
         keeps = λ m next e q. tt;
       }
 

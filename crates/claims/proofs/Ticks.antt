@@ -24,6 +24,7 @@ use Rattle.usage.specs.Usage.{isKind, does, ticksAt, ticksOf}
 use Rattle.control.proofs.Laws.{lawful-rules}
 use Rattle.run.specs.Runs.{no-journal, Given, given, stopped, run-refused, verdict, verdictOn, traceOn, CountedLeft, countedBy, countedLeft}
 use Rattle.run.proofs.Ticks.{steps-traced}
+use Rattle.claims_sheet.proofs.Rules.{unstopped}
 use Rattle.claims.specs.Session.{Engine, stepperOf}
 use Rattle.claims.specs.Ticks.{Row, Each, tickRows, Timed, Takes, Ticks}
 use Rattle.claims.proofs.Together.{both as by-either}
@@ -56,7 +57,7 @@ unfolding tests
 each [] t = tt
 each (x ∷ xs) t =
     let (a, b) = both-split (eqb (ticksIn (Assigned (x .kind))) (x .ticks)) (tests xs) t in
-    (λ m f e. fetching m (takesLine (m .state)) f ∙ ap ticksIn e ∙ eqb→eq _ _ a, each xs b)
+    (λ m f e. fetching m (takesLine (m .state)) (unstopped (m .state) f .0) ∙ ap ticksIn e ∙ eqb→eq _ _ a, each xs b)
 
 tested : T (tests tickRows)
 unfolding tests

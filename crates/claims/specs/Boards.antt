@@ -9,7 +9,8 @@ use Rattle.refusal.specs.Refusals.{accepted}
 use Rattle.machine.specs.declared.Board.the-variants.{SingleMemory}
 use Rattle.machine.specs.Machine.{isSingle, resetOn}
 use Rattle.machine.specs.Run.{Stepper, byRules}
-use Rattle.image.specs.Image.{W, programOffset, C, dataOffset, LoadGiven, LoadLeft, loadLeft}
+use Rattle.image.specs.declared.Range.{Range}
+use Rattle.image.specs.Image.{W, programOffset, C, dataOffset, withRange, LoadGiven, LoadLeft, loadLeft}
 use Rattle.save.specs.Saved.{SaveGiven, SaveLeft, saveLeft}
 use Rattle.control.specs.Control.{byControl}
 use Rattle.run.specs.Runs.{Given, given, Left, left, CountedLeft, countedLeft}
@@ -17,7 +18,7 @@ use Rattle.back.specs.Backs.{BackGiven, BackLeft, backLeft}
 
 -- ---- A load for the single-memory board
 
-pub record SingleLoad (file : List ℕ) (l : LoadLeft) : Type 0 where
+pub record SingleLoad (file : List ℕ) (range : Range) (l : LoadLeft) : Type 0 where
   pub long : length (l .D) ≡ 65536
   -- Byte k of data memory is the program part's for k below 2W,
   pub program-part : (k : ℕ) → k < 2 * W file → getD (l .D) k 0 ≡ getD file (programOffset file + k) 0
@@ -25,11 +26,11 @@ pub record SingleLoad (file : List ℕ) (l : LoadLeft) : Type 0 where
   pub data-part : (k : ℕ) → 2 * W file ≤ k → k < 2 * W file + C file → getD (l .D) k 0 ≡ getD file (dataOffset file + (k - 2 * W file)) 0
   -- and else 0.
   pub zero-after : (k : ℕ) → 2 * W file + C file ≤ k → getD (l .D) k 0 ≡ 0
-  -- The lent program memory is zeroed, and so are both ports; the state is a reset one of that board.
+  -- The lent program memory is zeroed, and so are both ports; the state is a reset one of that board, with the range named.
   pub program : l .P ≡ replicate 65536 0
   pub inputs : l .I ≡ replicate 256 0
   pub outputs : l .O ≡ replicate 256 0
-  pub state : l .state ≡ resetOn SingleMemory
+  pub state : l .state ≡ withRange range (resetOn SingleMemory)
 
 -- ---- Two calls that differ only in the bytes of P
 
@@ -65,7 +66,7 @@ pub record RunNeverReads (v : Stepper) (g : Given) : Type 0 where
 
 pub record Boards : Type 0 where
   pub load :
-      (g : LoadGiven) (l : LoadLeft) → l ≡ loadLeft g → l .reply ≡ accepted → g .board ≡ SingleMemory → SingleLoad (g .file) l
+      (g : LoadGiven) (l : LoadLeft) → l ≡ loadLeft g → l .reply ≡ accepted → g .board ≡ SingleMemory → SingleLoad (g .file) (g .range) l
   -- On the single-memory board P is never read: by a run by the rules, with a journal or without,
   pub by-rules : (g : Given) → isSingle (g .state) ≡ true → RunNeverReads byRules g
   -- by a run by any table, of which a run by the paper's and a host step are one,

@@ -18,7 +18,6 @@ use Rattle.save.specs.Saved.{SaveLeft, shownSaving, saveLeft}
 use Rattle.assembler.specs.Text.{AssembleLeft, assembleLeft}
 use Rattle.assembler.specs.Passes.{shownAssembly}
 use Rattle.control.specs.Control.{byControl, byTable}
-use Rattle.usage.specs.declared.Usage.{Usage}
 use Rattle.run.specs.declared.Answer.{Answer}
 use Rattle.run.specs.declared.Counted.{Counted}
 use Rattle.run.specs.Runs.{Journal, no-journal, lent-journal, Given, given, Left, left, shownAnswer, shownVerdict, RunMeets, CountedMeets}
@@ -139,7 +138,7 @@ pub record Contracts : Type 1 where
   -- write(i)
   pub write-asks : (κs : Lfts 0) (a : _) → write.Asked κs a
   pub write : (κs : Lfts 0) (a : _) (r : _) (s : _) → write.Learnt κs a r s ↔ (shownWriting r ≡ writeOf (a .0))
-  -- load(file, board, program, memory, inputs, outputs)
+  -- load(file, board, range, program, memory, inputs, outputs)
   pub load-asks : (κs : Lfts 5) (a : _) → load.Asked κs a
   pub load :
       (κs : Lfts 5) (a : _) (r : _) (s : _)
@@ -148,19 +147,20 @@ pub record Contracts : Type 1 where
       (record {
         reply = shownLoading (r .reply);
         state = r .state;
-        P = now (s .1 .1 .0);
-        D = now (s .1 .1 .1 .0);
-        I = now (s .1 .1 .1 .1 .0);
-        O = now (s .1 .1 .1 .1 .1 .0);
+        P = now (s .1 .1 .1 .0);
+        D = now (s .1 .1 .1 .1 .0);
+        I = now (s .1 .1 .1 .1 .1 .0);
+        O = now (s .1 .1 .1 .1 .1 .1 .0);
       })
       (loadLeft
       (record {
         file = now (a .0);
         board = a .1 .0;
-        P = now (a .1 .1 .0);
-        D = now (a .1 .1 .1 .0);
-        I = now (a .1 .1 .1 .1 .0);
-        O = now (a .1 .1 .1 .1 .1 .0);
+        range = a .1 .1 .0;
+        P = now (a .1 .1 .1 .0);
+        D = now (a .1 .1 .1 .1 .0);
+        I = now (a .1 .1 .1 .1 .1 .0);
+        O = now (a .1 .1 .1 .1 .1 .1 .0);
       })))
   -- save(state, program, memory, destination)
   pub save-asks : (κs : Lfts 3) (a : _) → save.Asked κs a
@@ -196,12 +196,12 @@ pub record Contracts : Type 1 where
       (κs : Lfts 0) (a : _) (r : _) (s : _)
       → raise.Learnt κs a r s
       ↔ (_≡_ {A = RaiseLeft} (record { reply = shownRaising (r .reply); state = r .state }) (raiseLeft (a .0) (a .1 .0)))
-  -- window(program, memory, of_data, start, count)
+  -- window(state, program, memory, of_data, start, count)
   pub window-asks : (κs : Lfts 1) (a : _) → window.Asked κs a
   pub window :
       (κs : Lfts 1) (a : _) (r : _) (s : _)
       → window.Learnt κs a r s
-      ↔ (now r ≡ windowOf (now (a .0)) (now (a .1 .0)) (a .1 .1 .0) (a .1 .1 .1 .0) (a .1 .1 .1 .1 .0))
+      ↔ (now r ≡ windowOf (a .0) (now (a .1 .0)) (now (a .1 .1 .0)) (a .1 .1 .1 .0) (a .1 .1 .1 .1 .0) (a .1 .1 .1 .1 .1 .0))
   -- run_by_rules(state, program, memory, inputs, outputs, budget, log)
   pub run-by-rules-asks : (κs : Lfts 5) (a : _) → run-by-rules.Asked κs a
   pub run-by-rules : (κs : Lfts 5) (a : _) (r : _) (s : _) → run-by-rules.Learnt κs a r s ↔ RunSays noJournal byRules a r s

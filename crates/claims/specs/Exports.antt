@@ -14,7 +14,7 @@ use Rattle.control.specs.Control.{byTable}
 use Rattle.run.specs.Runs.{Journal}
 use Rattle.replies.specs.declared.SisaRun.{SisaRun}
 use Rattle.replies.specs.declared.SisaPage.{SisaPage}
-use Rattle.replies.specs.Sisa.{SisaLoadLeft, sisaLoadLeft, SisaSaveLeft, sisaSaveLeft, SisaAssembleLeft, sisaAssembleLeft, SisaSetLeft, sisaSetLeft, sisaRaise, sisaLeft, SisaRunMeets, SisaPageMeets, SisaBackLeft, sisaBackLeft, sisaInstruction, sisaWrite, sisaFeed, sisaWindow, chosen, bytesOf}
+use Rattle.replies.specs.Sisa.{SisaLoadLeft, sisaLoadLeft, SisaSaveLeft, sisaSaveLeft, SisaAssembleLeft, sisaAssembleLeft, SisaSetLeft, sisaSetLeft, sisaRaise, sisaLeft, SisaRunMeets, SisaPageMeets, SisaBackLeft, sisaBackLeft, sisaInstruction, sisaWrite, sisaFeed, isHidden, sisaWindow, chosen, bytesOf}
 use Rattle.sisa.proofs.sisa_load.Reads as load
 use Rattle.sisa.proofs.sisa_save.Reads as save
 use Rattle.sisa.proofs.sisa_assemble.Reads as assemble
@@ -54,7 +54,7 @@ PageSays v a r s =
     })
 
 pub record Exports : Type 1 where
-  -- sisa_load(file, board, program, memory, inputs, outputs)
+  -- sisa_load(file, board, locked, first, last, program, memory, inputs, outputs)
   pub load-asks : (κs : Lfts 5) (a : _) → load.Asked κs a
   pub load :
       (κs : Lfts 5) (a : _) (r : _) (s : _)
@@ -62,19 +62,20 @@ pub record Exports : Type 1 where
       ↔ (_≡_ {A = SisaLoadLeft}
       (record {
         reply = r;
-        P = now (s .1 .1 .0);
-        D = now (s .1 .1 .1 .0);
-        I = now (s .1 .1 .1 .1 .0);
-        O = now (s .1 .1 .1 .1 .1 .0);
+        P = now (s .1 .1 .1 .1 .1 .0);
+        D = now (s .1 .1 .1 .1 .1 .1 .0);
+        I = now (s .1 .1 .1 .1 .1 .1 .1 .0);
+        O = now (s .1 .1 .1 .1 .1 .1 .1 .1 .0);
       })
       (sisaLoadLeft
       (record {
         file = now (a .0);
         board = boardOf (a .1 .0);
-        P = now (a .1 .1 .0);
-        D = now (a .1 .1 .1 .0);
-        I = now (a .1 .1 .1 .1 .0);
-        O = now (a .1 .1 .1 .1 .1 .0);
+        range = record { locked = a .1 .1 .0; first = a .1 .1 .1 .0; last = a .1 .1 .1 .1 .0 };
+        P = now (a .1 .1 .1 .1 .1 .0);
+        D = now (a .1 .1 .1 .1 .1 .1 .0);
+        I = now (a .1 .1 .1 .1 .1 .1 .1 .0);
+        O = now (a .1 .1 .1 .1 .1 .1 .1 .1 .0);
       })))
   -- sisa_save(state, program, memory, destination)
   pub save-asks : (κs : Lfts 3) (a : _) → save.Asked κs a
@@ -145,11 +146,13 @@ pub record Exports : Type 1 where
   pub write :
       (κs : Lfts 0) (a : _) (r : _) (s : _)
       → write.Learnt κs a r s ↔ (r ≡ sisaWrite (a .0) (a .1 .0) (a .1 .1 .0) (a .1 .1 .1 .0) (a .1 .1 .1 .1 .0))
-  -- sisa_window(program, memory, of_data, start, count)
+  -- sisa_window(state, program, memory, of_data, start, count)
   pub window-asks : (κs : Lfts 1) (a : _) → window.Asked κs a
   pub window :
       (κs : Lfts 1) (a : _) (r : _) (s : _)
       → window.Learnt κs a r s
-      ↔ ((r ≡ sisaWindow (chosen (a .1 .1 .0) (now (a .0)) (now (a .1 .0))) (a .1 .1 .1 .0) (a .1 .1 .1 .1 .0))
-      × (bytesOf r (chosen (a .1 .1 .0) (now (a .0)) (now (a .1 .0)))
-      ≡ windowOf (now (a .0)) (now (a .1 .0)) (not (eqb (a .1 .1 .0) 0)) (a .1 .1 .1 .0) (a .1 .1 .1 .1 .0)))
+      ↔ ((r
+      ≡ sisaWindow (isHidden (a .0) (a .1 .1 .1 .0) (a .1 .1 .1 .1 .0) (a .1 .1 .1 .1 .1 .0)) (chosen (a .1 .1 .1 .0) (now (a .1 .0)) (now (a .1 .1 .0)))
+      (a .1 .1 .1 .1 .0) (a .1 .1 .1 .1 .1 .0))
+      × (bytesOf r (chosen (a .1 .1 .1 .0) (now (a .1 .0)) (now (a .1 .1 .0)))
+      ≡ windowOf (a .0) (now (a .1 .0)) (now (a .1 .1 .0)) (not (eqb (a .1 .1 .1 .0) 0)) (a .1 .1 .1 .1 .0) (a .1 .1 .1 .1 .1 .0)))

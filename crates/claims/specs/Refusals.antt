@@ -10,8 +10,8 @@ use Rattle.machine.specs.declared.State.{State}
 use Rattle.machine.specs.declared.Board.the-variants.{SingleMemory}
 use Rattle.machine.specs.Machine.{reset}
 use Rattle.machine.specs.Run.{Stepper}
-use Rattle.panel.specs.Calls.{SetGiven, SetLeft, setLeft, RaiseLeft, raiseLeft}
-use Rattle.image.specs.Image.{W, programOffset, C, dataOffset, LoadGiven, LoadLeft, loadLeft}
+use Rattle.panel.specs.Calls.{SetGiven, setLeft, raiseLeft}
+use Rattle.image.specs.Image.{W, programOffset, C, dataOffset, LoadGiven, loadLeft}
 use Rattle.usage.specs.Usage.{unused}
 use Rattle.run.specs.Runs.{Given, left, stopped, run-refused, runLeft, countedLeft}
 use Rattle.back.specs.Backs.{BackGiven, gone-back, back-refused, backLeft}
@@ -41,6 +41,10 @@ PartOutside file =
 abbrev pub SmallBoard : LoadGiven → Type 0
 SmallBoard g = (g .board ≡ SingleMemory) × (65536 < 2 * W (g .file) + C (g .file))
 
+-- 18 (02, L14): a range with first over last
+abbrev pub RangeTurned : LoadGiven → Type 0
+RangeTurned g = (g .range .locked ≡ 0 → ⊥) × (g .range .last < g .range .first)
+
 -- 5: PC or the return address (02, L12) odd
 abbrev pub OddPlace : State → Type 0
 OddPlace s = (s .pc % 2 ≡ 0 → ⊥) ⊎ (s .«return_address» % 2 ≡ 0 → ⊥)
@@ -55,7 +59,7 @@ abbrev pub ShortJournal : BackGiven → Type 0
 ShortJournal g =
     ((length (g .journal) < g .state .journaled) × (0 < g .k)) ⊎ (g .state .journaled < g .k) ⊎ (g .state .n < g .k)
 
--- ---- Load: 1 to 4, 15
+-- ---- Load: 1 to 4, 15, 18
 
 pub record LoadRefusals (g : LoadGiven) : Type 0 where
   pub number-1 : (loadLeft g .reply ≡ refused 1) ↔ Lengths (g .P) (g .D) (g .I) (g .O)
@@ -73,15 +77,24 @@ pub record LoadRefusals (g : LoadGiven) : Type 0 where
       × (LargePart (g .file) → ⊥)
       × (PartOutside (g .file) → ⊥)
       × SmallBoard g)
+  pub number-18 :
+      (loadLeft g .reply ≡ refused 18)
+      ↔ ((Lengths (g .P) (g .D) (g .I) (g .O) → ⊥)
+      × (ShortFile (g .file) → ⊥)
+      × (LargePart (g .file) → ⊥)
+      × (PartOutside (g .file) → ⊥)
+      × (SmallBoard g → ⊥)
+      × RangeTurned g)
   pub accepts :
       (loadLeft g .reply ≡ accepted)
       ↔ ((Lengths (g .P) (g .D) (g .I) (g .O) → ⊥)
       × (ShortFile (g .file) → ⊥)
       × (LargePart (g .file) → ⊥)
       × (PartOutside (g .file) → ⊥)
-      × (SmallBoard g → ⊥))
+      × (SmallBoard g → ⊥)
+      × (RangeTurned g → ⊥))
   -- no other number
-  pub no-other : (k : ℕ) → loadLeft g .reply ≡ refused k → (k ≡ 1) ⊎ (k ≡ 2) ⊎ (k ≡ 3) ⊎ (k ≡ 4) ⊎ (k ≡ 15)
+  pub no-other : (k : ℕ) → loadLeft g .reply ≡ refused k → (k ≡ 1) ⊎ (k ≡ 2) ⊎ (k ≡ 3) ⊎ (k ≡ 4) ⊎ (k ≡ 15) ⊎ (k ≡ 18)
   -- Nothing lent changes; the state beside the number is the reset one.
   pub nothing-changes :
       (k : ℕ) → loadLeft g .reply ≡ refused k

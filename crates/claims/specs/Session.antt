@@ -2,7 +2,8 @@
 -- what the plain machine does and says, given the same calls; and that the two agree, whichever engine does each run.
 use mathlib.Core.Path.{_≡_}
 use mathlib.Core.List.{List, [], _∷_, _++_, map}
-use Prim.Native.Nat.{ℕ, _-_}
+use mathlib.Core.Logic.{_⊎_}
+use Prim.Native.Nat.{ℕ, _-_, _≤_}
 use lib.Dec.{eqb, ltb}
 use lib.ListN.{length, take, drop, replicate}
 use Rattle.refusal.specs.Refusals.{Verdict, accepted, refused}
@@ -13,7 +14,8 @@ use Rattle.machine.specs.Machine.{Machine, withLine, putPending, putI, onState}
 use Rattle.machine.specs.Run.{Stepper, byRules, Outcome, run, trace}
 use Rattle.usage.specs.declared.Usage.{Usage}
 use Rattle.usage.specs.Usage.{unused, usageOf, ticksOf}
-use Rattle.panel.specs.Calls.{SetGiven, SetLeft, setLeft, RaiseLeft, raiseLeft}
+use Rattle.panel.specs.Calls.{SetLeft, setLeft, RaiseLeft, raiseLeft}
+use Rattle.image.specs.declared.Range.{Range}
 use Rattle.image.specs.Image.{LoadGiven, LoadLeft, loaded, loadLeft}
 use Rattle.report.specs.Example.{exampleFile}
 use Rattle.control.specs.Control.{byTable}
@@ -178,11 +180,11 @@ machineReplies m (c ∷ cs) = machineSays m c ∷ machineReplies (machineCall m 
 abbrev pub machineOn : Host → List ℕ → Machine
 machineOn h L = record { state = h .state; P = h .P; D = h .D; I = h .I; O = h .O; L = L }
 
-pub record Mirrors (file : List ℕ) (board : Board) (cs : List Call) (rs₁ rs₂ : List Reply) (h₁ h₂ : Host) : Type 0 where
-  -- state (with n), P, D, I, O, and L are the machine's, started as 01 loads that file, of the board loaded (02, L11), and given the same calls
-  pub machine : machineOn h₁ (joined rs₁) ≡ machineCalls (loaded file board) cs
+pub record Mirrors (file : List ℕ) (board : Board) (range : Range) (cs : List Call) (rs₁ rs₂ : List Reply) (h₁ h₂ : Host) : Type 0 where
+  -- state (with n), P, D, I, O, and L are the machine's, started as 01 loads that file, of the board loaded (02, L11) and with the range named (02, L14), and given the same calls
+  pub machine : machineOn h₁ (joined rs₁) ≡ machineCalls (loaded file board range) cs
   -- every reply, with its log and journal as returned, is what that machine says of the call
-  pub replies : rs₁ ≡ machineReplies (loaded file board) cs
+  pub replies : rs₁ ≡ machineReplies (loaded file board range) cs
   -- the other list, alike in all but the engines, got the same replies, logs and journals and left the same states, memories and ports
   pub same-replies : rs₁ ≡ rs₂
   pub same-host : h₁ ≡ h₂
@@ -205,13 +207,13 @@ pub record Session : Type 0 where
       (g : LoadGiven) (l₁ l₂ : LoadLeft) → l₁ ≡ loadLeft g → l₁ .reply ≡ accepted → l₂ ≡ loadLeft g → l₂ .reply ≡ accepted
       → (cs₁ cs₂ : List Call) → Alike cs₁ cs₂
       → (rs₁ rs₂ : List Reply) (h₁ h₂ : Host) → Calls (hostOf l₁) cs₁ rs₁ h₁ → Calls (hostOf l₂) cs₂ rs₂ h₂
-      → Mirrors (g .file) (g .board) cs₁ rs₁ rs₂ h₁ h₂
+      → Mirrors (g .file) (g .board) (g .range) cs₁ rs₁ rs₂ h₁ h₂
   -- such replies exist for every list,
   pub replies-exist : (h : Host) (cs : List Call) → (rs : List Reply) × (after : Host) × Calls h cs rs after
-  -- and an accepted load exists for either board: 01's file
+  -- and an accepted load exists for either board, without a range and with any whose first is at most its last: 01's file
   pub load-exists :
-      (board : Board)
-      → loadLeft (record { file = exampleFile; board = board; P = replicate 65536 0; D = replicate 65536 0; I = replicate 256 0; O = replicate 256 0 }) .reply ≡ accepted
+      (board : Board) (range : Range) → (range .locked ≡ 0) ⊎ (range .first ≤ range .last)
+      → loadLeft (record { file = exampleFile; board = board; range = range; P = replicate 65536 0; D = replicate 65536 0; I = replicate 256 0; O = replicate 256 0 }) .reply ≡ accepted
   -- after an accepted load runs in a list are refused with 6 only, raisings with 16 only
   pub only-6 :
       (g : LoadGiven) (l : LoadLeft) → l ≡ loadLeft g → l .reply ≡ accepted

@@ -14,12 +14,14 @@ use Rattle.refusal.specs.Refusals.{Verdict, accepted, refused}
 use Rattle.word.specs.Word.{pick}
 use Rattle.word.proofs.Tests.{clash}
 use Rattle.machine.specs.declared.Board.{Board}
+use Rattle.machine.specs.declared.State.{State}
 use Rattle.machine.specs.Machine.{Machine, evenPlaces, reset, resetOn, withLine, putPending, putJournaled}
 use Rattle.machine.specs.Step.{fetched, to, choice, stepBy, step}
 use Rattle.journal.specs.Journal.{keysBack, entryOf}
 use Rattle.journal.specs.Ranges.{Numbers, InRange}
 use Rattle.journal.proofs.Written.{numbers-set}
 use Rattle.panel.specs.Calls.{SetLeft, setLeft, RaiseLeft, raiseLeft}
+use Rattle.image.specs.declared.Range.{Range}
 use Rattle.image.specs.Image.{loaded}
 use Rattle.control.proofs.Laws.{lawful-rules}
 use Rattle.run.specs.Runs.{Journal, no-journal, lent-journal, stopped, CountedLeft, CountedMeets}
@@ -30,7 +32,7 @@ use Rattle.claims.specs.Session.{Engine, stepperOf, Lent, Host, hostOf, givenTo
 use Rattle.claims_back.specs.StepBack.{raisedSince}
 use Rattle.claims_back.specs.History.{heldAs, History, begins, steps, held, Past, taken, givenBack, afterBack, Histories}
 use Rattle.claims.proofs.Together.{both}
-use Rattle.claims.proofs.Session.{accepted-load}
+use Rattle.claims.proofs.Session.{accepted-load, range-kept}
 use Rattle.claims_back.proofs.Loads.{zeros, loaded-in-range}
 use Rattle.claims_back.proofs.Pasts.{known, unraised, last, alike, earlier-history}
 use Rattle.claims_back.proofs.Carried.{begun, carries, left-alone}
@@ -134,13 +136,13 @@ module _ (h : Host) (xs : List ℕ) (ms : List Machine) (p : Past h xs ms) where
 
 -- ---- A load
 
-load-begins : (h : Host) (file : List ℕ) (board : Board) → machineOn h [] ≡ loaded file board → InRange (loaded file board) → (xs : List ℕ) → Past h xs []
+load-begins : (h : Host) (file : List ℕ) (board : Board) (range : Range) → machineOn h [] ≡ loaded file board range → InRange (loaded file board range) → (xs : List ℕ) → Past h xs []
 unfolding loaded
-load-begins h file board e r xs =
-    let s : h .state ≡ resetOn board = ap (λ x. x .state) e in
-    let n : h .state .n ≡ 0 = ap (λ x. x .n) s in
+load-begins h file board range e r xs =
+    let s = ap (λ (x : Machine). x .state) e ∙ range-kept range (resetOn board) in
+    let n : h .state .n ≡ 0 = ap (λ (x : State). x .n) s in
     record {
-      counted = ap (λ x. x .journaled) s;
+      counted = ap (λ (x : State). x .journaled) s;
       few = omega (arith, n);
       history = begins (subst InRange (sym e) r) (ap evenPlaces s);
     }
@@ -192,7 +194,7 @@ histories =
       in-range = λ h xs ms p. known (p .history) .sound .in-range;
       after-load = λ g l e ok bytes xs.
           let (accepts, m) = accepted-load g l e ok in
-          load-begins (hostOf l) (g .file) (g .board) m (loaded-in-range g accepts bytes) xs;
+          load-begins (hostOf l) (g .file) (g .board) (g .range) m (loaded-in-range g accepts bytes) xs;
       after-run-without = run-begins;
       after-run = run-carries;
       after-refused-run = λ h xs ms p e lent l meets k r. subst (λ h. Past h xs ms) (left-alone h lent l (both e _ l meets) k r) p;

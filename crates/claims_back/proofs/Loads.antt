@@ -1,6 +1,6 @@
 -- The machine that is loaded from a file of bytes has its numbers within their widths.
 -- Assumes nothing.
-use mathlib.Core.Path.{_≡_, sym}
+use mathlib.Core.Path.{_≡_, sym, subst}
 use mathlib.Core.List.{List, [], _∷_, _++_}
 use Prim.Native.Nat.{ℕ, zero, suc, _+_, _-_, _*_, _<_}
 use native.Mathlib.Omega.{arith}
@@ -9,10 +9,12 @@ use lib.Seq.{getD-drop}
 use Rattle.refusal.specs.Refusals.{accepted}
 use Rattle.machine.specs.declared.Board.{Board}
 use Rattle.machine.specs.declared.Board.the-variants.{TwoMemories, SingleMemory}
+use Rattle.machine.specs.declared.State.{State}
+use Rattle.machine.specs.Machine.{resetOn}
 use Rattle.journal.specs.Ranges.{Numbers, InRange}
 use Rattle.image.specs.Image.{W, C, programOffset, dataOffset, partOf, memoryOf, singleMemoryOf, loadedP, loadedD, loaded, LoadGiven, loadReply}
 use Rattle.image.proofs.Fits.{fits}
-use Rattle.claims.proofs.Session.{loaded-lengths}
+use Rattle.claims.proofs.Session.{loaded-lengths, range-kept}
 
 module _ (bound : ℕ) (some : 0 < bound) where
   abbrev Below : List ℕ → Type 0
@@ -55,13 +57,15 @@ module _ (bound : ℕ) (some : 0 < bound) where
   loaded-below file TwoMemories p = (memory-below file (programOffset file) (2 * W file) p, memory-below file (dataOffset file) (C file) p)
   loaded-below file SingleMemory p = (below-zeros 65536, single-below file p)
 
-pub loaded-in-range : (g : LoadGiven) → loadReply g ≡ accepted → Numbers (length (g .file)) 256 (g .file) → InRange (loaded (g .file) (g .board))
+pub loaded-in-range : (g : LoadGiven) → loadReply g ≡ accepted → Numbers (length (g .file)) 256 (g .file) → InRange (loaded (g .file) (g .board) (g .range))
 unfolding loaded
 loaded-in-range g e n =
     let fit = fits g (sym e) in
     let long = loaded-lengths (g .file) (g .board) (fit .file) (fit .holds) in
     let bytes = loaded-below 256 (omega arith) (g .file) (g .board) (n .below) in
-    record {
+    subst (λ (s : State). InRange (record { state = s; P = loadedP (g .board) (g .file); D = loadedD (g .board) (g .file); I = replicate 256 0; O = replicate 256 0; L = [] }))
+    (sym (range-kept (g .range) (resetOn (g .board))))
+    (record {
       registers = zeros 65536 (omega arith) 8;
       pc = omega arith;
       enabled = omega arith;
@@ -72,4 +76,4 @@ loaded-in-range g e n =
       memory = record { many = long .1; below = bytes .1 };
       inputs = zeros 65536 (omega arith) 256;
       outputs = zeros 65536 (omega arith) 256;
-    }
+    })

@@ -9,7 +9,8 @@ use borrow.Author.Tests.{le-leb}
 use lib.Seq.{take-at}
 use Rattle.refusal.specs.Refusals.{accepted, refused}
 use Rattle.word.specs.Word.{pick}
-use Rattle.machine.specs.Machine.{Machine}
+use Rattle.machine.specs.declared.State.{State}
+use Rattle.machine.specs.Machine.{Machine, resetOn}
 use Rattle.machine.specs.Run.{byRules, traceFrom}
 use Rattle.usage.specs.Usage.{usageOf, ticksOf, plusCounts}
 use Rattle.usage.proofs.Sums.{trace-sized}
@@ -21,7 +22,7 @@ use Rattle.claims_back.specs.Longer.{lentOnly, AcceptedRun, written, NoM
 use Rattle.claims.proofs.Counts.{plus-at}
 use Rattle.claims_back.proofs.Walks.{Walk, run-walks}
 use Rattle.claims.proofs.Lengths.{Fit, only}
-use Rattle.claims.proofs.Session.{loaded-fits, accepted-load}
+use Rattle.claims.proofs.Session.{loaded-fits, accepted-load, range-kept}
 use Rattle.claims_back.proofs.RunsOn.{from-reply, one-run, stops-again}
 use Rattle.claims_back.proofs.Onward.{walk-takes, came, took, told, passes, on, onward}
 
@@ -109,7 +110,7 @@ longer =
           (from-reply h budget log e (_, _, _, ap (λ v. runLeftBy (stepperOf e) v g .reply) ok), refl);
       start-exists = λ g l e ok budget few log.
           let r = accepted-load g l e ok in
-          let n : l .state .n ≡ 0 = ap (λ m. m .state .n) (r .1) in
+          let n : l .state .n ≡ 0 = ap (λ (m : Machine). m .state .n) (r .1) ∙ ap (λ (s : State). s .n) (range-kept (g .range) (resetOn (g .board))) in
           only (hostOf l) (subst Fit (sym (r .1)) (loaded-fits g (r .0))) (lentOnly budget log)
           ∙ ap (λ t. pick t accepted (refused 6)) (le-leb (l .state .n + budget) 4294967295 (omega (arith, n, few)));
     }

@@ -14,7 +14,7 @@ use Rattle.refusal.specs.Refusals.{Verdict, accepted, refused}
 use Rattle.word.specs.Word.{pick, flag}
 use Rattle.word.proofs.Tests.{clash, never}
 use Rattle.machine.specs.declared.State.{State}
-use Rattle.machine.specs.Machine.{Machine, bitOf, withLine, putPending, putJournaled, onState}
+use Rattle.machine.specs.Machine.{Machine, resetOn, bitOf, withLine, putPending, putJournaled, onState}
 use Rattle.machine.specs.Run.{byRules}
 use Rattle.journal.specs.Ranges.{InRange}
 use Rattle.journal.proofs.Written.{with-state}
@@ -25,7 +25,7 @@ use Rattle.back.specs.Backs.{BackLeft, gone-back, back-refused, backVerdict, ba
 use Rattle.back.proofs.Left.{accepted-left}
 use Rattle.claims.specs.Session.{Engine, stepperOf, Lent, Host, hostOf, givenTo, afterRun, afterRaise, machineOn}
 use Rattle.claims.proofs.Together.{both}
-use Rattle.claims.proofs.Session.{accepted-load}
+use Rattle.claims.proofs.Session.{accepted-load, range-kept}
 use Rattle.claims_back.specs.History.{Past, takenBy, taken, givenBack, afterBack}
 use Rattle.claims_back.specs.StepBack.{earlier, raisedSince, pendingBack}
 use Rattle.claims_back.specs.Lines.{takesIt, someTakes, Event, was-raised, was-taken, was-taken-back, waits, andIf, RaisedFirst, Begun, Told, NoLineLost}
@@ -253,7 +253,7 @@ module _ (line : ℕ) (eight : line < 8) where
   load-tells : (g : LoadGiven) (l : LoadLeft) → l ≡ loadLeft g → l .reply ≡ accepted → Told line (hostOf l) [] []
   unfolding loaded
   load-tells g l e ok =
-      record { pending = ap (λ m. bitOf line (m .state .pending)) (accepted-load g l e ok .1) ∙ no-bit line eight; first = inl (refl, no-steps line) }
+      record { pending = ap (λ (m : Machine). bitOf line (m .state .pending)) (accepted-load g l e ok .1) ∙ ap (λ (s : State). bitOf line (s .pending)) (range-kept (g .range) (resetOn (g .board))) ∙ no-bit line eight; first = inl (refl, no-steps line) }
 
 -- ---- THE CLAIM
 

@@ -15,7 +15,7 @@ use Rattle.machine.proofs.Runs.{run-cannot, run-full, trace-cannot, trace-full}
 use Rattle.control.proofs.Laws.{shift}
 use Rattle.run.specs.Runs.{Given, stopped, run-refused, verdictOn, machineAt, outcomeOn, traceOn, runLeft, acceptedCounted, countedBy, countedLeft}
 use Rattle.claims.specs.Session.{Host, givenTo, afterRun, machineOn}
-use Rattle.claims.specs.Runs.{Takes, none, more, First, budget-used, journal-full, word-unassigned, zero-divisor, no-place}
+use Rattle.claims.specs.Runs.{Takes, none, more, First, budget-used, journal-full, word-unassigned, zero-divisor, locked-byte, no-place}
 use Rattle.claims_back.specs.Longer.{lentOnly, AcceptedRun, written, machineLeft}
 use Rattle.claims.proofs.Runs.{runs}
 use Rattle.claims.proofs.Together.{both, shifted}
@@ -113,6 +113,7 @@ module _ {h : Host} {b : ℕ} {log : List ℕ} (r : AcceptedRun h b log) where
       by-test (journal-full u) e = absurd u
       by-test (word-unassigned may s) e = absurd (omega arith)
       by-test (zero-divisor may s) e = absurd (omega arith)
+      by-test (locked-byte may s) e = absurd (omega arith)
       by-test (no-place may s f) e = absurd (omega arith)
 
   -- with another: no run goes on from there
@@ -128,6 +129,7 @@ module _ {h : Host} {b : ℕ} {log : List ℕ} (r : AcceptedRun h b log) where
       by-test (journal-full u) n = absurd u
       by-test {m} (word-unassigned may s) n = (run-cannot byRules c (length log) m 1 s, trace-cannot byRules c (length log) m 1 s)
       by-test {m} (zero-divisor may s) n = (run-cannot byRules c (length log) m 3 s, trace-cannot byRules c (length log) m 3 s)
+      by-test {m} (locked-byte may s) n = (run-cannot byRules c (length log) m 4 s, trace-cannot byRules c (length log) m 4 s)
       by-test {m} (no-place may {next} s f) n =
           (run-full byRules c (length log) m next s f, trace-full byRules c (length log) m next s f)
 

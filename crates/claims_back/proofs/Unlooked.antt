@@ -1,7 +1,7 @@
 -- What a step, its entry and a step taken back do not look at: the count of journal entries and the log.
 -- Assumes nothing.
 use mathlib.Core.Path.{_≡_, refl, sym, ap, subst, _∙_}
-use mathlib.Core.Bool.{Bool, true, false}
+use mathlib.Core.Bool.{Bool, true, false, _||_}
 use mathlib.Core.List.{List, [], _∷_, _++_, append-nil}
 use Prim.Native.Nat.{ℕ, _-_}
 use lib.ListN.{length, getD, drop, List·getD-map}
@@ -9,11 +9,11 @@ use lib.Seq.{drop-append-seam, drop-length}
 use Rattle.word.specs.Fields.{bits, field, f-of, N8}
 use Rattle.word.specs.Word.{pick, add}
 use Rattle.machine.specs.declared.State.{State}
-use Rattle.machine.specs.Machine.{Machine, takesLine, lineTaken, putR, putPC, putN, putJournaled, onState, putD, onInputs, putO, count}
+use Rattle.machine.specs.Machine.{Machine, takesLine, isLocked, touchesLocked, fetchLocked, lineTaken, putR, putPC, putN, putJournaled, onState, putD, onInputs, putO, count}
 use Rattle.machine.specs.Step.{PC, Ra, Rb, d5-3, d8-6, d11-9, fetched, Next, cannot, to, ei, di, reti, interruptRules, taking, step}
 use Rattle.machine.specs.Run.{Stepper}
 use Rattle.journal.specs.Journal.{Overwritten, nothing, register, data-word, data-byte, output-word, key-read, enable-flag, line-taken, pcIn, overwritten, entryOf, overwrittenIn, putBack, undo}
-use Rattle.control.specs.Control.{byInterrupt, unit, result, inputsAfter, next, writesPort, storedData, stored, written, performed, assigned, zeroDivisor, interrupted, interruptAssigned, controlStep, controlIn, byControl, table}
+use Rattle.control.specs.Control.{byInterrupt, unit, result, inputsAfter, next, writesPort, storedData, stored, written, performed, assigned, zeroDivisor, resultField, storeField, touchedBy, lockedAccess, interrupted, interruptAssigned, controlStep, controlIn, byControl, table}
 use Rattle.control.proofs.Agreement.{same-stepper}
 use Rattle.claims_back.specs.History.{heldAs}
 
@@ -75,25 +75,43 @@ module _ (c : ℕ) (l : List ℕ) (m : Machine) where
           ap (λ x. getD (ei t ∷ di t ∷ reti t ∷ x ∷ []) (f-of w) t) (written-held k w (s .line) s)
           ∙ List·getD-map (putJournaled c) (interruptRules (written k w) s) (f-of w) s
 
+  -- which bytes are locked
+  touched-held : (at : List ℕ) → touchesLocked at (before .state) ≡ touchesLocked at (m .state)
+  touched-held [] = refl
+  touched-held (a ∷ at) = ap (λ t. isLocked a (m .state) || t) (touched-held at)
+
+  access-held : (k w : ℕ) → lockedAccess k w (before .state) ≡ lockedAccess k w (m .state)
+  unfolding lockedAccess
+  access-held k w = let u = unit k w (Ra w m) (Rb w m) in touched-held (touchedBy (resultField k) u ++ touchedBy (storeField k) u)
+
   control-held : (words : List ℕ) → byControl words .steps before ≡ onwardNext c l m (byControl words .steps m)
   unfolding controlStep fetched
   control-held words =
       let w = fetched m in
       let k = controlIn words w in
-      by-line (takesLine (m .state)) _ _ (by-tests k w (byInterrupt k) (interruptAssigned k w) (assigned k w) (zeroDivisor k w (Rb w m)))
+      ap (λ b. pick (takesLine (m .state)) (taking before)
+      (pick (fetchLocked (m .state)) (cannot 4)
+      (pick (byInterrupt k) (pick (interruptAssigned k w) (to (interrupted k w before)) (cannot 1))
+      (pick (assigned k w) (pick (zeroDivisor k w (Rb w m)) (cannot 3) (pick b (cannot 4) (to (performed k w before)))) (cannot 1)))))
+      (access-held k w)
+      ∙ by-line (takesLine (m .state)) (fetchLocked (m .state)) _ _
+      (by-tests k w (byInterrupt k) (interruptAssigned k w) (assigned k w) (zeroDivisor k w (Rb w m)) (lockedAccess k w (m .state)))
     where
-      by-tests : (k w : ℕ) (i f t z : Bool)
-          → pick i (pick f (to (interrupted k w before)) (cannot 1)) (pick t (pick z (cannot 3) (to (performed k w before))) (cannot 1))
-          ≡ onwardNext c l m (pick i (pick f (to (interrupted k w m)) (cannot 1)) (pick t (pick z (cannot 3) (to (performed k w m))) (cannot 1)))
-      by-tests k w true true t z = ap to (interrupted-held k w)
-      by-tests k w true false t z = refl
-      by-tests k w false f true true = refl
-      by-tests k w false f true false = ap to (performed-held k w)
-      by-tests k w false f false z = refl
+      by-tests : (k w : ℕ) (i f t z b : Bool)
+          → pick i (pick f (to (interrupted k w before)) (cannot 1)) (pick t (pick z (cannot 3) (pick b (cannot 4) (to (performed k w before)))) (cannot 1))
+          ≡ onwardNext c l m (pick i (pick f (to (interrupted k w m)) (cannot 1)) (pick t (pick z (cannot 3) (pick b (cannot 4) (to (performed k w m)))) (cannot 1)))
+      by-tests k w true true t z b = ap to (interrupted-held k w)
+      by-tests k w true false t z b = refl
+      by-tests k w false f true true b = refl
+      by-tests k w false f true false true = refl
+      by-tests k w false f true false false = ap to (performed-held k w)
+      by-tests k w false f false z b = refl
 
-      by-line : (t : Bool) (x y : Next) → x ≡ onwardNext c l m y → pick t (taking before) x ≡ onwardNext c l m (pick t (taking m) y)
-      by-line true x y e = ap to (with-state (λ s. count (lineTaken s)) refl)
-      by-line false x y e = e
+      by-line : (t b : Bool) (x y : Next) → x ≡ onwardNext c l m y
+          → pick t (taking before) (pick b (cannot 4) x) ≡ onwardNext c l m (pick t (taking m) (pick b (cannot 4) y))
+      by-line true b x y e = ap to (with-state (λ s. count (lineTaken s)) refl)
+      by-line false true x y e = refl
+      by-line false false x y e = e
 
   pub step-held : {x : Machine} → step m ≡ to x → step before ≡ to (onward c l m x)
   step-held e =

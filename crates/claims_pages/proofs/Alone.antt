@@ -18,7 +18,7 @@ use Rattle.control.proofs.Laws.{kept, lawful-rules, local-rules}
 use Rattle.run.specs.Runs.{no-journal, stopped, verdictOn, runLeft, traceOn, CountedLeft, countedBy, countedLeft}
 use Rattle.page.specs.Pages.{reportOf, report}
 use Rattle.claims.specs.Session.{by-rules, Host, givenTo, afterRun, machineOn}
-use Rattle.claims.specs.Runs.{Takes, First, budget-used, journal-full, word-unassigned, zero-divisor, no-place, Reported}
+use Rattle.claims.specs.Runs.{Takes, First, budget-used, journal-full, word-unassigned, zero-divisor, locked-byte, no-place, Reported}
 use Rattle.claims.proofs.Runs.{runs}
 use Rattle.claims.proofs.Lengths.{Fit}
 use Rattle.claims_back.specs.Longer.{lentOnly, AcceptedRun, machineLeft, startOf}
@@ -74,6 +74,7 @@ module _ {h : Host} {b : ℕ} {log : List ℕ} (r : AcceptedRun h b log) where
       by-test (journal-full u) e = refl
       by-test (word-unassigned may s) e = absurd (may .0 e)
       by-test (zero-divisor may s) e = absurd (may .0 e)
+      by-test (locked-byte may s) e = absurd (may .0 e)
       by-test (no-place may s f) e = absurd (may .0 e)
 
   pub stops-before : (r .stop ≡ 0 → ⊥) → r .steps < b
@@ -122,6 +123,7 @@ module _ {h : Host} {b₁ b₂ : ℕ} {log : List ℕ} (r₁ : AcceptedRun h b�
   ends-both (journal-full u) x y = absurd u
   ends-both (word-unassigned may s) x y = word-unassigned (λ e. omega arith, λ u. u) s
   ends-both (zero-divisor may s) x y = zero-divisor (λ e. omega arith, λ u. u) s
+  ends-both (locked-byte may s) x y = locked-byte (λ e. omega arith, λ u. u) s
   ends-both (no-place may s f) x y = no-place (λ e. omega arith, λ u. u) s f
 
   -- where the one stopped with budget left, the other goes no further

@@ -9,7 +9,7 @@ use lib.Dec.{leb}
 use lib.ListN.{length, getD, take, drop, replicate, length-replicate}
 use lib.Seq.{drop-at}
 use Rattle.word.specs.Word.{pick, add}
-use Rattle.machine.specs.Machine.{Machine, takesLine, onState, count, wordAt}
+use Rattle.machine.specs.Machine.{Machine, takesLine, fetchLocked, onState, count, wordAt}
 use Rattle.machine.specs.Step.{PC, compute, choice, fetched, cannot, to, jump, stepBy, step, taking}
 use Rattle.machine.specs.Run.{byRules, isOut, noPlace, runFrom, traceFrom}
 use Rattle.machine.proofs.Runs.{run-none, run-cannot, run-on, trace-cannot}
@@ -68,6 +68,9 @@ module _ (m : Machine) (q : Quiet m) where
   no-line : takesLine (m .state) ≡ false
   no-line = rw (q .enabled)
 
+  no-locked-fetch : fetchLocked (m .state) ≡ false
+  no-locked-fetch = rw (q .board)
+
   fetches : fetched m ≡ wordAt (m .P) (PC m)
   unfolding fetched
   fetches = rw (q .board)
@@ -75,7 +78,7 @@ module _ (m : Machine) (q : Quiet m) where
   -- it does what the word does
   does : {w : ℕ} → fetched m ≡ w → step m ≡ stepBy (choice w) w m
   unfolding step
-  does e = (λ i. pick (no-line i) (taking m) (stepBy (choice (e i)) (e i) m))
+  does e = (λ i. pick (no-line i) (taking m) (pick (no-locked-fetch i) (cannot 4) (stepBy (choice (e i)) (e i) m)))
 
   stops : wordAt (m .P) (PC m) ≡ 65535 → step m ≡ cannot 1
   unfolding choice

@@ -29,7 +29,7 @@ module _ {g : PageGiven} (p : AcceptedPage g) where
     unfolding acceptedPage
     answered = ap (λ l. answer l k) (left-is p) ∙ one-is answerOf (endAt g) (replicate (8 - g .count) noAnswer) (g .count) k noAnswer h
 
-    left-by : LeftBy g (p .left) k end
+    pub left-by : LeftBy g (p .left) k end
     unfolding acceptedPage
     left-by =
         let n = g .count in

@@ -18,7 +18,7 @@ use Rattle.word.proofs.Tables.{Each, looked-up}
 use Rattle.word.proofs.Tests.{never, either}
 use Rattle.isa.specs.Masks.{inMask}
 use Rattle.machine.specs.declared.State.{State}
-use Rattle.machine.specs.Machine.{Machine, R, putR, putPC, count, takesLine, onState, onInputs, putO, putD}
+use Rattle.machine.specs.Machine.{Machine, R, putR, putPC, count, takesLine, isLocked, fetchLocked, onState, onInputs, putO, putD}
 use Rattle.machine.specs.Step.{PC, write, fetched}
 use Rattle.control.specs.Control.{result, inputsAfter, next, byInterrupt, writesPort, storedData, stored, written}
 use Rattle.claims_sheet.specs.Masks.{putOutside}
@@ -181,6 +181,13 @@ module _ (mask : ℕ) (v : ℕ → ℕ) where
 
   pub takes-outside : (ks : List ℕ) (m : Machine) → takesLine (outside ks m .state) ≡ takesLine (m .state)
   takes-outside = stays (λ m. takesLine (m .state)) (λ k z m. refl)
+
+  -- whether a byte is locked, and the fetch
+  pub locked-outside : (a : ℕ) (ks : List ℕ) (m : Machine) → isLocked a (outside ks m .state) ≡ isLocked a (m .state)
+  locked-outside a = stays (λ m. isLocked a (m .state)) (λ k z m. refl)
+
+  pub fetch-locked-outside : (ks : List ℕ) (m : Machine) → fetchLocked (outside ks m .state) ≡ fetchLocked (m .state)
+  fetch-locked-outside = stays (λ m. fetchLocked (m .state)) (λ k z m. refl)
 
   -- and so does a register in the mask
   pub in-mask : (j : ℕ) → inMask mask j ≡ true → (ks : List ℕ) (m : Machine) → R (outside ks m .state) j ≡ R (m .state) j

@@ -19,10 +19,10 @@ use Rattle.kinds.specs.declared.Kind.the-variants.{Sha, Shl, Cmplt, Cmpltu, Ldb
 use Rattle.isa.specs.declared.Instruction.{Instruction}
 use Rattle.isa.specs.Sheet.{kindAt, sheetLine}
 use Rattle.isa.specs.Instructions.{readOf, writeOf}
-use Rattle.machine.specs.Machine.{Machine, count, withoutLine, lowestFrom, lowestLine, onState, readFrom, wordAt, putWord}
-use Rattle.machine.specs.Step.{PC, write, jump, Rule, fetched, addi, ld, st, jalr, bnz, movi, movhi, input, interrupt, rule, choice, cannot, to, stepBy}
+use Rattle.machine.specs.Machine.{Machine, touchesLocked, bytesAt, count, withoutLine, lowestFrom, lowestLine, onState, readFrom, wordAt, putWord}
+use Rattle.machine.specs.Step.{PC, write, jump, Rule, Touched, wordAtA', fetched, addi, ld, st, jalr, bnz, movi, movhi, input, interrupt, rule, access, choice, cannot, to, stepBy}
 use Rattle.claims_words.specs.Instructions.{RegisterRange, InRange}
-use Rattle.claims_sheet.specs.Rules.{r, SE-n, done, effect, stepAs}
+use Rattle.claims_sheet.specs.Rules.{r, SE-n, address, done, effect, stepAs}
 use Rattle.claims_sheet.specs.Marked.{registers, Steps, Does, Gives, Marked}
 use Rattle.claims_words.proofs.Instructions.{instructions}
 use Rattle.claims_sheet.proofs.Rules.{fetching-step, taking-step, rules}
@@ -31,6 +31,12 @@ use Rattle.claims_sheet.proofs.Rules.{fetching-step, taking-step, rules
 by-word : (w : ℕ) (s : Rule) (m : Machine) {Q : Machine → Type 0} → choice w ≡ rule s
     → (length (m .state .r) ≡ 8 → Q (onState count (s w (jump (add (PC m) 2) m)))) → Steps w m Q
 by-word w s m e q l n h = (_, fetching-step m w n h ∙ ap (λ x. stepBy x w m) e, q l)
+
+-- and by that of a load or store, which touches no locked byte
+by-access : (w : ℕ) (touched : Touched) (s : Rule) (m : Machine) {Q : Machine → Type 0} → choice w ≡ access touched s → touchesLocked (touched w m) (m .state) ≡ false
+    → (length (m .state .r) ≡ 8 → Q (onState count (s w (jump (add (PC m) 2) m)))) → Steps w m Q
+by-access w touched s m e u q l n h =
+    (_, fetching-step m w n h ∙ ap (λ x. stepBy x w m) e ∙ ap (λ b. pick b (cannot 4) (to (onState count (s w (jump (add (PC m) 2) m))))) u, q l)
 
 -- a step by an instruction
 by-sheet : (i : Instruction) (m : Machine) {next : Machine} {Q : Machine → Type 0} → stepAs i m ≡ to next → (InRange i → length (m .state .r) ≡ 8 → Q next) → Does i m Q
@@ -77,11 +83,11 @@ marked =
       d = λ m p. by-word 0x24BF addi m refl (λ l. there (m .state .r) 2 l (omega arith) (ap (λ x. add x 0xFFFF) p));
       e = λ m p q. by-word 0x85FD bnz m refl (λ l. rw (q, p));
       f = λ m p q. by-word 0x7240 jalr m refl (λ l. (ap clear0 q, there (m .state .r) 1 l (omega arith) (ap (λ x. add x 2) p)));
-      g = λ m p. by-word 0x3043 ld m refl (λ l. there (m .state .r) 1 l (omega arith) (ap (λ x. wordAt (m .D) (clear0 (add x 3))) p));
+      g = λ m p u. by-access 0x3043 wordAtA' ld m refl (ap (λ x. touchesLocked (bytesAt (clear0 (add x 3))) (m .state)) p ∙ u) (λ l. there (m .state .r) 1 l (omega arith) (ap (λ x. wordAt (m .D) (clear0 (add x 3))) p));
       h = (gives Sha sha (λ m d a b q. refl) refl, gives Shl shl (λ m d a b q. refl) refl);
       i = (gives Sha sha (λ m d a b q. refl) refl, gives Shl shl (λ m d a b q. refl) refl);
       j = (gives Cmplt (λ x y. flag (ltZ (signed 16 x) (signed 16 y))) (λ m d a b q. refl) refl, gives Cmpltu (λ x y. flag (ltb x y)) (λ m d a b q. refl) refl);
-      k = λ m d a n p. by-sheet (record { kind = Ldb; a = a; b = 0; d = d; n = n }) m refl (λ i l. there (m .state .r) d l (i .d) (ap (λ x. SE-n (signed 8 x)) p));
+      k = λ m d a n p u. by-sheet (record { kind = Ldb; a = a; b = 0; d = d; n = n }) m (ap (λ b. pick b (cannot 4) (done (write d (SE-n (signed 8 (getD (m .D) (address m a n) 0))) (jump (add (PC m) 2) m)))) u) (λ i l. there (m .state .r) d l (i .d) (ap (λ x. SE-n (signed 8 x)) p));
       l = λ m a n p q. by-sheet (record { kind = Bz; a = a; b = 0; d = 0; n = n }) m refl (λ i l. rw (ne-eqb _ 0 q, p));
       division = gives Div div (λ m d a b q. ap (λ x. pick (eqb x 0) (cannot 3) (done (write d (div (r m a) (r m b)) m))) q) refl;
       key =
@@ -90,9 +96,9 @@ marked =
             by-word 0xA600 input m refl (λ l. (there (m .state .r) 3 l (omega arith) (ap (λ I. getD I 0 0) p), p)),
           );
       patch =
-          λ m v p q s l. (
-            λ t. by-word 0x4280 st m refl (λ e. rw (t, p, q, s) (stored (m .D) v l)),
-            λ t. by-word 0x4280 st m refl (λ e. rw (t, p)),
+          λ m v p q s l u. let free = ap (λ x. touchesLocked (bytesAt (clear0 (add x 0))) (m .state)) q ∙ u in (
+            λ t. by-access 0x4280 wordAtA' st m refl free (λ e. rw (t, p, q, s) (stored (m .D) v l)),
+            λ t. by-access 0x4280 wordAtA' st m refl free (λ e. rw (t, p)),
           );
       interrupts = ((refl, refl), (refl, refl), (refl, refl), (refl, refl));
       reti = λ m p. by-word 0xC002 interrupt m refl (λ l. (p, refl));

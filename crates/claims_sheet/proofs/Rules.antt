@@ -1,6 +1,6 @@
 -- Two equations of tables of functions, by opcode, e and f, which antt computes for an unknown word and machine; and the line that is taken.
 -- Assumes nothing.
-use mathlib.Core.Path.{_≡_, refl, sym, _∙_, ap, ap₂}
+use mathlib.Core.Path.{_≡_, refl, sym, _∙_, ap}
 use mathlib.Core.Bool.{Bool, true, false, not, _&&_}
 use mathlib.Core.Logic.{_⊎_, inl, inr, ⊎-elim, _↔_}
 use mathlib.Core.List.{List, [], _∷_, _++_}
@@ -17,8 +17,8 @@ use Rattle.muldiv.specs.Muldiv.{muldiv}
 use Rattle.isa.specs.Sheet.{kindAt}
 use Rattle.isa.specs.Instructions.{Read, instruction, unassigned, readAs, readOf}
 use Rattle.machine.specs.declared.State.{State}
-use Rattle.machine.specs.Machine.{Machine, putR, count, onState, bitOf, withoutLine, lowestFrom, lowestLine, takesLine, lineTaken}
-use Rattle.machine.specs.Step.{Ra, Rb, d5-3, write, Rule, compute, compare, addi, ld, st, ldb, stb, jalr, bz, bnz, movi, movhi, input, output, multiplyDivide, interruptRules, interrupt, RuleRow, by-f, by-f-dividing, no-rule, ruleRows, ruleInRow, choice, Next, cannot, to, stepBy, taking, byRule, fetched, step}
+use Rattle.machine.specs.Machine.{Machine, putR, count, onState, bitOf, withoutLine, lowestFrom, lowestLine, takesLine, lineTaken, fetchLocked}
+use Rattle.machine.specs.Step.{Ra, Rb, d5-3, write, Rule, compute, compare, addi, ld, st, ldb, stb, jalr, bz, bnz, movi, movhi, input, output, multiplyDivide, interruptRules, interrupt, RuleRow, by-f, by-f-dividing, no-rule, ruleRows, ruleInRow, choice, Next, cannot, to, stepBy, taking, byRule, fetched, fetches, step}
 use Rattle.machine.proofs.Lines.{takes-none}
 use Rattle.usage.proofs.Functions.{table, at}
 use Rattle.claims_sheet.specs.Rules.{stepAs, FetchesNow, LowestLine, TakesLine, Rules}
@@ -68,10 +68,19 @@ same : table-of (λ op e f. by-rows op e f (λ v. f)) ≡ table-of by-sheet
 unfolding table with-f interrupt-with rows-with by-rows of-read by-sheet kindAt addi ld st ldb stb jalr bz bnz movi movhi input output SE operation comparison muldiv
 same = refl
 
+-- where the machine fetches, neither test holds
+pub unstopped : (s : State) → fetches s ≡ true → (takesLine s ≡ false) × (fetchLocked s ≡ false)
+unstopped s = go (takesLine s) (fetchLocked s)
+  where
+    go : (t l : Bool) → (not t && not l) ≡ true → (t ≡ false) × (l ≡ false)
+    go true l e = never e
+    go false true e = never e
+    go false false e = (refl, refl)
+
 -- where the machine fetches w, its step is w's
 pub fetching-step : (m : Machine) (w : ℕ) → FetchesNow m → fetched m ≡ w → step m ≡ byRule w m
 unfolding step
-fetching-step m w n h = ap₂ (λ t w. pick t (taking m) (byRule w m)) n h
+fetching-step m w n h = let g = unstopped (m .state) n in λ i. pick (g .0 i) (taking m) (pick (g .1 i) (cannot 4) (byRule (h i) m))
 
 -- with the word's own f, the rows are the machine's
 stepped : (m : Machine) (w : ℕ) → FetchesNow m → fetched m ≡ w → step m ≡ of-read (readOf w) m
@@ -89,7 +98,11 @@ afterTaking m = onState (λ s. count (lineTaken s)) m
 
 pub taking-step : (m : Machine) → takesLine (m .state) ≡ true → step m ≡ to (afterTaking m)
 unfolding step
-taking-step m e = ap (λ t. pick t (taking m) (byRule (fetched m) m)) e
+taking-step m e = ap (λ t. pick t (taking m) (pick (fetchLocked (m .state)) (cannot 4) (byRule (fetched m) m))) e
+
+locked-step : (m : Machine) → takesLine (m .state) ≡ false → fetchLocked (m .state) ≡ true → step m ≡ cannot 4
+unfolding step
+locked-step m t l = λ i. pick (t i) (taking m) (pick (l i) (cannot 4) (byRule (fetched m) m))
 
 -- the lowest line, looked for from line i on
 lowest-is : (p k n i : ℕ) → LowestLine p k → i ≤ k → k < i + n → lowestFrom n i p ≡ k
@@ -135,8 +148,11 @@ takes-it m k b l =
     })
 
 -- the tests of enable and of the pending byte
-fetching-is : (s : State) → (takesLine s ≡ false) ↔ ((s .enabled ≡ 0) ⊎ (s .pending ≡ 0))
-fetching-is s = (go (eqb (s .enabled) 0) refl (eqb (s .pending) 0) refl, λ h. takes-none s (⊎-elim inr inl h))
+fetching-is : (s : State) → (fetches s ≡ true) ↔ (((s .enabled ≡ 0) ⊎ (s .pending ≡ 0)) × (fetchLocked s ≡ false))
+fetching-is s = (
+  λ e. let u = unstopped s e in (go (eqb (s .enabled) 0) refl (eqb (s .pending) 0) refl (u .0), u .1),
+  λ h. let t = takes-none s (⊎-elim inr inl (h .0)) in λ i. not (t i) && not (h .1 i),
+)
   where
     go : (t : Bool) → eqb (s .enabled) 0 ≡ t → (u : Bool) → eqb (s .pending) 0 ≡ u → (not t && not u) ≡ false → (s .enabled ≡ 0) ⊎ (s .pending ≡ 0)
     go true a u b h = inl (eqb-true _ _ a)
@@ -151,5 +167,6 @@ rules =
       written = λ i w e m n h. stepped m w n h ∙ ap (λ x. of-read x m) (written-then-read i w e .1);
       unassigned-stops = λ w e m n h. stepped m w n h ∙ ap (λ x. of-read x m) e;
       taking = λ m k b e l. (afterTaking m, taking-step m (takes (m .state) k e l), takes-it m k b l);
+      locked-fetch = locked-step;
       fetching = λ m. fetching-is (m .state);
     }

@@ -1,9 +1,9 @@
 -- Which registers the step of a control word writes and looks at, and which inputs it leaves: four equations of tables, by opcode, e and f,
 -- which antt computes for an unknown word, Ra, Rb and machine.
 -- Assumes nothing.
-use mathlib.Core.Path.{_≡_, refl, ap, _∙_}
+use mathlib.Core.Path.{_≡_, refl, ap, ap₂, _∙_}
 use mathlib.Core.Bool.{Bool, true, false, not, _&&_, _||_, or-true, Bool·beq}
-use mathlib.Core.List.{List, [], _∷_}
+use mathlib.Core.List.{List, [], _∷_, _++_}
 use mathlib.Core.Option.{Option, none, some}
 use Prim.Native.Nat.{ℕ, _+_, _-_, _*_, _/_, _%_, _^_, _<_}
 use native.Mathlib.Omega.{arith}
@@ -22,10 +22,10 @@ use Rattle.isa.specs.Sheet.{kindAt}
 use Rattle.isa.specs.Masks.{Masks, inMask, masksAs, masksOf}
 use Rattle.isa.specs.Instructions.{Register, a-register, b-register, d-register}
 use Rattle.machine.specs.declared.State.{State}
-use Rattle.machine.specs.Machine.{Machine, putPC, count, onState, onInputs}
+use Rattle.machine.specs.Machine.{Machine, R, isLocked, touchesLocked, putPC, count, onState, onInputs}
 use Rattle.machine.specs.Step.{PC, d5-3, d8-6, d11-9, among, interruptRules}
 use Rattle.journal.specs.Journal.{readsKey}
-use Rattle.control.specs.Control.{second, units, unitField, result, inputsAfter, next, byInterrupt, storedData, stored, written, takes, assigned, divides, zeroDivisor, interruptAssigned, table as controls}
+use Rattle.control.specs.Control.{second, units, unitField, unit, resultField, storeField, touchedBy, lockedAccess, result, inputsAfter, next, byInterrupt, storedData, stored, written, takes, assigned, divides, zeroDivisor, interruptAssigned, table as controls}
 use Rattle.claims_sheet.specs.Masks.{saidToUse}
 use Rattle.usage.proofs.Functions.{table}
 use Rattle.claims_sheet.proofs.Rules.{table-of, at-word}
@@ -170,6 +170,22 @@ same-zeros : table-of (λ op e f. zero-at (controlAt op e) f) ≡ table-of (λ o
 unfolding table zero-at kindAt second
 same-zeros = refl
 
+-- whether it touches a locked byte (with bit 15 none), of Ra and Rb; and the same, of 0 for what is not used
+locked-at : ℕ → ℕ → ℕ → ℕ → ℕ → State → Bool
+locked-at c f w x y s =
+    let u = unitOf c f w x y in
+    not (byInterrupt c) && touchesLocked (touchedBy (resultField c) u ++ touchedBy (storeField c) u) s
+
+same-locks : table-of (λ op e f. locked-at (controlAt op e) f)
+    ≡ table-of (λ op e f w x y. let k = kindAt op e f in locked-at (controlAt op e) f w (pick (uses-x k) x 0) (pick (uses-y k) y 0))
+unfolding table locked-at kindAt second
+same-locks = refl
+
+-- which bytes are locked is seen in the range
+same-range : (at : List ℕ) (s t : State) → ((a : ℕ) → isLocked a s ≡ isLocked a t) → touchesLocked at s ≡ touchesLocked at t
+same-range [] s t e = refl
+same-range (a ∷ at) s t e = ap₂ (λ x y. x || y) (e a) (same-range at s t e)
+
 -- ---- What the tables say of a word
 
 or-left : (A B k : ℕ) → inMask A k ≡ true → inMask (bitOr A B) k ≡ true
@@ -218,6 +234,10 @@ module _ (w : ℕ) where
   abbrev pub by-zero : ℕ → Bool
   by-zero y = not (byInterrupt control) && zeroDivisor control w y
 
+  -- it touches a locked byte
+  pub by-lock : ℕ → ℕ → State → Bool
+  by-lock x y s = locked-at control (f-of w) w x y s
+
   pub writes-is : is-assigned ≡ true → masksOf w .writes ≡ maskOf (destination control (f-of w) w)
   unfolding by-control assigned interruptAssigned
   writes-is e = ap (λ M. M .writes) masks-at ∙ ap (λ t. maskOf (pick t (destination control (f-of w) w) none)) e
@@ -232,3 +252,19 @@ module _ (w : ℕ) where
   pub zero-used : (y : ℕ) → by-zero y ≡ by-zero (pick (uses-y kind) y 0)
   unfolding zeroDivisor zero-at
   zero-used y = ap (λ g. g w y) (at-word _ _ same-zeros w)
+
+  -- which is the control word's
+  pub lock-is : (s : State) → (not (byInterrupt control) && lockedAccess control w s) ≡ by-lock (R s (a-of w)) (R s (b-of w)) s
+  unfolding by-lock locked-at lockedAccess unit
+  lock-is s = refl
+
+  pub lock-used : (x y : ℕ) (s : State) → by-lock x y s ≡ by-lock (pick (uses-x kind) x 0) (pick (uses-y kind) y 0) s
+  unfolding by-lock
+  lock-used x y s = ap (λ g. g w x y s) (at-word _ _ same-locks w)
+
+  -- it is seen in Ra, Rb and the range
+  pub lock-same : (x y : ℕ) (s t : State) → ((a : ℕ) → isLocked a s ≡ isLocked a t) → by-lock x y s ≡ by-lock x y t
+  unfolding by-lock locked-at
+  lock-same x y s t e =
+      let u = unitOf control (f-of w) w x y in
+      ap (λ b. not (byInterrupt control) && b) (same-range (touchedBy (resultField control) u ++ touchedBy (storeField control) u) s t e)

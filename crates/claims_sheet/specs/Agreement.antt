@@ -11,7 +11,7 @@ use Rattle.claims_sheet.specs.Rules.{FetchesNow}
 
 pub record Agreement : Type 0 where
   pub steps : (m : Machine) → byTable .steps m ≡ step m
-  -- where no line is to be taken (02, L12), it is what the table's word for the word fetched does
+  -- where it fetches (02, L12 and L14), it is what the table's word for the word fetched does
   pub by-word : (m : Machine) → FetchesNow m → controlStep (controlOf (fetched m)) (fetched m) m ≡ step m
   -- and it writes a port exactly where the word is OUT
   pub ports : (w : ℕ) → writesPort (controlOf w) ≡ isOut w

@@ -1,7 +1,7 @@
 -- The marked cases of 01, the one that 02 (L6) marks, a read of the key (02, L8), a store over the instruction that follows (02, L11), and knob interrupts (02, L12). What a row does not mention, other registers, memory, ports, is any.
 use mathlib.Core.Path.{_≡_}
 use mathlib.Core.Bool.{true, false}
-use mathlib.Core.List.{List, _∷_}
+use mathlib.Core.List.{List, [], _∷_}
 use Prim.Native.Nat.{ℕ}
 use lib.IntN.{ℤ, pos}
 use lib.ListN.{length, getD}
@@ -9,7 +9,7 @@ use Rattle.kinds.specs.declared.Kind.{Kind}
 use Rattle.kinds.specs.declared.Kind.the-variants.{Sha, Shl, Cmplt, Cmpltu, Cmpleu, Ldb, Bz, Div, Ei, Di, Reti, Getiid}
 use Rattle.isa.specs.declared.Instruction.{Instruction}
 use Rattle.isa.specs.Instructions.{instruction, readOf, word, writeOf}
-use Rattle.machine.specs.Machine.{Machine, isSingle, wordAt}
+use Rattle.machine.specs.Machine.{Machine, isSingle, touchesLocked, bytesAt, wordAt}
 use Rattle.machine.specs.Step.{PC, to, fetched, step}
 use Rattle.claims_sheet.specs.Rules.{r, address, FetchesNow}
 
@@ -21,7 +21,11 @@ registers k d a b = record { kind = k; a = a; b = b; d = d; n = pos 0 }
 abbrev pub Is : Instruction → ℕ → Type 0
 Is i w = (writeOf i ≡ word w) × (readOf w ≡ instruction i)
 
--- m, which has eight registers, no line to take (02, L12) and the word w at PC, steps to a machine of which Q holds
+-- none of these bytes is locked (02, L14)
+abbrev pub Free : List ℕ → Machine → Type 0
+Free touched m = touchesLocked touched (m .state) ≡ false
+
+-- m, which has eight registers, fetches (02, L12 and L14) and has the word w at PC, steps to a machine of which Q holds
 abbrev pub Steps : ℕ → Machine → (Machine → Type 0) → Type 0
 Steps w m Q = length (m .state .r) ≡ 8 → FetchesNow m → fetched m ≡ w → (next : Machine) × (step m ≡ to next) × Q next
 
@@ -47,7 +51,7 @@ pub record Marked : Type 0 where
   -- (f) 0x7240 at PC 0x0010, R1 = 0x0101: PC 0x0100, R1 0x0012.
   pub f : (m : Machine) → PC m ≡ 0x0010 → r m 1 ≡ 0x0101 → Steps 0x7240 m (λ next. (PC next ≡ 0x0100) × (r next 1 ≡ 0x0012))
   -- (g) 0x3043 with R0 = 0 reads the word at 2.
-  pub g : (m : Machine) → r m 0 ≡ 0 → Steps 0x3043 m (λ next. r next 1 ≡ wordAt (m .D) 2)
+  pub g : (m : Machine) → r m 0 ≡ 0 → Free (bytesAt 2) m → Steps 0x3043 m (λ next. r next 1 ≡ wordAt (m .D) 2)
   -- (h) SHA of 0x8000 by 0x0010: 0xFFFF; SHL: 0.
   pub h : Gives Sha 0x8000 0x0010 0xFFFF × Gives Shl 0x8000 0x0010 0
   -- (i) shift of 1 by 0x002F: 0x8000.
@@ -56,7 +60,7 @@ pub record Marked : Type 0 where
   pub j : Gives Cmplt 0x8000 0x7FFF 1 × Gives Cmpltu 0x8000 0x7FFF 0
   -- (k) LDB of 0x80: 0xFF80.
   pub k :
-      (m : Machine) (d a : ℕ) (n : ℤ) → getD (m .D) (address m a n) 0 ≡ 0x80
+      (m : Machine) (d a : ℕ) (n : ℤ) → getD (m .D) (address m a n) 0 ≡ 0x80 → Free (address m a n ∷ []) m
       → Does (record { kind = Ldb; a = a; b = 0; d = d; n = n }) m (λ next. r next d ≡ 0xFF80)
   -- (l) BZ not taken at 0xFFFE: PC 0.
   pub l :
@@ -73,7 +77,7 @@ pub record Marked : Type 0 where
   -- 02, L11, with R1 = 2 and R2 = v at PC 0: 0x4280 (ST 0(R1),R2) stores v over the instruction that follows. On the single-memory board the
   -- word fetched next is v, on the older one it is program memory's, as it was.
   pub patch :
-      (m : Machine) (v : ℕ) → PC m ≡ 0 → r m 1 ≡ 2 → r m 2 ≡ v → length (m .D) ≡ 65536
+      (m : Machine) (v : ℕ) → PC m ≡ 0 → r m 1 ≡ 2 → r m 2 ≡ v → length (m .D) ≡ 65536 → Free (bytesAt 2) m
       → (isSingle (m .state) ≡ true → Steps 0x4280 m (λ next. fetched next ≡ v))
       × (isSingle (m .state) ≡ false → Steps 0x4280 m (λ next. fetched next ≡ wordAt (m .P) 2))
   -- 02, L12: EI is 0xC000, DI 0xC001, RETI 0xC002 and GETIID R3 0xC01B.

@@ -1,8 +1,9 @@
 -- Demand 2: every instruction does to registers, PC, memory and ports what the sheet says. Here each of the 34 kinds has
 -- its own line, over the instruction's parts, in the sheet's pseudo-C; the plain machine goes by opcode, e and f.
 use mathlib.Core.Path.{_≡_}
-use mathlib.Core.Bool.{false}
+use mathlib.Core.Bool.{true, false}
 use mathlib.Core.Logic.{_⊎_, _↔_}
+use mathlib.Core.List.{List, [], _∷_}
 use Prim.Native.Nat.{ℕ, _+_, _-_, _*_, _%_, _<_}
 use lib.Bits.{bitAnd, bitOr, bitXor}
 use lib.Dec.{eqb, ltb, leb}
@@ -15,8 +16,8 @@ use Rattle.kinds.specs.declared.Kind.{Kind}
 use Rattle.kinds.specs.declared.Kind.the-variants.{And, Or, Xor, Not, Add, Sub, Sha, Shl, Cmplt, Cmple, Cmpeq, Cmpltu, Cmpleu, Addi, Ld, St, Ldb, Stb, Jalr, Bz, Bnz, Movi, Movhi, In, Out, Mul, Mulh, Mulhu, Div, Divu, Ei, Di, Reti, Getiid}
 use Rattle.isa.specs.declared.Instruction.{Instruction}
 use Rattle.isa.specs.Instructions.{instruction, unassigned, readOf, word, writeOf}
-use Rattle.machine.specs.Machine.{Machine, takesLine, bitOf, putEnabled, putPending, putTaken, putPC, putN, R, count, onState, putD, readFrom, onInputs, putO, wordAt, putWord, putByte}
-use Rattle.machine.specs.Step.{PC, write, jump, Next, cannot, to, fetched, step}
+use Rattle.machine.specs.Machine.{Machine, takesLine, bitOf, putEnabled, putPending, putTaken, putPC, putN, touchesLocked, bytesAt, fetchLocked, R, count, onState, putD, readFrom, onInputs, putO, wordAt, putWord, putByte}
+use Rattle.machine.specs.Step.{PC, write, jump, Next, cannot, to, fetched, fetches, step}
 
 -- the content of register k
 abbrev pub r : Machine → ℕ → ℕ
@@ -33,6 +34,10 @@ address m a n = add (r m a) (SE-n n)
 -- the instruction is done: the machine steps to m, n grown by 1
 abbrev pub done : Machine → Next
 done m = to (onState count m)
+
+-- a load or store that touches a locked byte can't be done, stop 4 (02, L14)
+abbrev pub ifUnlocked : List ℕ → Machine → Next → Next
+ifUnlocked touched m next = pick (touchesLocked touched (m .state)) (cannot 4) next
 
 -- What a kind does with its parts, PC=PC+2 being done, or the stop reason with which it can't be done. MOVHI, IN and OUT have n from 0
 -- to 255: natAbs n is that number.
@@ -66,13 +71,13 @@ effect Cmpleu a b d n m = done (write d (flag (leb (r m a) (r m b))) m)
 -- ADDI Rd, Ra, N6     Rd=Ra+SE(N6)
 effect Addi a b d n m = done (write d (add (r m a) (SE-n n)) m)
 -- LD Rd, N6(Ra)       Rd=Mem_w[(Ra+SE(N6))&(~1)]
-effect Ld a b d n m = done (write d (wordAt (m .D) (clear0 (address m a n))) m)
+effect Ld a b d n m = let at = clear0 (address m a n) in ifUnlocked (bytesAt at) m (done (write d (wordAt (m .D) at) m))
 -- ST N6(Ra), Rb       Mem_w[(Ra+SE(N6))&(~1)]=Rb
-effect St a b d n m = done (putD (putWord (clear0 (address m a n)) (r m b) (m .D)) m)
+effect St a b d n m = let at = clear0 (address m a n) in ifUnlocked (bytesAt at) m (done (putD (putWord at (r m b) (m .D)) m))
 -- LDB Rd, N6(Ra)      Rd=SE(Mem_b[Ra+SE(N6)])
-effect Ldb a b d n m = done (write d (SE-n (signed 8 (getD (m .D) (address m a n) 0))) m)
+effect Ldb a b d n m = let at = address m a n in ifUnlocked (at ∷ []) m (done (write d (SE-n (signed 8 (getD (m .D) at 0))) m))
 -- STB N6(Ra), Rb      Mem_b[Ra+SE(N6)]=Rb<7..0>
-effect Stb a b d n m = done (putD (putByte (address m a n) (r m b) (m .D)) m)
+effect Stb a b d n m = let at = address m a n in ifUnlocked (at ∷ []) m (done (putD (putByte at (r m b) (m .D)) m))
 -- JALR Rd, Ra         PC=PC+2; tmp=Ra&(~1); Rd=PC; PC=tmp
 effect Jalr a b d n m = let tmp = clear0 (r m a) in done (jump tmp (write d (PC m) m))
 -- BZ Ra, N8           PC=PC+2; if(Ra==0)PC=PC+SE(N8)*2
@@ -110,9 +115,9 @@ effect Getiid a b d n m = done (write d (m .state .line) m)
 abbrev pub stepAs : Instruction → Machine → Next
 stepAs i m = effect (i .kind) (i .a) (i .b) (i .d) (i .n) (jump (add (PC m) 2) m)
 
--- the machine fetches: it has no line to take (02, L12)
+-- the machine fetches: it has no line to take (02, L12), and its fetch touches no locked byte (02, L14)
 abbrev pub FetchesNow : Machine → Type 0
-FetchesNow m = takesLine (m .state) ≡ false
+FetchesNow m = fetches (m .state) ≡ true
 
 -- Line k is the lowest that is pending.
 pub record LowestLine (pending k : ℕ) : Type 0 where
@@ -139,5 +144,7 @@ pub record Rules : Type 0 where
   pub taking :
       (m : Machine) (k : ℕ) → m .state .pending < 256 → (m .state .enabled ≡ 0 → ⊥) → LowestLine (m .state .pending) k
       → (next : Machine) × (step m ≡ to next) × TakesLine m k next
-  -- The machine fetches exactly where enable is off or no bit is set.
-  pub fetching : (m : Machine) → FetchesNow m ↔ ((m .state .enabled ≡ 0) ⊎ (m .state .pending ≡ 0))
+  -- Where none is to be taken, a fetch that touches a locked byte can't be made (02, L14).
+  pub locked-fetch : (m : Machine) → takesLine (m .state) ≡ false → fetchLocked (m .state) ≡ true → step m ≡ cannot 4
+  -- The machine fetches exactly where enable is off or no bit is set, and the fetch touches no locked byte.
+  pub fetching : (m : Machine) → FetchesNow m ↔ (((m .state .enabled ≡ 0) ⊎ (m .state .pending ≡ 0)) × (fetchLocked (m .state) ≡ false))

@@ -1,41 +1,22 @@
-// The single-memory board: cases whose programs store into themselves, and files that just fit it and just do not.
+// The single-memory board: cases whose programs store into themselves, and files that just fit it and just do not. The section on locked
+// calibration is of the same two parts.
 use crate::cases::load_whole;
 use crate::cases::play_loaded;
-use crate::cases::print_load;
-use machine::State;
+use crate::loads;
+use crate::loads::print_load;
 use numbers::number;
 use player::file::Sort;
 use player::lent::Log;
 use player::lent::Memory;
 use player::lent::Ports;
-use player::print;
 use replies::SisaLoad;
 
 const LARGE_BYTES: usize = 64016;
 
 type LargeFile = [u8; LARGE_BYTES];
 
-// The board that case c is loaded for.
-pub fn board_of(c: u16) -> u8 {
-    match c {
-        80..=87 | 89 | 91 | 93 | 95 => 1,
-        _ => 0,
-    }
-}
-
-// The line of a state's board, which the cases of this section have.
-pub fn print_board(c: u16, state: State) {
-    match c {
-        80..=88 => {
-            print::text(b"board");
-            print::field(c as u64);
-            print::last_field(state.board as u64);
-        }
-        _ => {}
-    }
-}
-
 fn play(
+    sort: Sort,
     c: u16,
     program: &mut Memory,
     memory: &mut Memory,
@@ -43,7 +24,7 @@ fn play(
     outputs: &mut Ports,
     log: &mut Log,
 ) {
-    let load = load_whole(Sort::Stores, c, program, memory, inputs, outputs);
+    let load = load_whole(sort, c, program, memory, inputs, outputs);
     play_loaded(c, load, program, memory, inputs, outputs, log);
 }
 
@@ -55,7 +36,10 @@ fn large_file(c: u16) -> LargeFile {
     }
     file[1] = 125;
     file[4] = 16;
-    file[8] = if c == 86 { 0 } else { 1 };
+    file[8] = match c {
+        87 | 88 | 109 => 1,
+        _ => 0,
+    };
     file[9] = 6;
     file[12] = 16;
     file
@@ -69,7 +53,7 @@ fn load_large(
     outputs: &mut [u16],
 ) -> SisaLoad {
     let file = large_file(c);
-    sisa::sisa_load(&file, board_of(c), program, memory, inputs, outputs)
+    loads::load(c, &file, program, memory, inputs, outputs)
 }
 
 fn play_large(
@@ -84,17 +68,22 @@ fn play_large(
     print_load(b"load", c, load, program, memory, inputs, outputs, log);
 }
 
+// A section: cases from `first` on, and from `large` on, up to `end`, files.
 pub fn all(
+    sort: Sort,
+    first: u16,
+    large: u16,
+    end: u16,
     program: &mut Memory,
     memory: &mut Memory,
     inputs: &mut Ports,
     outputs: &mut Ports,
     log: &mut Log,
 ) {
-    for c in 80..86 {
-        play(c, program, memory, inputs, outputs, log);
+    for c in first..large {
+        play(sort, c, program, memory, inputs, outputs, log);
     }
-    for c in 86..89 {
+    for c in large..end {
         play_large(c, program, memory, inputs, outputs, log);
     }
 }

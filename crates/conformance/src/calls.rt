@@ -1,5 +1,6 @@
 // The calls of a case of docs/CONFORMANCE.md, played on the C interface.
 use crate::instructions;
+use crate::locks;
 use crate::runs;
 use machine::State;
 use player::digest;
@@ -56,7 +57,7 @@ fn window_count(c: u16, i: u16, start: u16) -> usize {
         0 => rest,
         1 => rest + 1,
         2 => 0,
-        _ => (of_call(c, i, 3) % 4096) as usize,
+        _ => locks::window_bytes(c, i),
     }
 }
 
@@ -68,11 +69,11 @@ fn window_digest(bytes: &[u8], window: SisaWindow) -> u32 {
     digest::bytes(0, &rest[0..count])
 }
 
-fn window<'a>(c: u16, i: u16, program: &'a [u8], memory: &'a [u8]) {
+fn window<'a>(c: u16, i: u16, kept: State, program: &'a [u8], memory: &'a [u8]) {
     let of_data = (of_call(c, i, 1) % 2) as u8;
-    let start = of_call(c, i, 2);
+    let start = locks::window_start(c, i);
     let count = window_count(c, i, start);
-    let window = sisa::sisa_window(program, memory, of_data, start as usize, count);
+    let window = sisa::sisa_window(kept, program, memory, of_data, start as usize, count);
     start_line(b"window", c, i);
     print::field(window.start as u64);
     print::field(window.count as u64);
@@ -101,7 +102,7 @@ pub fn call(
             kept
         }
         6 => {
-            window(c, i, program, memory);
+            window(c, i, kept.state, program, memory);
             kept
         }
         7 => {

@@ -1,9 +1,10 @@
 // A case: its load, its calls, its saves and its going back.
 use crate::backs;
 use crate::backs::GOING_BACK;
-use crate::boards;
 use crate::calls;
 use crate::calls::Kept;
+use crate::loads;
+use crate::loads::print_load;
 use crate::saves;
 use crate::sheets;
 use machine::State;
@@ -15,7 +16,6 @@ use player::lent::Log;
 use player::lent::Memory;
 use player::lent::Ports;
 use player::lent::all_but;
-use player::print;
 use replies::SisaLoad;
 
 // The memory lent is short where the page says so.
@@ -28,14 +28,7 @@ fn load(
     outputs: &mut [u16],
 ) -> SisaLoad {
     let bytes = all_but(number(c, 4) % 8 == 0, memory.len());
-    sisa::sisa_load(
-        file,
-        boards::board_of(c),
-        program,
-        &mut memory[0..bytes],
-        inputs,
-        outputs,
-    )
+    loads::load(c, file, program, &mut memory[0..bytes], inputs, outputs)
 }
 
 fn load_file(
@@ -62,32 +55,7 @@ pub fn load_whole(
 ) -> SisaLoad {
     let length = file::length(sort, c, NO_DAMAGE) as usize;
     let file = file::make(sort, c, NO_DAMAGE);
-    sisa::sisa_load(
-        &file[0..length],
-        boards::board_of(c),
-        program,
-        memory,
-        inputs,
-        outputs,
-    )
-}
-
-// The line of a load, and the one of its board.
-pub fn print_load(
-    what: &[u8],
-    c: u16,
-    load: SisaLoad,
-    program: &Memory,
-    memory: &Memory,
-    inputs: &Ports,
-    outputs: &Ports,
-    log: &Log,
-) {
-    print::text(what);
-    print::field(c as u64);
-    print::field(load.refusal as u64);
-    print::left(load.state, program, memory, inputs, outputs, log);
-    boards::print_board(c, load.state);
+    loads::load(c, &file[0..length], program, memory, inputs, outputs)
 }
 
 // Answers the state that the host keeps.

@@ -2,7 +2,7 @@
 use crate::backs;
 use crate::backs::Calls;
 use crate::cases::load_whole;
-use crate::cases::print_load;
+use crate::loads::print_load;
 use player::file::Sort;
 use player::lent::Log;
 use player::lent::Memory;

@@ -1,5 +1,6 @@
 // Plays pseudo-random calls on pseudo-random files, and prints what docs/CONFORMANCE.md says.
 use machine::State;
+use player::file::Sort;
 
 mod backs;
 mod boards;
@@ -10,6 +11,8 @@ mod instructions;
 mod journals;
 mod keys;
 mod knobs;
+mod loads;
+mod locks;
 mod pages;
 mod printed;
 mod runs;
@@ -45,6 +48,10 @@ fn main() {
         );
     }
     boards::all(
+        Sort::Stores,
+        80,
+        86,
+        89,
         &mut program,
         &mut memory,
         &mut inputs,
@@ -64,4 +71,15 @@ fn main() {
     for c in 97..103 {
         pages::play(c, &mut log);
     }
+    boards::all(
+        Sort::Locks,
+        103,
+        109,
+        112,
+        &mut program,
+        &mut memory,
+        &mut inputs,
+        &mut outputs,
+        &mut log,
+    );
 }

@@ -57,6 +57,31 @@ fn first_state(f: u16, i: usize, loaded: State) -> State
     state.with_journaled((i + 1) as u64)
 }
 
+// Loads the file of case f for a board, with no range locked.
+fn load_file(
+    f: u16,
+    board: u8,
+    program: &mut [u8],
+    memory: &mut [u8],
+    inputs: &mut [u16],
+    outputs: &mut [u16],
+) -> State {
+    let length = file::length(Sort::Pages, f, NO_DAMAGE) as usize;
+    let file = file::make(Sort::Pages, f, NO_DAMAGE);
+    let load = sisa::sisa_load(
+        &file[0..length],
+        board,
+        0,
+        0,
+        0,
+        program,
+        memory,
+        inputs,
+        outputs,
+    );
+    load.state
+}
+
 // Loads trim i into its part.
 fn load_trim(
     f: u16,
@@ -70,21 +95,19 @@ fn load_trim(
     requires { ⌜ (length (now programs) ≡ 196608) × (length (now memories) ≡ 196608) ⌝ }
     requires { ⌜ (length (now inputs) ≡ 768) × (length (now outputs) ≡ 768) ⌝ }
 {
-    let length = file::length(Sort::Pages, f, NO_DAMAGE) as usize;
-    let file = file::make(Sort::Pages, f, NO_DAMAGE);
     let a = i * State::MEMORY_BYTES;
     let e = a + State::MEMORY_BYTES;
     let p = i * State::PORTS;
     let q = p + State::PORTS;
-    let load = sisa::sisa_load(
-        &file[0..length],
+    let loaded = load_file(
+        f,
         (i == 1) as u8,
         &mut programs[a..e],
         &mut memories[a..e],
         &mut inputs[p..q],
         &mut outputs[p..q],
     );
-    first_state(f, i, load.state)
+    first_state(f, i, loaded)
 }
 
 // The states that the host keeps at first.

@@ -1,7 +1,6 @@
 // The saves of a case, and the load of a saved file.
-use crate::boards;
 use crate::calls;
-use crate::cases;
+use crate::loads;
 use machine::State;
 use player::digest;
 use player::lent::Log;
@@ -51,7 +50,7 @@ fn print_save(c: u16, s: u16, saved: SisaSaved, destination: &[u8]) {
     print::field(saved.refusal as u64);
     print::field(saved.length as u64);
     print::last_field(digest::bytes(0, destination) as u64);
-    boards::print_board(c, saved.state);
+    loads::print_named(c, saved.state);
 }
 
 // Save s. Answers the length of its file.
@@ -80,14 +79,7 @@ fn load(
     outputs: &mut [u16],
 ) -> SisaLoad {
     let most = least(length, destination.len());
-    sisa::sisa_load(
-        &destination[0..most],
-        boards::board_of(c),
-        program,
-        memory,
-        inputs,
-        outputs,
-    )
+    loads::load(c, &destination[0..most], program, memory, inputs, outputs)
 }
 
 // The file of this length, at the front of the destination, is loaded.
@@ -102,7 +94,7 @@ fn load_again(
     log: &Log,
 ) -> SisaLoad {
     let load = load(c, length, destination, program, memory, inputs, outputs);
-    cases::print_load(b"again", c, load, program, memory, inputs, outputs, log);
+    loads::print_load(b"again", c, load, program, memory, inputs, outputs, log);
     load
 }
 

@@ -11,7 +11,7 @@ fn main() {
     let mut outputs = [0u16; State::PORTS];
     let mut log = [0u64; 64];
     player::lent::fill(&mut program, &mut inputs, &mut log);
-    for t in 0..176 {
+    for t in 0..192 {
         runs::play(
             t,
             &mut program,

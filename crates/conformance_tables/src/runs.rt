@@ -1,7 +1,9 @@
 // The runs by a table.
 use crate::tables;
 use crate::tables::INTERRUPTS;
+use crate::tables::LOCKS;
 use crate::tables::Table;
+use image::Range;
 use machine::Board;
 use machine::State;
 use numbers::number;
@@ -147,6 +149,30 @@ fn start_of(t: u16, c: u16, loaded: State) -> State {
     state
 }
 
+fn board_of(t: u16) -> Board {
+    if t < LOCKS {
+        Board::TwoMemories
+    } else {
+        machine::board_of((t % 2) as u8)
+    }
+}
+
+fn range_of(t: u16, c: u16) -> Range {
+    if t < LOCKS {
+        return Range {
+            locked: 0,
+            first: 0,
+            last: 0,
+        };
+    }
+    let first = 256 + number(c, 74) % 16384;
+    Range {
+        locked: 1,
+        first,
+        last: first + number(c, 75) % 32768,
+    }
+}
+
 // The state that the runs start from.
 fn load(
     t: u16,
@@ -161,7 +187,8 @@ fn load(
     let file = file::make(sort, c, NO_DAMAGE);
     let loaded = image::load(
         &file[0..length],
-        Board::TwoMemories,
+        board_of(t),
+        range_of(t, c),
         program,
         memory,
         inputs,
@@ -180,7 +207,7 @@ pub fn play(
     outputs: &mut Ports,
     log: &mut Log,
 ) {
-    let c = 1000 + t % 176;
+    let c = 1000 + t % 192;
     let start = load(t, c, program, memory, inputs, outputs);
     run_all(t, c, start, program, memory, inputs, outputs, log);
 }

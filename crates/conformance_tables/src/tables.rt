@@ -6,6 +6,9 @@ pub type Table = [u16; 32];
 // The first of the tables with knob interrupts.
 pub const INTERRUPTS: u16 = 160;
 
+// The first of the tables whose file is loaded with a range.
+pub const LOCKS: u16 = 176;
+
 // The paper's table with OUT's word at IN's place too.
 fn with_out_at_in() -> Table {
     let mut words = control::control_table();

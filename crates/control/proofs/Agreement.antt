@@ -13,10 +13,10 @@ use Rattle.word.specs.Word.{pick, add, SE}
 use Rattle.word.proofs.Computed.{all, all-at}
 use Rattle.word.proofs.Signed.{SE-is}
 use Rattle.word.proofs.Tests.{is-true}
-use Rattle.machine.specs.Machine.{Machine, R}
-use Rattle.machine.specs.Step.{PC, Ra, Rb, d11-9, write, jump, among, Rule, RuleRow, by-f, by-f-dividing, one, by-e, no-rule, ruleRows, Choice, rule, division, unassigned, ruleInRow, choice, Next, cannot, doing, stepBy, stepWith, step, compute, compare, addi, ld, st, ldb, stb, jalr, bz, bnz, movi, movhi, input, output, multiplyDivide, interrupt, byRule}
+use Rattle.machine.specs.Machine.{Machine, touchesLocked, R}
+use Rattle.machine.specs.Step.{PC, Ra, Rb, d11-9, write, jump, among, RuleRow, by-f, by-f-dividing, one, one-at, by-e, no-rule, ruleRows, rule, division, unassigned, ruleInRow, choice, Next, cannot, doing, stepBy, stepWith, step, compute, compare, addi, ld, st, ldb, stb, jalr, bz, bnz, movi, movhi, input, output, multiplyDivide, interrupt}
 use Rattle.machine.specs.Run.{isOut, fetchesA, byRules}
-use Rattle.control.specs.Control.{interrupted, interruptAssigned, second, unit, result, inputsAfter, next, storedData, stored, written, performed, assigned, zeroDivisor, writesPort, controlStep, table, controlIn, controlOf, byTable}
+use Rattle.control.specs.Control.{interrupted, interruptAssigned, second, unit, result, inputsAfter, next, storedData, stored, written, performed, assigned, zeroDivisor, lockedAccess, writesPort, controlStep, table, controlIn, controlOf, byTable}
 
 -- ---- A table of two columns: what is done, and whether a port is written
 
@@ -32,6 +32,7 @@ abbrev stepRow : RuleRow → ℕ → ℕ → Machine → Next
 stepRow (by-f fs r) e w m = pick (among (f-of w) fs) (doing r w m) (cannot 1)
 stepRow (by-f-dividing fs gs r) e w m = pick (among (f-of w) fs) (pick (among (f-of w) gs && eqb (Rb w m) 0) (cannot 3) (doing r w m)) (cannot 1)
 stepRow (one r) e w m = doing r w m
+stepRow (one-at touched r) e w m = pick (touchesLocked (touched w m) (m .state)) (cannot 4) (doing r w m)
 stepRow (by-e r₀ r₁) e w m = doing (pick (eqb e 0) r₀ r₁) w m
 stepRow no-rule e w m = cannot 1
 
@@ -48,6 +49,7 @@ row-is (by-f-dividing fs gs r) e w m = by-tests (among (f-of w) fs) (among (f-of
     by-tests true false = refl
     by-tests false s = refl
 row-is (one r) e w m = refl
+row-is (one-at touched r) e w m = refl
 row-is (by-e r₀ r₁) e w m = refl
 row-is no-rule e w m = refl
 
@@ -103,7 +105,7 @@ from g k [] = []
 from g k (x ∷ xs) = g (k / 2) (k % 2) ∷ from g (suc k) xs
 
 test : map by-control table ≡ from by-row 0 table
-unfolding by-control by-row compute compare addi ld st ldb stb jalr movi input output multiplyDivide interrupt controlStep interrupted interruptAssigned performed assigned zeroDivisor second unit result inputsAfter next storedData stored written
+unfolding by-control by-row compute compare addi ld st ldb stb jalr movi input output multiplyDivide interrupt controlStep interrupted interruptAssigned performed assigned zeroDivisor lockedAccess second unit result inputsAfter next storedData stored written
 test = rw (bz-is, bnz-is, movhi-is)
 
 -- ---- The lemma: the test, read at the place of a word

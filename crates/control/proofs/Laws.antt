@@ -1,5 +1,5 @@
 -- What holds of a step by any control word, and of a line taken before one: it adds 1 to n, keeps an even PC and an even return address even, drops no entry of L, leaves the count of journal
--- entries and the board, keeps P and the lengths, and does not look at L. So it holds of a run by any table, and of the plain machine, whose steps are the
+-- entries, the board and the locked range, keeps P and the lengths, and does not look at L. So it holds of a run by any table, and of the plain machine, whose steps are the
 -- table's.
 -- Assumes nothing.
 use mathlib.Core.Path.{_≡_, refl, sym, ap, subst, _∙_}
@@ -15,18 +15,18 @@ use Rattle.word.specs.Word.{pick, add, clear0, SE}
 use Rattle.word.proofs.Tables.{looked-up}
 use Rattle.word.proofs.Tests.{clash, either}
 use Rattle.machine.specs.declared.State.{State}
-use Rattle.machine.specs.Machine.{Machine, takesLine, lineTaken, putR, putPC, count, onState, putD, onInputs, putO, putWord, putByte}
+use Rattle.machine.specs.Machine.{Machine, takesLine, lineTaken, fetchLocked, putR, putPC, count, onState, putD, onInputs, putO, putWord, putByte}
 use Rattle.machine.specs.Step.{PC, Ra, Rb, d5-3, d8-6, d11-9, interruptRules, fetched, Next, cannot, to, taking}
 use Rattle.machine.specs.Run.{Stepper, byRules}
 use Rattle.machine.proofs.Inputs.{read-length}
 use Rattle.machine.proofs.Runs.{unwritten, Even, Lawful}
-use Rattle.control.specs.Control.{byInterrupt, interruptAssigned, interrupted, unit, result, inputsAfter, next, storeField, writesPort, storedData, stored, written, performed, assigned, zeroDivisor, controlStep, controlIn, byControl, table}
+use Rattle.control.specs.Control.{byInterrupt, interruptAssigned, interrupted, unit, result, inputsAfter, next, storeField, writesPort, storedData, stored, written, performed, assigned, zeroDivisor, lockedAccess, controlStep, controlIn, byControl, table}
 use Rattle.control.proofs.Agreement.{same-stepper}
 
 -- ---- The parts
 
 -- the destination's write keeps all but the registers
-abbrev apart : State → ℕ × (ℕ × (ℕ × (ℕ × (ℕ × ℕ))))
+abbrev apart : State → ℕ × (ℕ × (ℕ × (ℕ × (ℕ × ℕ × ℕ × ℕ × ℕ))))
 apart s = (s .pc, (s .n, (s .«return_address», (s .pending, unwritten s))))
 
 written-keeps : (c w v : ℕ) (s : State) → apart (written c w v s) ≡ apart s
@@ -202,23 +202,30 @@ word-at words m = controlIn words (fetched m)
 abbrev zero-at : List ℕ → Machine → Bool
 zero-at words m = zeroDivisor (word-at words m) (fetched m) (Rb (fetched m) m)
 
+abbrev locked-at : List ℕ → Machine → Bool
+locked-at words m = lockedAccess (word-at words m) (fetched m) (m .state)
+
 abbrev done-at : List ℕ → Machine → Machine
 done-at words m = performed (word-at words m) (fetched m) m
 
+-- why a machine can't step
+abbrev pub Reason : ℕ → Type 0
+Reason q = (q ≡ 1) ⊎ ((q ≡ 3) ⊎ (q ≡ 4))
+
 module _ (words : List ℕ) where
   -- where a word is fetched: bit 15 leaves the choice to f, or it is done by the fields, or it can't be done
-  fetched-ways : (m : Machine) (Q : Next → Type 0) → Q (to (interrupted (word-at words m) (fetched m) m)) → Q (to (done-at words m)) → Q (cannot 1) → Q (cannot 3)
+  fetched-ways : (m : Machine) (Q : Next → Type 0) → Q (to (interrupted (word-at words m) (fetched m) m)) → Q (to (done-at words m)) → Q (cannot 1) → Q (cannot 3) → Q (cannot 4)
       → Q (controlStep (word-at words m) (fetched m) m)
   unfolding controlStep
-  fetched-ways m Q by-f done none zero =
+  fetched-ways m Q by-f done none zero locked =
       let c = word-at words m in
       let w = fetched m in
-      either Q (byInterrupt c) (either Q (interruptAssigned c w) by-f none) (either Q (assigned c w) (either Q (zero-at words m) zero done) none)
+      either Q (byInterrupt c) (either Q (interruptAssigned c w) by-f none) (either Q (assigned c w) (either Q (zero-at words m) zero (either Q (locked-at words m) locked done)) none)
 
-  -- or a line is taken
-  ways : (m : Machine) (Q : Next → Type 0) → Q (taking m) → Q (to (interrupted (word-at words m) (fetched m) m)) → Q (to (done-at words m)) → Q (cannot 1) → Q (cannot 3)
+  -- or a line is taken, or the fetch touches a locked byte
+  ways : (m : Machine) (Q : Next → Type 0) → Q (taking m) → Q (to (interrupted (word-at words m) (fetched m) m)) → Q (to (done-at words m)) → Q (cannot 1) → Q (cannot 3) → Q (cannot 4)
       → Q (byControl words .steps m)
-  ways m Q taken by-f done none zero = either Q (takesLine (m .state)) taken (fetched-ways m Q by-f done none zero)
+  ways m Q taken by-f done none zero locked = either Q (takesLine (m .state)) taken (either Q (fetchLocked (m .state)) locked (fetched-ways m Q by-f done none zero locked))
 
   -- where it stepped, it did what the control word says
   stepped : (m after : Machine) → byControl words .steps m ≡ to after → Keeps m after
@@ -228,6 +235,7 @@ module _ (words : List ℕ) where
       (led _ (taking-keeps m))
       (led _ (interrupt-keeps (word-at words m) (fetched m) m))
       (led _ (step-keeps (word-at words m) (fetched m) m))
+      (λ e. clash (cc))
       (λ e. clash (cc))
       (λ e. clash (cc))
 
@@ -240,16 +248,21 @@ module _ (words : List ℕ) where
       (led _ (step-lines (word-at words m) (fetched m) m))
       (λ e. clash (cc))
       (λ e. clash (cc))
-      (sym (ap (λ u. pick u (taking m) (controlStep (word-at words m) (fetched m) m)) t) ∙ e)
+      (λ e. clash (cc))
+      (word-steps (fetchLocked (m .state)) (sym (ap (λ u. pick u (taking m) (pick (fetchLocked (m .state)) (cannot 4) (controlStep (word-at words m) (fetched m) m))) t) ∙ e))
+    where
+      word-steps : (b : Bool) → pick b (cannot 4) (controlStep (word-at words m) (fetched m) m) ≡ to after → controlStep (word-at words m) (fetched m) m ≡ to after
+      word-steps true x = clash (cc)
+      word-steps false x = x
 
-  pub cannot-control : (m : Machine) (q : ℕ) → byControl words .steps m ≡ cannot q → (q ≡ 1) ⊎ (q ≡ 3)
+  pub cannot-control : (m : Machine) (q : ℕ) → byControl words .steps m ≡ cannot q → Reason q
   cannot-control m q =
-      ways m (λ x. x ≡ cannot q → (q ≡ 1) ⊎ (q ≡ 3)) (λ e. clash (cc)) (λ e. clash (cc)) (λ e. clash (cc)) (λ e. inl (cc)) (λ e. inr (cc))
+      ways m (λ x. x ≡ cannot q → Reason q) (λ e. clash (cc)) (λ e. clash (cc)) (λ e. clash (cc)) (λ e. inl (cc)) (λ e. inr (inl (cc))) (λ e. inr (inr (cc)))
 
   pub lawful-control : Lawful (byControl words)
   lawful-control =
       record {
-        reasons = λ m q e z. ⊎-elim (λ h. omega (arith, h)) (λ h. omega (arith, h)) (cannot-control m q e);
+        reasons = λ m q e z. ⊎-elim (λ h. omega (arith, h)) (⊎-elim (λ h. omega (arith, h)) (λ h. omega (arith, h))) (cannot-control m q e);
         counts = λ m next e. stepped m next e .counts;
         even = λ m next e. stepped m next e .even;
         grows = λ m next e. stepped m next e .grows;
@@ -262,20 +275,23 @@ module _ (words : List ℕ) where
   local-control =
       record {
         keeps = λ m next e. stepped m next e .lent;
-        steps-shift = λ l m. let c = word-at words m in by-tests l m (takesLine (m .state)) (byInterrupt c) (interruptAssigned c (fetched m)) (assigned c (fetched m)) (zero-at words m);
+        steps-shift = λ l m. let c = word-at words m in by-tests l m (takesLine (m .state)) (fetchLocked (m .state)) (byInterrupt c) (interruptAssigned c (fetched m)) (assigned c (fetched m)) (zero-at words m) (locked-at words m);
         writes-shift = λ l m. refl;
       }
     where
-      by-tests : (l : List ℕ) (m : Machine) (t b i a z : Bool)
+      by-tests : (l : List ℕ) (m : Machine) (t f b i a z k : Bool)
           → pick t (taking (shift l m))
-          (pick b (pick i (to (interrupted (word-at words m) (fetched m) (shift l m))) (cannot 1)) (pick a (pick z (cannot 3) (to (performed (word-at words m) (fetched m) (shift l m)))) (cannot 1)))
-          ≡ shiftNext l (pick t (taking m) (pick b (pick i (to (interrupted (word-at words m) (fetched m) m)) (cannot 1)) (pick a (pick z (cannot 3) (to (done-at words m))) (cannot 1))))
-      by-tests l m true b i a z = refl
-      by-tests l m false true true a z = refl
-      by-tests l m false true false a z = refl
-      by-tests l m false false i true true = refl
-      by-tests l m false false i true false = ap to (step-shift (word-at words m) (fetched m) l m)
-      by-tests l m false false i false z = refl
+          (pick f (cannot 4)
+          (pick b (pick i (to (interrupted (word-at words m) (fetched m) (shift l m))) (cannot 1)) (pick a (pick z (cannot 3) (pick k (cannot 4) (to (performed (word-at words m) (fetched m) (shift l m))))) (cannot 1))))
+          ≡ shiftNext l (pick t (taking m) (pick f (cannot 4) (pick b (pick i (to (interrupted (word-at words m) (fetched m) m)) (cannot 1)) (pick a (pick z (cannot 3) (pick k (cannot 4) (to (done-at words m)))) (cannot 1)))))
+      by-tests l m true f b i a z k = refl
+      by-tests l m false true b i a z k = refl
+      by-tests l m false false true true a z k = refl
+      by-tests l m false false true false a z k = refl
+      by-tests l m false false false i true true k = refl
+      by-tests l m false false false i true false true = refl
+      by-tests l m false false false i true false false = ap to (step-shift (word-at words m) (fetched m) l m)
+      by-tests l m false false false i false z k = refl
 
 -- ---- The plain machine's
 
@@ -285,5 +301,5 @@ lawful-rules = subst Lawful same-stepper (lawful-control table)
 pub local-rules : Local byRules
 local-rules = subst Local same-stepper (local-control table)
 
-pub cannot-rules : (m : Machine) (q : ℕ) → byRules .steps m ≡ cannot q → (q ≡ 1) ⊎ (q ≡ 3)
-cannot-rules = subst (λ v. (m : Machine) (q : ℕ) → v .steps m ≡ cannot q → (q ≡ 1) ⊎ (q ≡ 3)) same-stepper (cannot-control table)
+pub cannot-rules : (m : Machine) (q : ℕ) → byRules .steps m ≡ cannot q → Reason q
+cannot-rules = subst (λ v. (m : Machine) (q : ℕ) → v .steps m ≡ cannot q → Reason q) same-stepper (cannot-control table)

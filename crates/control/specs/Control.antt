@@ -4,15 +4,15 @@
 -- unit 5's value for an f that it does not take or a zero divisor; such a result reads no port. No word of the table has such a field, and
 -- no step looks at such a value of unit 5.
 use Prim.Native.Nat.{ℕ, _+_, _*_, _%_}
-use mathlib.Core.Bool.{Bool, true, false, not, _&&_}
-use mathlib.Core.List.{List, [], _∷_}
+use mathlib.Core.Bool.{Bool, true, not, _&&_}
+use mathlib.Core.List.{List, [], _∷_, _++_}
 use lib.Dec.{eqb}
 use lib.ListN.{getD}
-use Rattle.word.specs.Fields.{bits, field, opcode, e-of, f-of, N6, N8}
+use Rattle.word.specs.Fields.{bits, field, opcode, a-of, b-of, e-of, f-of, N6, N8}
 use Rattle.word.specs.Word.{pick, add, clear0, SE, operation, comparison}
 use Rattle.muldiv.specs.Muldiv.{muldiv}
 use Rattle.machine.specs.declared.State.{State}
-use Rattle.machine.specs.Machine.{Machine, putR, putPC, count, onState, putD, readFrom, onInputs, putO, wordAt, putWord, putByte}
+use Rattle.machine.specs.Machine.{Machine, touchesLocked, bytesAt, R, putR, putPC, count, onState, putD, readFrom, onInputs, putO, wordAt, putWord, putByte}
 use Rattle.machine.specs.Step.{PC, Ra, Rb, d5-3, d8-6, d11-9, among, interruptRules, Next, cannot, to, stepWith}
 use Rattle.machine.specs.Run.{Stepper, fetchesA}
 
@@ -35,15 +35,18 @@ unit c w x y = getD (units (f-of w) x (second c w y)) (unitField c) 0
 
 -- Bits 4..2 result: 0 unit, 1 word read, 2 SE of the byte read, 3 PC+2, 4 input. The unit's result is the data address, with
 -- bit 0 cleared for a word; N8 is the port.
+abbrev pub resultField : ℕ → ℕ
+resultField c = field (bits 4 2) c
+
 abbrev pub results : ℕ → ℕ → ℕ → List ℕ → List ℕ → List ℕ
 results w u pc D I = u ∷ wordAt D (clear0 u) ∷ SE 8 (getD D u 0) ∷ add pc 2 ∷ getD I (N8 w) 0 ∷ []
 
 unfoldable pub result : ℕ → ℕ → ℕ → ℕ → List ℕ → List ℕ → ℕ
-result c w u pc D I = getD (results w u pc D I) (field (bits 4 2) c) 0
+result c w u pc D I = getD (results w u pc D I) (resultField c) 0
 
 -- Result 4 reads the port N8, so that from port 1 it sets input 0 to zero (02, L8), whatever the destination. No other result looks at a port.
 unfoldable pub inputsAfter : ℕ → ℕ → List ℕ → List ℕ
-inputsAfter c w I = pick (eqb (field (bits 4 2) c) 4) (readFrom (N8 w) I) I
+inputsAfter c w I = pick (eqb (resultField c) 4) (readFrom (N8 w) I) I
 
 -- Bits 13..12 next: 0 PC+2, 1 branch if Ra is zero, 2 if not (both as rule 8), 3 jump to Ra with bit 0 cleared.
 unfoldable pub next : ℕ → ℕ → ℕ → ℕ → ℕ
@@ -104,6 +107,16 @@ divides u f = eqb u 5 && among f (4 ∷ 5 ∷ [])
 unfoldable pub zeroDivisor : ℕ → ℕ → ℕ → Bool
 zeroDivisor c w y = divides (unitField c) (f-of w) && eqb (second c w y) 0
 
+-- Result 1 and store 1 touch the word at the unit's result with bit 0 cleared, result 2 and store 2 the byte (02, L14).
+abbrev pub touchedBy : ℕ → ℕ → List ℕ
+touchedBy k u = getD ([] ∷ bytesAt (clear0 u) ∷ (u ∷ []) ∷ []) k []
+
+-- The step touches a locked byte, whatever its destination.
+unfoldable pub lockedAccess : ℕ → ℕ → State → Bool
+lockedAccess c w s =
+    let u = unit c w (R s (a-of w)) (R s (b-of w)) in
+    touchesLocked (touchedBy (resultField c) u ++ touchedBy (storeField c) u) s
+
 -- ---- Bit 15: f 0 to 3 is EI, DI, RETI, GETIID, the last with the destination that bits 1..0 choose; PC+2 comes first, and n grows by 1
 
 unfoldable pub interrupted : ℕ → ℕ → Machine → Machine
@@ -114,13 +127,15 @@ interrupted c w m =
 unfoldable pub interruptAssigned : ℕ → ℕ → Bool
 interruptAssigned c w = eqb (field (bits 14 14) c) 1 && among (f-of w) (0 ∷ 1 ∷ 2 ∷ 3 ∷ [])
 
--- ---- The step
+-- ---- The step: stop 1, then 3, then 4. With bit 15 nothing is touched.
 
 unfoldable pub controlStep : ℕ → ℕ → Machine → Next
 controlStep c w m =
     pick (byInterrupt c)
     (pick (interruptAssigned c w) (to (interrupted c w m)) (cannot 1))
-    (pick (assigned c w) (pick (zeroDivisor c w (Rb w m)) (cannot 3) (to (performed c w m))) (cannot 1))
+    (pick (assigned c w)
+    (pick (zeroDivisor c w (Rb w m)) (cannot 3) (pick (lockedAccess c w (m .state)) (cannot 4) (to (performed c w m))))
+    (cannot 1))
 
 -- ---- The table: 32 words, at opcode times 2 plus e
 
@@ -156,7 +171,8 @@ controlIn words w = getD words (opcode w * 2 + e-of w) 0
 abbrev pub controlOf : ℕ → ℕ
 controlOf w = controlIn table w
 
--- ---- What a run by a table goes by: the table's word for the word fetched, where no line is to be taken (02, L12)
+-- ---- What a run by a table goes by: the table's word for the word fetched, where no line is to be taken (02, L12) and the fetch touches no locked
+-- byte (02, L14)
 
 abbrev pub byControl : List ℕ → Stepper
 byControl words =

@@ -2,22 +2,22 @@
 -- Assumes nothing.
 use mathlib.Core.Path.{_≡_, refl, sym, ap, subst, _∙_}
 use mathlib.Core.Bool.{Bool, true, false}
-use mathlib.Core.Logic.{inl}
+use mathlib.Core.Logic.{_⊎_, inl, inr, ⊎-elim}
 use mathlib.Core.List.{List, [], _∷_, _++_}
-use Prim.Native.Nat.{ℕ, suc, _+_, _-_, _%_, _<_, _≤_}
+use Prim.Native.Nat.{ℕ, suc, _+_, _-_, _<_, _≤_}
 use native.Mathlib.Nat.{sub-zero, zero-add}
 use native.Mathlib.Omega.{arith}
 use lib.Dec.{leb}
 use lib.ListN.{length, getD, take, drop, take-append-drop}
 use lib.Seq.{length-take-le, drop-drop}
 use Rattle.machine.specs.declared.State.{State}
-use Rattle.machine.specs.Machine.{Machine, takesLine, lineTaken, count}
+use Rattle.machine.specs.Machine.{Machine, takesLine, fetchLocked, lineTaken, count}
 use Rattle.machine.specs.Step.{Next, cannot, to, fetched}
 use Rattle.machine.specs.Run.{Stepper, Outcome, noPlace, unless, runFrom, traceFrom}
-use Rattle.machine.specs.Held.{Fetches, Held, machineOf, isFull, Ready, outcomeOf, StepMeets}
+use Rattle.machine.specs.Held.{Fetches, Held, machineOf, isFull, Ready, outcomeOf, isLockStop, StepMeets}
 use Rattle.word.proofs.Tests.{never}
 use Rattle.machine.proofs.Lines.{takes-none}
-use Rattle.machine.proofs.Runs.{Even, places-even, Lawful, run-none, trace-none, run-stops, trace-stops, run-goes}
+use Rattle.machine.proofs.Runs.{Even, places-even, Lawful, run-none, trace-none, run-cannot, trace-cannot, run-stops, trace-stops, run-goes}
 use Rattle.isa.specs.Masks.{masksOf}
 use Rattle.usage.specs.declared.Usage.{Usage}
 use Rattle.usage.specs.Usage.{wordIs, counted, tookLines, stepCounted, unused, usageOf, plusUsage}
@@ -33,7 +33,7 @@ use Rattle.journal.specs.Journal.{entryOf}
 use Rattle.journal.specs.Parts.{IsEntry}
 use Rattle.journal.proofs.Undone.{is-entry}
 use Rattle.cycle.specs.Loops.{CanRun, chosen, stepOf, writesOf, leftTimed}
-use Rattle.cycle.proofs.Chosen.{lawful, takes-line, tests}
+use Rattle.cycle.proofs.Chosen.{lawful, takes-line, tests, unstopped, stop-4, Free, free}
 use Rattle.cycle.proofs.Counts.{Counting, counting-starts, counts-line, Counts}
 use Rattle.cycle.proofs.Kept.{Keeping, keeping-starts, keeping-turns, keeping-ends, Written}
 
@@ -50,7 +50,7 @@ abbrev pub reported : Given → ℕ → ℕ → Held → State → Journal → U
 reported g q steps h s j u = leftTimed (replied g q steps h s j) u
 
 -- the machine here
-abbrev hereOf : Given → Held → Machine
+abbrev pub hereOf : Given → Held → Machine
 hereOf g h = machineOf (g .P) h
 
 -- the machines of what is left to run from here
@@ -75,6 +75,7 @@ pub record Going (v : Stepper) (g : Given) (keeps : Bool) (journal₀ places₀ 
   pub counted : h .state .n ≡ g .state .n + steps
   pub counts : g .state .n + g .budget ≤ 4294967295
   pub journaled : h .state .journaled ≡ g .state .journaled
+  pub range : h .state .locked ≡ g .state .locked
   pub fits : g .state .journaled + g .budget ≤ 18446744073709551615
   pub rest : drop (h .entries) (h .log) ≡ drop (h .entries) (g .log)
   pub same : runFrom v (g .budget - steps) (length (g .log)) (hereOf g h) ≡ outcomeOn v g
@@ -105,6 +106,7 @@ start v g keeps journal places lends none c =
       counted = omega arith;
       counts = c .counts;
       journaled = refl;
+      range = refl;
       fits = c .fits;
       rest = refl;
       same = λ i. runFrom v (budget i) (full i) (machine i);
@@ -194,6 +196,18 @@ module _ (t : Bool) (words : List ℕ) {g : Given} {keeps : Bool} {journal₀ pl
     keeping-here : Keeping (chosen t words) g keeps journal₀ journal steps (restOf (chosen t words) g h (suc (g .budget - (steps + 1))))
     keeping-here = rw one-left at (v .keeping)
 
+  -- ---- A locked byte stops the step
+
+  pub ends-locked : {s : State} → steps < g .budget → isLockStop (chosen t words .steps (hereOf g h)) ≡ true → EndsWith keeps steps (h .state) s
+      → reported g 4 steps h s (journalIf keeps journal) (tallied places u) ≡ acceptedCounted (chosen t words) g
+  ends-locked b locked e =
+      let stops = stop-4 (chosen t words .steps (hereOf g h)) locked in
+      let none = trace-cannot (chosen t words) _ _ (hereOf g h) 4 stops in
+      both-parts (chosen t words) (lawful t words) g
+      (ends (chosen t words) g h 4 steps (v .filled) (v .rest) (v .counted) (sym (from-here b) ∙ run-cannot (chosen t words) _ _ (hereOf g h) 4 stops)
+      (keeping-ends (chosen t words) g keeps journal₀ (subst (Keeping (chosen t words) g keeps journal₀ journal steps) none (keeping-here b)) (h .state) e))
+      (counted-out (tallied places u) (tallied-sized places u (v .counting .sized)) none (counts-here b))
+
   -- ---- A line is taken
 
   module _ (b : steps < g .budget) (takes : takesLine (h .state) ≡ true) where
@@ -230,6 +244,7 @@ module _ (t : Bool) (words : List ℕ) {g : Given} {keeps : Bool} {journal₀ pl
           counted = omega (arith, law .counts m _ (goes .steps));
           counts = v .counts;
           journaled = ap (λ z. z .0) (law .leaves m _ (goes .steps)) ∙ v .journaled;
+          range = ap (λ z. z .2) (law .leaves m _ (goes .steps)) ∙ v .range;
           fits = v .fits;
           rest = v .rest;
           same = sym (goes .on) ∙ from-here b;
@@ -243,7 +258,7 @@ module _ (t : Bool) (words : List ℕ) {g : Given} {keeps : Bool} {journal₀ pl
 
   -- ---- A word is fetched
 
-  module _ {w stop : ℕ} {after : Held} (b : steps < g .budget) (takes : takesLine (h .state) ≡ false) (fetch : Fetches (h .state) (g .P) (h .D) w) (met : StepMeets (stepOf t words w) (writesOf t words w) h stop after) where
+  module _ {w stop : ℕ} {after : Held} (b : steps < g .budget) (takes : takesLine (h .state) ≡ false) (unlocked : fetchLocked (h .state) ≡ false) (fetch : Fetches (h .state) (g .P) (h .D) w) (met : StepMeets (stepOf t words w) (writesOf t words w) h stop after) where
     fetches : fetched (hereOf g h) ≡ w
     fetches = sym (fetch _ _ _)
 
@@ -251,7 +266,7 @@ module _ (t : Bool) (words : List ℕ) {g : Given} {keeps : Bool} {journal₀ pl
     outcome : outcomeOf (hereOf g h) (unless (noPlace (chosen t words) (length (g .log)) (hereOf g h)) (chosen t words .steps (hereOf g h))) ≡ record { reason = stop; after = hereOf g after }
     outcome =
         let full : leb (length (g .log)) (length ((hereOf g h) .L)) ≡ isFull h = rw (entries-are (g .P) h (v .filled), ← v .log-kept) in
-        ap (outcomeOf (hereOf g h)) (tests t words w (length (g .log)) (hereOf g h) (isFull h) takes fetches full) ∙ met .machine (g .P)
+        ap (outcomeOf (hereOf g h)) (tests t words w (length (g .log)) (hereOf g h) (isFull h) takes unlocked fetches full) ∙ met .machine (g .P)
 
     filled-after : length (hereOf g after .L) ≡ after .entries
     filled-after = entries-are (g .P) after (met .filled)
@@ -303,6 +318,7 @@ module _ (t : Bool) (words : List ℕ) {g : Given} {keeps : Bool} {journal₀ pl
           counted = omega (arith, law .counts m _ (goes .steps));
           counts = v .counts;
           journaled = ap (λ z. z .0) (law .leaves m _ (goes .steps)) ∙ v .journaled;
+          range = ap (λ z. z .2) (law .leaves m _ (goes .steps)) ∙ v .range;
           fits = v .fits;
           rest = met .rest ∙ further (h .entries) (after .entries) (h .log) (g .log) more (v .rest);
           same = sym (goes .on) ∙ from-here b;
@@ -315,3 +331,47 @@ module _ (t : Bool) (words : List ℕ) {g : Given} {keeps : Bool} {journal₀ pl
               keeping-turns (chosen t words) g keeps journal₀ m _ (keeping-here b) (goes .traces) b
               (λ k. is-entry m takes (subst (λ w. IsEntry w (h .state) (h .D) (h .I) (h .O) x) (sym fetches) (noted k))) written;
         }
+
+-- ---- How far the inner loop goes
+
+-- The next step up to `until` is not stopped by a locked byte: there is no range, or that step is the last before `until`.
+pub record Clear (t : Bool) (words : List ℕ) (g : Given) (h : Held) (steps until : ℕ) : Type 0 where
+  pub within : until ≤ g .budget
+  pub reach : (g .state .locked ≡ 0) ⊎ (until ≤ steps + 1)
+  pub next : steps < until → isLockStop (chosen t words .steps (hereOf g h)) ≡ false
+
+module _ (t : Bool) (words : List ℕ) {g : Given} {keeps : Bool} {journal₀ places₀ : List ℕ} {h : Held} {steps : ℕ} {journal places : List ℕ} {u : Usage}
+    (v : Going (chosen t words) g keeps journal₀ places₀ h steps journal places u) where
+  pub clear-without : {until : ℕ} → h .state .locked ≡ 0 → until ≡ g .budget → Clear t words g h steps until
+  clear-without e b = record { within = omega arith; reach = inl (sym (v .range) ∙ e); next = λ l. unstopped t words (hereOf g h) e }
+
+  pub clear-once : {until : ℕ} → steps < g .budget → until ≡ steps + 1 → isLockStop (chosen t words .steps (hereOf g h)) ≡ false → Clear t words g h steps until
+  clear-once b e f = record { within = omega arith; reach = inr (omega arith); next = λ l. f }
+
+-- after a step
+pub clear-on : (t : Bool) (words : List ℕ) {g : Given} {keeps : Bool} {journal₀ places₀ : List ℕ} {h after : Held} {steps until : ℕ} {journal places : List ℕ} {u : Usage}
+    → Clear t words g h steps until → Going (chosen t words) g keeps journal₀ places₀ after (steps + 1) journal places u → Clear t words g after (steps + 1) until
+clear-on t words {g} {after = after} c v =
+    record {
+      within = c .within;
+      reach = ⊎-elim inl (λ l. inr (omega (arith, l))) (c .reach);
+      next = λ l. ⊎-elim (λ e. unstopped t words (hereOf g after) (v .range ∙ e)) (λ m. absurd (omega (arith, m, l))) (c .reach);
+    }
+
+-- what the inner loop keeps
+pub record Turning (t : Bool) (words : List ℕ) (g : Given) (keeps : Bool) (lent places₀ : List ℕ) (h : Held) (steps : ℕ) (journal places : List ℕ) (u : Usage) (until : ℕ) : Type 0 where
+  pub going : Going (chosen t words) g keeps lent places₀ h steps journal places u
+  pub clear : Clear t words g h steps until
+
+module _ {t : Bool} {words : List ℕ} {g : Given} {keeps : Bool} {lent places₀ : List ℕ} {h : Held} {steps : ℕ} {journal places : List ℕ} {u : Usage} {until : ℕ}
+    (n : Turning t words g keeps lent places₀ h steps journal places u until) where
+  pub in-budget : steps < until → steps < g .budget
+  in-budget l = omega (arith, n .clear .within)
+
+  pub turned-on : {after : Held} {journal' places' : List ℕ} {u' : Usage} → Going (chosen t words) g keeps lent places₀ after (steps + 1) journal' places' u'
+      → Turning t words g keeps lent places₀ after (steps + 1) journal' places' u' until
+  turned-on v = record { going = v; clear = clear-on t words (n .clear) v }
+
+  -- neither the fetch nor the word touches a locked byte
+  pub free-here : {w : ℕ} → steps < until → takesLine (h .state) ≡ false → Fetches (h .state) (g .P) (h .D) w → Free t words w (h .state)
+  free-here l takes fetch = free t words (hereOf g h) takes (sym (fetch _ _ _)) (n .clear .next l)

@@ -7,6 +7,7 @@ use lib.ListN.{length}
 use Rattle.machine.specs.Machine.{Machine, evenPlaces}
 use Rattle.machine.specs.Step.{choice, stepBy, Next}
 use Rattle.machine.specs.Run.{Stepper, isOut, byRules}
+use Rattle.machine.specs.Held.{isLockStop}
 use Rattle.control.specs.Control.{controlIn, controlStep, writesPort, byControl}
 use Rattle.machine.specs.declared.State.{State}
 use Rattle.machine.specs.Slices.{Slice, before, after}
@@ -43,6 +44,10 @@ stepOf false words w m = stepBy (choice w) w m
 abbrev pub writesOf : Bool → List ℕ → ℕ → Bool
 writesOf true words w = writesPort (controlIn words w)
 writesOf false words w = isOut w
+
+-- r is whether a machine of this state, program and data memory can't step for a locked byte
+abbrev pub StopsLocked : Stepper → State → List ℕ → List ℕ → Bool → Type 0
+StopsLocked v s P D r = (I O L : List ℕ) → isLockStop (v .steps (record { state = s; P = P; D = D; I = I; O = O; L = L })) ≡ r
 
 -- what a run with the counts u leaves, its ticks worked out
 abbrev pub leftTimed : Left → Usage → CountedLeft

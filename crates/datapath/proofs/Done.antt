@@ -15,23 +15,38 @@ use Rattle.machine.specs.declared.Stepped.{Stepped}
 use Rattle.machine.specs.Machine.{Machine, R, putR, putPC, count, onState}
 use Rattle.machine.specs.Step.{d5-3, d8-6, d11-9, interruptRules, cannot, to}
 use Rattle.machine.specs.Run.{Outcome, unless}
-use Rattle.machine.specs.Held.{Held, held, machineOf, isFull, outcomeOf, StepMeets}
+use Rattle.machine.specs.Held.{Held, held, machineOf, isFull, outcomeOf, isLockStop, TestsLock, StepMeets}
 use Rattle.machine.proofs.Answers.{Leaves, answered}
 use Rattle.machine.proofs.Log.{put-take, put-drop}
-use Rattle.control.specs.Control.{result, inputsAfter, next, storeField, byInterrupt, writesPort, storedData, stored, written, performed, assigned, interruptAssigned, interrupted, controlStep}
+use Rattle.control.specs.Control.{result, inputsAfter, next, storeField, byInterrupt, writesPort, storedData, stored, written, performed, assigned, lockedAccess, interruptAssigned, interrupted, controlStep}
 use Rattle.datapath.specs.Parts.{unitOf, stateAfter, dataAfter, isZeroDivisor, stopOf, advancedOf, doneIn, doneWith, stoppedWith, Answered, withInputs, resultAnswer, interruptOf, interruptAnswer}
 
--- by a control word without bit 15
-module _ (c w : ℕ) (h : Held) (by-fields : byInterrupt c ≡ false) where
+-- by a control word without bit 15, which touches no locked byte
+module _ (c w : ℕ) (h : Held) (by-fields : byInterrupt c ≡ false) (free : TestsLock (controlStep c w) (h .state) false) where
   abbrev Meets : ℕ → Held → Type 0
   Meets stop after = StepMeets (controlStep c w) (writesPort c) h stop after
 
-  -- what the run makes of the step of a machine, by the three tests
-  made : (P : List ℕ) (a z b : Bool) → assigned c w ≡ a → isZeroDivisor c w (h .state) ≡ z → (writesPort c && isFull h) ≡ b
-      → let m = machineOf P h in
-      outcomeOf m (unless (writesPort c && isFull h) (controlStep c w m)) ≡ outcomeOf m (unless b (pick a (pick z (cannot 3) (to (performed c w m))) (cannot 1)))
+  -- what the step of a machine comes to, by the tests
+  comes : (m : Machine) (a z l : Bool) → m .state ≡ h .state → assigned c w ≡ a → isZeroDivisor c w (h .state) ≡ z → lockedAccess c w (h .state) ≡ l
+      → controlStep c w m ≡ pick a (pick z (cannot 3) (pick l (cannot 4) (to (performed c w m)))) (cannot 1)
   unfolding controlStep
-  made P a z b e g f = let m = machineOf P h in λ i. outcomeOf m (unless (f i) (pick (by-fields i) (pick (interruptAssigned c w) (to (interrupted c w m)) (cannot 1)) (pick (e i) (pick (g i) (cannot 3) (to (performed c w m))) (cannot 1))))
+  comes m a z l s e g k =
+      λ i.
+      pick (by-fields i) (pick (interruptAssigned c w) (to (interrupted c w m)) (cannot 1))
+      (pick (e i) (pick ((ap (isZeroDivisor c w) s ∙ g) i) (cannot 3) (pick ((ap (lockedAccess c w) s ∙ k) i) (cannot 4) (to (performed c w m)))) (cannot 1))
+
+  no-lock : assigned c w ≡ true → isZeroDivisor c w (h .state) ≡ false → lockedAccess c w (h .state) ≡ false
+  no-lock a z = by-test (lockedAccess c w (h .state)) refl
+    where
+      by-test : (l : Bool) → lockedAccess c w (h .state) ≡ l → l ≡ false
+      by-test true e = let m = machineOf [] h in ap isLockStop (sym (comes m true false true refl a z e)) ∙ free m refl
+      by-test false e = refl
+
+  -- what the run makes of it
+  made : (P : List ℕ) (a z l b : Bool) → assigned c w ≡ a → isZeroDivisor c w (h .state) ≡ z → lockedAccess c w (h .state) ≡ l → (writesPort c && isFull h) ≡ b
+      → let m = machineOf P h in
+      outcomeOf m (unless (writesPort c && isFull h) (controlStep c w m)) ≡ outcomeOf m (unless b (pick a (pick z (cannot 3) (pick l (cannot 4) (to (performed c w m)))) (cannot 1)))
+  made P a z l b e g k f = let m = machineOf P h in λ i. outcomeOf m (unless (f i) (comes m a z l refl e g k i))
 
   -- ---- It stops
 
@@ -42,10 +57,10 @@ module _ (c w : ℕ) (h : Held) (by-fields : byInterrupt c ≡ false) where
       by-tests : (P : List ℕ) (a : Bool) → assigned c w ≡ a → (z : Bool) → isZeroDivisor c w (h .state) ≡ z → (b : Bool) → (writesPort c && isFull h) ≡ b
           → stop ≡ pick a (pick z 3 (pick b 2 0)) 1
           → let m = machineOf P h in outcomeOf m (unless (writesPort c && isFull h) (controlStep c w m)) ≡ record { reason = stop; after = m }
-      by-tests P true p true r b q e = made P true true b p r q ∙ ap (λ k. record { reason = k; after = machineOf P h }) (sym e)
-      by-tests P true p false r true q e = made P true false true p r q ∙ ap (λ k. record { reason = k; after = machineOf P h }) (sym e)
+      by-tests P true p true r b q e = made P true true _ b p r refl q ∙ ap (λ k. record { reason = k; after = machineOf P h }) (sym e)
+      by-tests P true p false r true q e = made P true false false true p r (no-lock p r) q ∙ ap (λ k. record { reason = k; after = machineOf P h }) (sym e)
       by-tests P true p false r false q e = absurd (n e)
-      by-tests P false p z r b q e = made P false z b p r q ∙ ap (λ k. record { reason = k; after = machineOf P h }) (sym e)
+      by-tests P false p z r b q e = made P false z _ b p r refl q ∙ ap (λ k. record { reason = k; after = machineOf P h }) (sym e)
 
   -- ---- It is done
 
@@ -57,7 +72,7 @@ module _ (c w : ℕ) (h : Held) (by-fields : byInterrupt c ≡ false) where
         → I ≡ inputsAfter c w (h .I)
         → Meets 0 (held s D I (h .O) (h .log) (h .entries))
     unfolding performed stored
-    data-done {s} {D} {I} filled no-port es eD eI = record { machine = λ P. made P true false false is-assigned no-zero (ap (λ t. t && isFull h) no-port) ∙ done P; rest = refl; filled = filled }
+    data-done {s} {D} {I} filled no-port es eD eI = record { machine = λ P. made P true false false false is-assigned no-zero (no-lock is-assigned no-zero) (ap (λ t. t && isFull h) no-port) ∙ done P; rest = refl; filled = filled }
       where
         done : (P : List ℕ) → _≡_ {A = Outcome} (record { reason = 0; after = performed c w (machineOf P h) })
             (record { reason = 0; after = machineOf P (held s D I (h .O) (h .log) (h .entries)) })
@@ -74,9 +89,9 @@ module _ (c w : ℕ) (h : Held) (by-fields : byInterrupt c ≡ false) where
         → Meets 0 (held s D I O log entries)
     unfolding performed stored
     port-done {s} {D} {I} {O} {log} {entries} place port es eD eI eO el ee =
-        let free : isFull h ≡ false = lt-leb _ _ place in
+        let room : isFull h ≡ false = lt-leb _ _ place in
         record {
-          machine = λ P. made P true false false is-assigned no-zero (ap (λ t. t && isFull h) port ∙ free) ∙ done P;
+          machine = λ P. made P true false false false is-assigned no-zero (no-lock is-assigned no-zero) (ap (λ t. t && isFull h) port ∙ room) ∙ done P;
           rest = rw (el, ee) (put-drop (h .entries) _ (h .log) place);
           filled = rw (el, ee) (simp length-set (omega arith));
         }
@@ -120,12 +135,12 @@ abbrev MeetsWith : ℕ → ℕ → Held → Answered → Type 0
 MeetsWith c w h x = Leaves (controlStep c w) (writesPort c) h (x .answer) (h .D) (x .inputs) (h .O) (h .log)
 
 -- the answer where nothing is stored, with PC+2
-pub result-done : (c w : ℕ) (h : Held) → byInterrupt c ≡ false → h .entries ≤ length (h .log) → writesPort c ≡ false → dataAfter c w (h .state) (h .D) ≡ h .D
+pub result-done : (c w : ℕ) (h : Held) → byInterrupt c ≡ false → TestsLock (controlStep c w) (h .state) false → h .entries ≤ length (h .log) → writesPort c ≡ false → dataAfter c w (h .state) (h .D) ≡ h .D
     → next c w (R (h .state) (a-of w)) (h .state .pc) ≡ add (h .state .pc) 2
     → (r : Stepped) {I : List ℕ}
     → withInputs r I ≡ resultAnswer c w (h .state) (h .D) (h .I) (h .entries)
     → MeetsWith c w h (withInputs r I)
-result-done c w h by-fields filled no-port no-store on r {I} = by-tests (assigned c w) refl (isZeroDivisor c w (h .state)) refl
+result-done c w h by-fields free filled no-port no-store on r {I} = by-tests (assigned c w) refl (isZeroDivisor c w (h .state)) refl
   where
     by-tests : (a : Bool) → assigned c w ≡ a → (z : Bool) → isZeroDivisor c w (h .state) ≡ z
         → withInputs r I ≡ pick a
@@ -134,9 +149,9 @@ result-done c w h by-fields filled no-port no-store on r {I} = by-tests (assigne
         (withInputs (doneWith c w (result c w (unitOf c w (h .state)) (h .state .pc) (h .D) (h .I)) (h .state) (h .entries)) (inputsAfter c w (h .I))))
         (withInputs (stoppedWith 1 (h .state) (h .entries)) (h .I))
         → MeetsWith c w h (withInputs r I)
-    by-tests true e true z a = subst (MeetsWith c w h) (sym a) (stopped c w h by-fields 3 filled (rw (e, z)) (λ z. omega arith))
-    by-tests true e false z a = subst (MeetsWith c w h) (sym a) (data-done c w h by-fields e z filled no-port (rw on) (sym no-store) refl)
-    by-tests false e t z a = subst (MeetsWith c w h) (sym a) (stopped c w h by-fields 1 filled (rw e) (λ z. omega arith))
+    by-tests true e true z a = subst (MeetsWith c w h) (sym a) (stopped c w h by-fields free 3 filled (rw (e, z)) (λ z. omega arith))
+    by-tests true e false z a = subst (MeetsWith c w h) (sym a) (data-done c w h by-fields free e z filled no-port (rw on) (sym no-store) refl)
+    by-tests false e t z a = subst (MeetsWith c w h) (sym a) (stopped c w h by-fields free 1 filled (rw e) (λ z. omega arith))
 
 -- a port's step has a free place where nothing stops it
 pub free-place : (c w : ℕ) (s : State) (n places : ℕ) → stopOf c w s (leb places n) ≡ 0 → writesPort c ≡ true → n < places

@@ -1,3 +1,4 @@
 mod Choice
 mod Done
 mod Together
+mod Locks

@@ -35,7 +35,7 @@ dataAfter c w s D = storedData c (R s (b-of w)) (unitOf c w s) D
 abbrev pub isZeroDivisor : ℕ → ℕ → State → Bool
 isZeroDivisor c w s = zeroDivisor c w (R s (b-of w))
 
--- why w is not stepped: 1 unassigned, 3 a zero divisor, 2 a port write and the log is full; 0 where it is
+-- why w is not stepped, where it touches no locked byte: 1 unassigned, 3 a zero divisor, 2 a port write and the log is full; 0 where it is
 abbrev pub stopOf : ℕ → ℕ → State → Bool → ℕ
 stopOf c w s full = pick (assigned c w) (pick (isZeroDivisor c w s) 3 (pick (writesPort c && full) 2 0)) 1
 

@@ -6,8 +6,8 @@ ghost use Prim.Native.Nat.{_+_, _*_, _<_};
 ghost use lib.ListN.{getD, length, set};
 ghost use Rattle.word.specs.Fields.{b-of, f-of, N8};
 ghost use Rattle.word.specs.Word.{pick};
-ghost use Rattle.machine.specs.Machine.{R};
-ghost use Rattle.control.specs.Control.{second, units, unitField, unit, result, inputsAfter, next, byInterrupt, writesPort, storedData, written, assigned, zeroDivisor, interruptAssigned};
+ghost use Rattle.machine.specs.Machine.{touchesLocked, R};
+ghost use Rattle.control.specs.Control.{second, units, unitField, unit, result, inputsAfter, next, byInterrupt, writesPort, storedData, written, assigned, zeroDivisor, touchedBy, lockedAccess, interruptAssigned};
 ghost use Rattle.datapath.specs.Parts.{interruptOf};
 use machine::Address;
 use machine::Port;
@@ -228,6 +228,26 @@ pub fn divides_by_zero(control: u16, w: u16, state: State) -> bool
     } else {
         false
     }
+}
+
+// A result or a store with the field's value k touches a locked byte. u is the unit's result.
+fn touches(k: u16, u: u16, state: State) -> bool
+    ensures { λ r. ⌜ r ≡ touchesLocked (touchedBy k u) state ⌝ }
+{
+    match k {
+        1 => state.locks_word(word::clear_bit0(u)),
+        2 => state.locks_byte(u),
+        _ => false,
+    }
+}
+
+// The result or the store does, without bit 15.
+pub fn is_locked_access(control: u16, w: u16, state: State) -> bool
+    ensures { λ r. ⌜ r ≡ lockedAccess control w state ⌝ }
+{
+    let p = state.sources(w);
+    let u = unit_result(control, w, p.x, p.y);
+    touches(control / 4 % 8, u, state) | touches(control / 1024 % 4, u, state)
 }
 
 // With bit 15: bit 14, and f below 4.

@@ -4,7 +4,7 @@ ghost use mathlib.Core.Bool.{true, false};
 ghost use Prim.Native.Nat.{_<_};
 ghost use lib.Dec.{leb};
 ghost use lib.ListN.{length};
-ghost use Rattle.machine.specs.Held.{held, Ready, StepsAs};
+ghost use Rattle.machine.specs.Held.{held, Ready, TestsLock, StepsAs};
 ghost use Rattle.control.specs.Control.{byInterrupt, writesPort, controlStep};
 ghost use Rattle.datapath.specs.Parts.{Lent, stopOf, doneWith, withInputs, resultAnswer, interruptAnswer, isResult};
 use machine::State;
@@ -13,8 +13,8 @@ use machine::Stepped;
 mod fields;
 mod groups;
 
-// Why w is not stepped by a control word without bit 15: 1 unassigned, 3 a zero divisor, 2 a port write and the log is full; 0 where
-// it is.
+// Why w is not stepped by a control word without bit 15, where it touches no locked byte: 1 unassigned, 3 a zero divisor, 2 a port write
+// and the log is full; 0 where it is.
 fn stop_of(control: u16, w: u16, state: State, full: bool) -> u8
     ensures { λ r. ⌜ r ≡ stopOf control w state full ⌝ }
 {
@@ -45,7 +45,7 @@ fn performed(
     entries: usize,
 ) -> Stepped
     requires { ⌜ Ready (held state (now memory) (now inputs) (now outputs) (now log) entries) ⌝ }
-    requires { ⌜ (byInterrupt control ≡ false) × (stopOf control w state (leb (length (now log)) entries) ≡ 0) ⌝ }
+    requires { ⌜ (byInterrupt control ≡ false) × (stopOf control w state (leb (length (now log)) entries) ≡ 0) × TestsLock (controlStep control w) state false ⌝ }
     ensures { λ r. ⌜ StepsAs (controlStep control w) (writesPort control) state memory inputs outputs log entries r ⌝ }
 {
     let p = state.sources(w);
@@ -84,6 +84,7 @@ fn field_step(
     entries: usize,
 ) -> Stepped
     requires { ⌜ Ready (held state (now memory) (now inputs) (now outputs) (now log) entries) ⌝ }
+    requires { ⌜ TestsLock (controlStep control w) state false ⌝ }
     ensures { λ r. ⌜ StepsAs (controlStep control w) (writesPort control) state memory inputs outputs log entries r ⌝ }
 {
     if fields::by_interrupt(control) {
@@ -110,6 +111,7 @@ fn other_step(
     entries: usize,
 ) -> Stepped
     requires { ⌜ Ready (held state (now memory) (now inputs) (now outputs) (now log) entries) ⌝ }
+    requires { ⌜ TestsLock (controlStep control w) state false ⌝ }
     ensures { λ r. ⌜ StepsAs (controlStep control w) (writesPort control) state memory inputs outputs log entries r ⌝ }
 {
     if groups::is_store(control) {
@@ -196,8 +198,18 @@ fn result_step(
     }
 }
 
-// The step of w by a control word, any control word beside any w. The commonest groups of fields have a step of their own, which
-// does what the fields say one by one.
+// What w reads or stores by a control word touches a locked byte, and no other stop comes before it.
+pub fn touches_locked(control: u16, w: u16, state: State) -> bool
+    ensures { λ r. ⌜ TestsLock (controlStep control w) state r ⌝ }
+{
+    !fields::by_interrupt(control)
+        & fields::is_assigned(control, w)
+        & !fields::divides_by_zero(control, w, state)
+        & fields::is_locked_access(control, w, state)
+}
+
+// The step of w by a control word, any control word beside any w, which touches no locked byte. The commonest groups of fields have a step of
+// their own, which does what the fields say one by one.
 pub fn step(
     control: u16,
     w: u16,
@@ -209,6 +221,7 @@ pub fn step(
     entries: usize,
 ) -> Stepped
     requires { ⌜ Ready (held state (now memory) (now inputs) (now outputs) (now log) entries) ⌝ }
+    requires { ⌜ TestsLock (controlStep control w) state false ⌝ }
     ensures { λ r. ⌜ StepsAs (controlStep control w) (writesPort control) state memory inputs outputs log entries r ⌝ }
 {
     if groups::is_result(control) {

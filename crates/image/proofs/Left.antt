@@ -10,8 +10,9 @@ use Rattle.refusal.specs.Refusals.{Verdict, accepted, refused}
 use Rattle.machine.specs.declared.State.{State}
 use Rattle.machine.specs.declared.Board.{Board}
 use Rattle.machine.specs.Machine.{reset, resetOn}
-use Rattle.image.specs.Image.{W, programOffset, C, dataOffset, partOf, memoryOf, singleMemoryOf, loadedP, loadedD, loaded, LoadLeft, LoadGiven, loadReply, loadLeftBy, loadLeft}
+use Rattle.image.specs.Image.{W, C, partOf, memoryOf, singleMemoryOf, loadedP, loadedD, withRange, loaded, LoadLeft, LoadGiven, loadReply, loadLeftBy, loadLeft}
 use Rattle.image.specs.declared.Part.{Part}
+use Rattle.image.specs.declared.Range.{Range}
 use Rattle.image.specs.Parts.{programPart, dataPart, ReadAs, PartInside, Placeable}
 
 module _ {file : List ℕ} {part read : Part} {n : ℕ} (l : n ≡ 65536) (f : PartInside file part) (r : ReadAs part read) where
@@ -71,15 +72,15 @@ joined : (reply : Verdict) {state state′ : State} {P P′ D D′ I I′ O O′
     (record { reply = reply; state = state′; P = P′; D = D′; I = I′; O = O′ })
 joined reply s p d i o = cc
 
-pub accepted-left : (file : List ℕ) (board : Board) {state : State} {P D I O : List ℕ} → state ≡ resetOn board
+pub accepted-left : (file : List ℕ) (board : Board) (range : Range) {state : State} {P D I O : List ℕ} → state ≡ withRange range (resetOn board)
     → P ≡ loadedP board file
     → D ≡ loadedD board file
     → I ≡ replicate 256 0
     → O ≡ replicate 256 0
     → _≡_ {A = LoadLeft} (record { reply = accepted; state = state; P = P; D = D; I = I; O = O })
-    (let m = loaded file board in record { reply = accepted; state = m .state; P = m .P; D = m .D; I = m .I; O = m .O })
+    (let m = loaded file board range in record { reply = accepted; state = m .state; P = m .P; D = m .D; I = m .I; O = m .O })
 unfolding loaded
-accepted-left file board s p d i o = joined accepted s p d i o
+accepted-left file board range s p d i o = joined accepted s p d i o
 
 module _ (g : LoadGiven) where
   pub left-by : {reply : Verdict} {left : LoadLeft} → reply ≡ loadReply g → left ≡ loadLeftBy reply g → left ≡ loadLeft g

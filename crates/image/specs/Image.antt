@@ -1,18 +1,19 @@
 -- The trim file, called an image here, and loading it (01, "Loading", "Refusal table").
 use Prim.Native.Nat.{ℕ, _+_, _-_, _*_}
-use mathlib.Core.Bool.{Bool, true, false, _&&_}
+use mathlib.Core.Bool.{Bool, true, _&&_, _||_}
 use mathlib.Core.List.{List, [], _++_}
 use mathlib.Core.Path.{_≡_}
-use lib.Dec.{leb}
+use lib.Dec.{eqb, leb}
 use lib.ListN.{length, getD, take, drop, replicate}
 use Rattle.refusal.specs.Refusals.{refusalNumber, Verdict, accepted, refused}
 use Rattle.word.specs.Word.{pick}
 use Rattle.machine.specs.declared.State.{State}
 use Rattle.machine.specs.declared.Board.{Board}
 use Rattle.machine.specs.declared.Board.the-variants.{TwoMemories, SingleMemory}
-use Rattle.machine.specs.Machine.{Machine, reset, resetOn}
+use Rattle.machine.specs.Machine.{Machine, putLocked, reset, resetOn}
 use Rattle.machine.specs.Lengths.{lengthsFit}
 use Rattle.machine.specs.Slices.{Slice, before, after}
+use Rattle.image.specs.declared.Range.{Range}
 use Rattle.image.specs.declared.Loaded.{Loaded}
 use Rattle.image.specs.declared.Loading.{Loading}
 use Rattle.image.specs.declared.Loading.the-variants.{Accepted, Refused}
@@ -72,11 +73,16 @@ abbrev pub loadedD : Board → List ℕ → List ℕ
 loadedD TwoMemories file = memoryOf file (dataOffset file) (C file)
 loadedD SingleMemory file = singleMemoryOf file
 
--- It zeroes the ports too, and returns a reset machine, of the board named.
-unfoldable pub loaded : List ℕ → Board → Machine
-loaded file board =
+-- A load may name a range of data memory (02, L14), first to last, both in it, or none: the flag 0 names none, any other a range. The state keeps
+-- it, the flag as 1; all three are 0 for none.
+abbrev pub withRange : Range → State → State
+withRange range s = pick (eqb (range .locked) 0) (putLocked 0 0 0 s) (putLocked 1 (range .first) (range .last) s)
+
+-- It zeroes the ports too, and returns a reset machine, of the board and with the range named.
+unfoldable pub loaded : List ℕ → Board → Range → Machine
+loaded file board range =
     record {
-      state = resetOn board;
+      state = withRange range (resetOn board);
       P = loadedP board file;
       D = loadedD board file;
       I = replicate 256 0;
@@ -93,6 +99,7 @@ shownLoading (Refused r) = refused (refusalNumber r)
 pub record LoadGiven : Type 0 where
   pub file : List ℕ
   pub board : Board
+  pub range : Range
   pub P : List ℕ
   pub D : List ℕ
   pub I : List ℕ
@@ -120,13 +127,21 @@ fileReply file board =
     (refused 3))
     (refused 2)
 
+-- 18, after them, is where this fails: a range with first over last (02, L14)
+abbrev pub rangeFits : Range → Bool
+rangeFits range = eqb (range .locked) 0 || leb (range .first) (range .last)
+
+abbrev pub thenRange : Range → Verdict → Verdict
+thenRange range accepted = pick (rangeFits range) accepted (refused 18)
+thenRange range (refused k) = refused k
+
 unfoldable pub loadReply : LoadGiven → Verdict
-loadReply g = pick (lengthsFit (g .P) (g .D) (g .I) (g .O)) (fileReply (g .file) (g .board)) (refused 1)
+loadReply g = pick (lengthsFit (g .P) (g .D) (g .I) (g .O)) (thenRange (g .range) (fileReply (g .file) (g .board))) (refused 1)
 
 -- A refused load changes nothing lent; the state beside its number is the reset one.
 abbrev pub loadLeftBy : Verdict → LoadGiven → LoadLeft
 loadLeftBy accepted g =
-    let m = loaded (g .file) (g .board) in
+    let m = loaded (g .file) (g .board) (g .range) in
     record { reply = accepted; state = m .state; P = m .P; D = m .D; I = m .I; O = m .O }
 loadLeftBy (refused k) g = record { reply = refused k; state = reset; P = g .P; D = g .D; I = g .I; O = g .O }
 
@@ -135,14 +150,14 @@ loadLeft g = loadLeftBy (loadReply g) g
 
 -- ---- The contract, of load's parameters in their order and what it replies
 
-abbrev pub fileLent : Slice → Board → Slice → Slice → Slice → Slice → LoadGiven
-fileLent file board program memory inputs outputs =
-    record { file = before file; board = board; P = before program; D = before memory; I = before inputs; O = before outputs }
+abbrev pub fileLent : Slice → Board → Range → Slice → Slice → Slice → Slice → LoadGiven
+fileLent file board range program memory inputs outputs =
+    record { file = before file; board = board; range = range; P = before program; D = before memory; I = before inputs; O = before outputs }
 
 abbrev pub loadedWith : Slice → Slice → Slice → Slice → Loaded → LoadLeft
 loadedWith program memory inputs outputs r =
     record { reply = shownLoading (r .reply); state = r .state; P = after program; D = after memory; I = after inputs; O = after outputs }
 
-abbrev pub Loads : Slice → Board → Slice → Slice → Slice → Slice → Loaded → Type 0
-Loads file board program memory inputs outputs r =
-    loadedWith program memory inputs outputs r ≡ loadLeft (fileLent file board program memory inputs outputs)
+abbrev pub Loads : Slice → Board → Range → Slice → Slice → Slice → Slice → Loaded → Type 0
+Loads file board range program memory inputs outputs r =
+    loadedWith program memory inputs outputs r ≡ loadLeft (fileLent file board range program memory inputs outputs)

@@ -7,7 +7,7 @@ ghost use Rattle.refusal.specs.Refusals.{accepted};
 ghost use mathlib.Core.Bool.{true};
 ghost use Rattle.machine.specs.declared.Board.the-variants.{SingleMemory};
 ghost use Rattle.image.specs.Parts.{programPart, dataPart, ReadAs, Placeable};
-ghost use Rattle.image.specs.Image.{W, C, number32, partsFit, inside, partsInside, boardHolds, loadedP, loadedD, fileReply, loadReply, loadLeftBy, shownLoading, fileLent, loadedWith, Loads};
+ghost use Rattle.image.specs.Image.{W, C, number32, partsFit, inside, partsInside, boardHolds, loadedP, loadedD, withRange, rangeFits, thenRange, fileReply, loadReply, loadLeftBy, shownLoading, fileLent, loadedWith, Loads};
 use block::copy;
 use bus::lengths_fit;
 use machine::Board;
@@ -24,6 +24,13 @@ pub enum Loading {
 pub struct Loaded {
     pub state: State,
     pub reply: Loading,
+}
+
+// The range of data memory that a load locks: none where `locked` is 0, else first to last, both in it.
+pub struct Range {
+    pub locked: u8,
+    pub first: u16,
+    pub last: u16,
 }
 
 // A part of the file, in bytes.
@@ -133,21 +140,56 @@ pub fn file_verdict(file: &[u8], board: Board) -> Loading
     Loading::Accepted
 }
 
+// First is not over last, where a range is named. `&` and `|` make all tests, so that the answer has no branches.
+fn range_fits(range: Range) -> bool
+    ensures { λ r. ⌜ r ≡ rangeFits range ⌝ }
+{
+    (range.locked == 0) | (range.first <= range.last)
+}
+
+// The state keeps the range named.
+fn with_range(range: Range, state: State) -> State
+    ensures { λ s. ⌜ s ≡ withRange range state ⌝ }
+{
+    if range.locked == 0 {
+        state.with_locked(0, 0, 0)
+    } else {
+        state.with_locked(1, range.first, range.last)
+    }
+}
+
+// The range is tested after the file.
+fn then_range(range: Range, verdict: Loading) -> Loading
+    ensures { λ r. ⌜ shownLoading r ≡ thenRange range (shownLoading verdict) ⌝ }
+{
+    match verdict {
+        Loading::Accepted => {
+            if range_fits(range) {
+                Loading::Accepted
+            } else {
+                Loading::Refused(Refusal::LockedRange)
+            }
+        }
+        Loading::Refused(refusal) => Loading::Refused(refusal),
+    }
+}
+
 // What is lent is tested before the file.
 fn verdict(
     file: &[u8],
     board: Board,
+    range: Range,
     program: &[u8],
     memory: &[u8],
     inputs: &[u16],
     outputs: &[u16],
 ) -> Loading
-    ensures { λ r. ⌜ shownLoading r ≡ loadReply (fileLent file board program memory inputs outputs) ⌝ }
+    ensures { λ r. ⌜ shownLoading r ≡ loadReply (fileLent file board range program memory inputs outputs) ⌝ }
 {
     if !lengths_fit(program, memory, inputs, outputs) {
         return Loading::Refused(Refusal::LentLength);
     }
-    file_verdict(file, board)
+    then_range(range, file_verdict(file, board))
 }
 
 fn zero_bytes(bytes: &mut [u8])
@@ -214,38 +256,40 @@ fn fill(file: &[u8], board: Board, program: &mut [u8], memory: &mut [u8])
 fn accept(
     file: &[u8],
     board: Board,
+    range: Range,
     program: &mut [u8],
     memory: &mut [u8],
     inputs: &mut [u16],
     outputs: &mut [u16],
 ) -> Loaded
-    requires { ⌜ accepted ≡ loadReply (record { file = now file; board = board; P = now program; D = now memory; I = now inputs; O = now outputs }) ⌝ }
-    ensures { λ r. ⌜ loadedWith program memory inputs outputs r ≡ loadLeftBy accepted (fileLent file board program memory inputs outputs) ⌝ }
+    requires { ⌜ accepted ≡ loadReply (record { file = now file; board = board; range = range; P = now program; D = now memory; I = now inputs; O = now outputs }) ⌝ }
+    ensures { λ r. ⌜ loadedWith program memory inputs outputs r ≡ loadLeftBy accepted (fileLent file board range program memory inputs outputs) ⌝ }
 {
     fill(file, board, program, memory);
     zero_ports(inputs);
     zero_ports(outputs);
     Loaded {
-        state: State::reset_on(board),
+        state: with_range(range, State::reset_on(board)),
         reply: Loading::Accepted,
     }
 }
 
 // The file's parts are copied to the program and the data memory, on the single-memory board both to the data memory; all other memory and
-// both port arrays become zero.
+// both port arrays become zero. The state keeps the range.
 pub fn load(
     file: &[u8],
     board: Board,
+    range: Range,
     program: &mut [u8],
     memory: &mut [u8],
     inputs: &mut [u16],
     outputs: &mut [u16],
 ) -> Loaded
-    ensures { λ r. ⌜ Loads file board program memory inputs outputs r ⌝ }
+    ensures { λ r. ⌜ Loads file board range program memory inputs outputs r ⌝ }
 {
-    let reply = verdict(file, board, program, memory, inputs, outputs);
+    let reply = verdict(file, board, range, program, memory, inputs, outputs);
     match reply {
-        Loading::Accepted => accept(file, board, program, memory, inputs, outputs),
+        Loading::Accepted => accept(file, board, range, program, memory, inputs, outputs),
         Loading::Refused(refusal) => Loaded {
             state: State::reset(),
             reply: Loading::Refused(refusal),

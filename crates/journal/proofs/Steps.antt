@@ -16,8 +16,8 @@ use Rattle.muldiv.specs.Muldiv.{muldiv}
 use Rattle.word.proofs.Tables.{looked-up}
 use Rattle.word.proofs.Tests.{clash, either}
 use Rattle.machine.specs.declared.State.{State}
-use Rattle.machine.specs.Machine.{Machine, isEnabled, lowestLine, takesLine, lineTaken, R, putR, putPC, count, onState, onInputs, putO, wordAt}
-use Rattle.machine.specs.Step.{PC, Ra, Rb, A, A', d5-3, d8-6, d11-9, write, jump, Rule, compute, compare, addi, ld, st, ldb, stb, jalr, bz, bnz, movi, movhi, input, output, multiplyDivide, interruptRules, interrupt, RuleRow, by-f, by-f-dividing, one, by-e, no-rule, ruleRows, among, rule, division, unassigned, ruleInRow, choice, fetched, cannot, to, doing, stepBy, taking, byRule, step}
+use Rattle.machine.specs.Machine.{Machine, isEnabled, lowestLine, takesLine, touchesLocked, fetchLocked, lineTaken, R, putR, putPC, count, onState, onInputs, putO, wordAt}
+use Rattle.machine.specs.Step.{PC, Ra, Rb, A, A', d5-3, d8-6, d11-9, write, jump, Rule, compute, compare, addi, ld, st, ldb, stb, jalr, bz, bnz, movi, movhi, input, output, multiplyDivide, interruptRules, interrupt, RuleRow, by-f, by-f-dividing, one, one-at, by-e, no-rule, ruleRows, among, rule, division, unassigned, ruleInRow, choice, fetched, cannot, to, doing, stepBy, taking, byRule, step}
 use Rattle.machine.specs.Run.{isOut, fetchesA}
 use Rattle.journal.specs.Journal.{Overwritten, nothing, inRegister, byInput, register, data-word, data-byte, output-word, key-read, enable-flag, line-taken, byTaking, overwrittenBy, overwritten, overwrittenAt, readsKey, keyBack, butFor}
 use Rattle.journal.specs.Ranges.{InRange}
@@ -82,6 +82,7 @@ module _ (m : Machine) (w : ℕ) where
   RowMakes (by-f fs x) o port = Makes m (x w (on m)) o port
   RowMakes (by-f-dividing fs gs x) o port = Makes m (x w (on m)) o port
   RowMakes (one x) o port = Makes m (x w (on m)) o port
+  RowMakes (one-at touched x) o port = Makes m (x w (on m)) o port
   RowMakes (by-e x₀ x₁) o port = (t : Bool) → eqb (e-of w) 0 ≡ t → Makes m (pick t x₀ x₁ w (on m)) o port
   RowMakes no-rule o port = Unit {0}
 
@@ -206,6 +207,11 @@ module _ (m : Machine) (w : ℕ) where
       go true false e = did e made
       go false u e = clash (cc)
   by-row (one x) made = λ e. did e made
+  by-row (one-at touched x) {next} {o} {port} made = go (touchesLocked (touched w m) (m .state))
+    where
+      go : (t : Bool) → pick t (cannot 4) (doing x w m) ≡ to next → Stepped m next o port
+      go true e = clash (cc)
+      go false e = did e made
   by-row (by-e x₀ x₁) made = λ e. did e (made (eqb (e-of w) 0) refl)
   by-row no-rule made = λ e. clash (cc)
 
@@ -242,14 +248,16 @@ taken m e =
 
 pub stepped : (m next : Machine) → step m ≡ to next → Stepped m next (overwrittenAt m) (fetchesA isOut m)
 unfolding step
-stepped m next = go (takesLine (m .state)) refl
+stepped m next = go (takesLine (m .state)) refl (fetchLocked (m .state))
   where
     w : ℕ
     w = fetched m
 
-    go : (t : Bool) → takesLine (m .state) ≡ t → pick t (taking m) (byRule w m) ≡ to next → Stepped m next (pick t (byTaking (m .state)) (overwritten w m)) (not t && isOut w)
-    go true h e = did m w e (taken m h)
-    go false h e = by-table m w e
+    go : (t : Bool) → takesLine (m .state) ≡ t → (l : Bool) → pick t (taking m) (pick l (cannot 4) (byRule w m)) ≡ to next
+        → Stepped m next (pick t (byTaking (m .state)) (overwritten w m)) (not t && isOut w)
+    go true h l e = did m w e (taken m h)
+    go false h true e = clash (cc)
+    go false h false e = by-table m w e
 
 -- ---- What the step of w overwrites fits an entry.
 

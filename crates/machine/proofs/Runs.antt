@@ -66,8 +66,8 @@ module _ (v : Stepper) (budget full : ℕ) (m : Machine) where
 -- ---- What a run's loop relies on
 
 -- the fields of the state that no step writes
-abbrev pub unwritten : State → ℕ × ℕ
-unwritten s = (s .journaled, s .board)
+abbrev pub unwritten : State → ℕ × ℕ × ℕ × ℕ × ℕ
+unwritten s = (s .journaled, s .board, s .locked, s .«first_locked», s .«last_locked»)
 
 -- PC and the return address are even
 abbrev pub Even : State → Type 0
@@ -88,7 +88,7 @@ pub record Lawful (v : Stepper) : Type 0 where
   pub counts : (m next : Machine) → v .steps m ≡ to next → next .state .n ≡ m .state .n + 1
   pub even : (m next : Machine) → v .steps m ≡ to next → Even (m .state) → Even (next .state)
   pub grows : (m next : Machine) → v .steps m ≡ to next → length (m .L) ≤ length (next .L)
-  -- and leaves the count of journal entries and the board
+  -- and leaves the count of journal entries, the board and the locked range
   pub leaves : (m next : Machine) → v .steps m ≡ to next → unwritten (next .state) ≡ unwritten (m .state)
   -- and, but for the line that it takes, the lines that are pending
   pub lines : (m next : Machine) → v .steps m ≡ to next → takesLine (m .state) ≡ false → next .state .pending ≡ m .state .pending

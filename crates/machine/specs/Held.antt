@@ -1,9 +1,9 @@
 -- What an engine holds between two steps, as a machine. It serves the contracts of the engines' step functions, not a caller.
 use mathlib.Core.Path.{_≡_}
-use mathlib.Core.Bool.{Bool, true, false, _&&_}
+use mathlib.Core.Bool.{Bool, false, _&&_}
 use mathlib.Core.List.{List}
 use Prim.Native.Nat.{ℕ, _<_, _≤_}
-use lib.Dec.{leb}
+use lib.Dec.{eqb, leb}
 use lib.ListN.{length, take, drop}
 use Rattle.machine.specs.declared.State.{State}
 use Rattle.machine.specs.declared.Stepped.{Stepped}
@@ -56,6 +56,15 @@ pub record StepMeets (next : Machine → Next) (writes : Bool) (h : Held) (stop 
       (P : List ℕ) → outcomeOf (machineOf P h) (unless (writes && isFull h) (next (machineOf P h))) ≡ record { reason = stop; after = machineOf P left }
   pub rest : drop (left .entries) (left .log) ≡ drop (left .entries) (h .log)
   pub filled : left .entries ≤ length (left .log)
+
+-- m can't step for a locked byte (02, L14)
+abbrev pub isLockStop : Next → Bool
+isLockStop (cannot q) = eqb q 4
+isLockStop (to next) = false
+
+-- r is whether a machine of this state can't step so. A step function is called where it is false.
+abbrev pub TestsLock : (Machine → Next) → State → Bool → Type 0
+TestsLock next s r = (m : Machine) → m .state ≡ s → isLockStop (next m) ≡ r
 
 -- the contract of a step function, of its parameters and what it hands back
 abbrev pub StepsAs : (Machine → Next) → Bool → State → Slice → Slice → Slice → Slice → ℕ → Stepped → Type 0

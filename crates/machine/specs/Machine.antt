@@ -1,9 +1,9 @@
 -- The plain machine (01): its state, and what may be written in it.
 use Prim.Native.Nat.{ℕ, zero, suc, _+_, _-_, _*_, _/_, _%_, _^_}
-use mathlib.Core.Bool.{Bool, not, _&&_}
+use mathlib.Core.Bool.{Bool, false, not, _&&_, _||_}
 use mathlib.Core.List.{List, [], _∷_, _++_}
 use lib.Bits.{bitOr}
-use lib.Dec.{eqb}
+use lib.Dec.{eqb, leb}
 use lib.ListN.{getD, set, replicate}
 use Rattle.word.specs.Word.{pick, add}
 use Rattle.machine.specs.declared.State.{State}
@@ -11,11 +11,13 @@ use Rattle.machine.specs.declared.Board.{Board}
 use Rattle.machine.specs.declared.Board.the-variants.{TwoMemories, SingleMemory}
 
 -- ---- The register state: R0 to R7 and PC (16 bits each); n, the steps done (32 bits); the count of journal entries (02, L7; 64 bits);
--- the board's number (02, L11; 8 bits); an enable flag, a pending byte, a line number (8 bits each) and a return address (02, L12; 16 bits).
+-- the board's number (02, L11; 8 bits); an enable flag, a pending byte, a line number (8 bits each) and a return address (02, L12; 16 bits);
+-- the locked range: a flag (8 bits), its first and its last address (02, L14; 16 bits each).
 
--- A reset machine has every register, PC and n at zero. The count of journal entries is 0 at a load. L12's four are 0 at reset.
+-- A reset machine has every register, PC and n at zero. The count of journal entries is 0 at a load. L12's four are 0 at reset. No range
+-- is locked.
 abbrev pub reset : State
-reset = record { r = replicate 8 0; pc = 0; n = 0; journaled = 0; board = 0; enabled = 0; pending = 0; line = 0; «return_address» = 0 }
+reset = record { r = replicate 8 0; pc = 0; n = 0; journaled = 0; board = 0; enabled = 0; pending = 0; line = 0; «return_address» = 0; locked = 0; «first_locked» = 0; «last_locked» = 0 }
 
 -- Rk
 abbrev pub R : State → ℕ → ℕ
@@ -23,7 +25,7 @@ R s k = getD (s .r) k 0
 
 -- R0 to R7 become r
 abbrev pub putRegisters : List ℕ → State → State
-putRegisters r s = record { r = r; pc = s .pc; n = s .n; journaled = s .journaled; board = s .board; enabled = s .enabled; pending = s .pending; line = s .line; «return_address» = s .«return_address» }
+putRegisters r s = record { r = r; pc = s .pc; n = s .n; journaled = s .journaled; board = s .board; enabled = s .enabled; pending = s .pending; line = s .line; «return_address» = s .«return_address»; locked = s .locked; «first_locked» = s .«first_locked»; «last_locked» = s .«last_locked» }
 
 -- Rd becomes v
 abbrev pub putR : ℕ → ℕ → State → State
@@ -31,31 +33,35 @@ putR d v s = putRegisters (set (s .r) d v) s
 
 -- PC becomes v
 abbrev pub putPC : ℕ → State → State
-putPC v s = record { r = s .r; pc = v; n = s .n; journaled = s .journaled; board = s .board; enabled = s .enabled; pending = s .pending; line = s .line; «return_address» = s .«return_address» }
+putPC v s = record { r = s .r; pc = v; n = s .n; journaled = s .journaled; board = s .board; enabled = s .enabled; pending = s .pending; line = s .line; «return_address» = s .«return_address»; locked = s .locked; «first_locked» = s .«first_locked»; «last_locked» = s .«last_locked» }
 
 -- n becomes v
 abbrev pub putN : ℕ → State → State
-putN v s = record { r = s .r; pc = s .pc; n = v; journaled = s .journaled; board = s .board; enabled = s .enabled; pending = s .pending; line = s .line; «return_address» = s .«return_address» }
+putN v s = record { r = s .r; pc = s .pc; n = v; journaled = s .journaled; board = s .board; enabled = s .enabled; pending = s .pending; line = s .line; «return_address» = s .«return_address»; locked = s .locked; «first_locked» = s .«first_locked»; «last_locked» = s .«last_locked» }
 
 -- the count of journal entries becomes v
 abbrev pub putJournaled : ℕ → State → State
-putJournaled v s = record { r = s .r; pc = s .pc; n = s .n; journaled = v; board = s .board; enabled = s .enabled; pending = s .pending; line = s .line; «return_address» = s .«return_address» }
+putJournaled v s = record { r = s .r; pc = s .pc; n = s .n; journaled = v; board = s .board; enabled = s .enabled; pending = s .pending; line = s .line; «return_address» = s .«return_address»; locked = s .locked; «first_locked» = s .«first_locked»; «last_locked» = s .«last_locked» }
 
 -- the board's number becomes v
 abbrev pub putBoard : ℕ → State → State
-putBoard v s = record { r = s .r; pc = s .pc; n = s .n; journaled = s .journaled; board = v; enabled = s .enabled; pending = s .pending; line = s .line; «return_address» = s .«return_address» }
+putBoard v s = record { r = s .r; pc = s .pc; n = s .n; journaled = s .journaled; board = v; enabled = s .enabled; pending = s .pending; line = s .line; «return_address» = s .«return_address»; locked = s .locked; «first_locked» = s .«first_locked»; «last_locked» = s .«last_locked» }
 
 -- the enable flag becomes v
 abbrev pub putEnabled : ℕ → State → State
-putEnabled v s = record { r = s .r; pc = s .pc; n = s .n; journaled = s .journaled; board = s .board; enabled = v; pending = s .pending; line = s .line; «return_address» = s .«return_address» }
+putEnabled v s = record { r = s .r; pc = s .pc; n = s .n; journaled = s .journaled; board = s .board; enabled = v; pending = s .pending; line = s .line; «return_address» = s .«return_address»; locked = s .locked; «first_locked» = s .«first_locked»; «last_locked» = s .«last_locked» }
 
 -- the pending byte becomes v
 abbrev pub putPending : ℕ → State → State
-putPending v s = record { r = s .r; pc = s .pc; n = s .n; journaled = s .journaled; board = s .board; enabled = s .enabled; pending = v; line = s .line; «return_address» = s .«return_address» }
+putPending v s = record { r = s .r; pc = s .pc; n = s .n; journaled = s .journaled; board = s .board; enabled = s .enabled; pending = v; line = s .line; «return_address» = s .«return_address»; locked = s .locked; «first_locked» = s .«first_locked»; «last_locked» = s .«last_locked» }
 
 -- the line number and the return address become k and v
 abbrev pub putTaken : ℕ → ℕ → State → State
-putTaken k v s = record { r = s .r; pc = s .pc; n = s .n; journaled = s .journaled; board = s .board; enabled = s .enabled; pending = s .pending; line = k; «return_address» = v }
+putTaken k v s = record { r = s .r; pc = s .pc; n = s .n; journaled = s .journaled; board = s .board; enabled = s .enabled; pending = s .pending; line = k; «return_address» = v; locked = s .locked; «first_locked» = s .«first_locked»; «last_locked» = s .«last_locked» }
+
+-- the locked range becomes first to last, with this flag
+abbrev pub putLocked : ℕ → ℕ → ℕ → State → State
+putLocked flag first last s = record { r = s .r; pc = s .pc; n = s .n; journaled = s .journaled; board = s .board; enabled = s .enabled; pending = s .pending; line = s .line; «return_address» = s .«return_address»; locked = flag; «first_locked» = first; «last_locked» = last }
 
 -- n grows by 1
 abbrev pub count : State → State
@@ -116,6 +122,28 @@ abbrev pub lineTaken : State → State
 lineTaken s =
     let k = lowestLine (s .pending) in
     putPC 0x0100 (putEnabled 0 (putPending (withoutLine k (s .pending)) (putTaken k (s .pc) s)))
+
+-- ---- Locked calibration (02, L14): bytes of data memory that a trim can neither read nor write
+
+-- The range is first to last, both in it, or none: the flag 0 is none, any other a range, and first over last is a range without bytes. In a state
+-- that a host hands in any numbers are allowed.
+abbrev pub isLocked : ℕ → State → Bool
+isLocked address s = not (eqb (s .locked) 0) && leb (s .«first_locked») address && leb address (s .«last_locked»)
+
+-- one of these bytes is locked
+abbrev pub touchesLocked : List ℕ → State → Bool
+touchesLocked [] s = false
+touchesLocked (a ∷ more) s = isLocked a s || touchesLocked more s
+
+-- the bytes of the word at k; k+1 is an address too, modulo 65,536
+abbrev pub bytesAt : ℕ → List ℕ
+bytesAt k = k ∷ add k 1 ∷ []
+
+-- a fetch from data memory, that of the single-memory board, touches PC and PC+1; the other board's touches no data
+abbrev pub fetchLocked : State → Bool
+fetchLocked s = isSingle s && touchesLocked (bytesAt (s .pc)) s
+
+-- ---- What a run is refused for
 
 -- PC and the return address are even
 abbrev pub evenPlaces : State → Bool

@@ -17,7 +17,8 @@ pub record Stepper : Type 0 where
 abbrev pub isOut : ℕ → Bool
 isOut w = eqb (opcode w) 10 && eqb (e-of w) 1
 
--- m fetches a word of which the test holds. A machine that takes a line (02, L12) fetches nothing: it writes no port.
+-- m fetches a word of which the test holds. A machine that takes a line (02, L12) fetches nothing: it writes no port. (A fetch that touches a
+-- locked byte is the step's own test, which comes first.)
 abbrev pub fetchesA : (ℕ → Bool) → Machine → Bool
 fetchesA test m = not (takesLine (m .state)) && test (fetched m)
 
@@ -40,8 +41,8 @@ pub record Outcome : Type 0 where
   pub reason : ℕ
   pub after : Machine
 
--- Before each step, in this order: budget used, stop 0; word unassigned, stop 1; the divisor is zero, stop 3; word is OUT and
--- the log has no free place, stop 2.
+-- Before each step, in this order: budget used, stop 0; the fetch touches a locked byte, stop 4; word unassigned, stop 1; the divisor is zero,
+-- stop 3; a load or store touches a locked byte, stop 4; word is OUT and the log has no free place, stop 2. (A line that is taken has none but the first.)
 unfoldable pub runFrom : Stepper → ℕ → ℕ → Machine → Outcome
 runFrom v zero full m = record { reason = 0; after = m }
 runFrom v (suc budget) full m =

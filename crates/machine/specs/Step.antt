@@ -1,6 +1,6 @@
 -- A step of the plain machine (01, "Step" and the table of opcodes), each rule with the sheet's own line.
 use Prim.Native.Nat.{ℕ, _+_, _*_, _%_}
-use mathlib.Core.Bool.{Bool, true, false, _||_}
+use mathlib.Core.Bool.{Bool, false, not, _&&_, _||_}
 use mathlib.Core.List.{List, [], _∷_}
 use lib.Dec.{eqb}
 use lib.ListN.{getD}
@@ -8,7 +8,7 @@ use Rattle.word.specs.Fields.{bits, field, opcode, a-of, b-of, e-of, f-of, N6, 
 use Rattle.word.specs.Word.{pick, add, clear0, SE, operation, comparison}
 use Rattle.muldiv.specs.Muldiv.{muldiv}
 use Rattle.machine.specs.declared.State.{State}
-use Rattle.machine.specs.Machine.{Machine, isSingle, putEnabled, takesLine, lineTaken, R, putR, putPC, count, onState, putD, readFrom, onInputs, putO, wordAt, putWord, putByte}
+use Rattle.machine.specs.Machine.{Machine, isSingle, putEnabled, takesLine, lineTaken, touchesLocked, bytesAt, fetchLocked, R, putR, putPC, count, onState, putD, readFrom, onInputs, putO, wordAt, putWord, putByte}
 
 -- ---- What the rules are made of
 
@@ -131,13 +131,27 @@ interruptRules put s = ei s ∷ di s ∷ reti s ∷ put (s .line) s ∷ []
 unfoldable pub interrupt : Rule
 interrupt w m = onState (λ s. getD (interruptRules (putR (d5-3 w)) s) (f-of w) s) m
 
+-- ---- The bytes of data memory that a load or a store touches (02, L14)
+
+abbrev pub Touched : Type 0
+Touched = ℕ → Machine → List ℕ
+
+-- LD and ST touch A' and A'+1,
+abbrev pub wordAtA' : Touched
+wordAtA' w m = bytesAt (A' w m)
+
+-- LDB and STB touch A.
+abbrev pub byteAtA : Touched
+byteAtA w m = A w m ∷ []
+
 -- ---- The table of opcodes: a rule for the words with one of these f; the same, where those with one of the second f divide by Rb;
--- one rule; one by e; or none.
+-- one rule; one that touches these bytes; one by e; or none.
 
 pub data RuleRow : Type 0 where
   by-f : List ℕ → Rule → RuleRow
   by-f-dividing : List ℕ → List ℕ → Rule → RuleRow
   one : Rule → RuleRow
+  one-at : Touched → Rule → RuleRow
   by-e : Rule → Rule → RuleRow
   no-rule : RuleRow
 
@@ -147,11 +161,11 @@ ruleRows =
     by-f (0 ∷ 1 ∷ 2 ∷ 3 ∷ 4 ∷ 5 ∷ 6 ∷ 7 ∷ []) compute
     ∷ by-f (0 ∷ 1 ∷ 3 ∷ 4 ∷ 5 ∷ []) compare
     ∷ one addi
-    ∷ one ld
+    ∷ one-at wordAtA' ld
     -- 4 to 7
-    ∷ one st
-    ∷ one ldb
-    ∷ one stb
+    ∷ one-at wordAtA' st
+    ∷ one-at byteAtA ldb
+    ∷ one-at byteAtA stb
     ∷ one jalr
     -- 8 to 10
     ∷ by-e bz bnz
@@ -167,10 +181,11 @@ ruleRows =
     ∷ no-rule
     ∷ []
 
--- the rule of a word; one that divides by Rb; or that the word is unassigned
+-- the rule of a word; one that divides by Rb; one that touches these bytes; or that the word is unassigned
 pub data Choice : Type 0 where
   rule : Rule → Choice
   division : Rule → Choice
+  access : Touched → Rule → Choice
   unassigned : Choice
 
 abbrev pub among : ℕ → List ℕ → Bool
@@ -181,6 +196,7 @@ abbrev pub ruleInRow : RuleRow → ℕ → ℕ → Choice
 ruleInRow (by-f fs r) e f = pick (among f fs) (rule r) unassigned
 ruleInRow (by-f-dividing fs gs r) e f = pick (among f fs) (pick (among f gs) (division r) (rule r)) unassigned
 ruleInRow (one r) e f = rule r
+ruleInRow (one-at touched r) e f = access touched r
 ruleInRow (by-e r₀ r₁) e f = rule (pick (eqb e 0) r₀ r₁)
 ruleInRow no-rule e f = unassigned
 
@@ -206,19 +222,26 @@ pub data Next : Type 0 where
 abbrev pub doing : Rule → ℕ → Machine → Next
 doing r w m = to (onState count (r w (jump (add (PC m) 2) m)))
 
--- If w is unassigned, no step is possible (stop 1), nor where the divisor is zero (stop 3). Otherwise the rule is done.
+-- If w is unassigned, no step is possible (stop 1), nor where the divisor is zero (stop 3), nor where a load or store touches a locked byte
+-- (stop 4). Otherwise the rule is done.
 abbrev pub stepBy : Choice → ℕ → Machine → Next
 stepBy unassigned w m = cannot 1
 stepBy (division r) w m = pick (eqb (Rb w m) 0) (cannot 3) (doing r w m)
+stepBy (access touched r) w m = pick (touchesLocked (touched w m) (m .state)) (cannot 4) (doing r w m)
 stepBy (rule r) w m = doing r w m
 
 -- Taking a line counts as one step (02, L12).
 abbrev pub taking : Machine → Next
 taking m = to (onState (λ s. count (lineTaken s)) m)
 
--- A line that is to be taken is taken before the fetch; otherwise `does` is what the word fetched does.
+-- A line that is to be taken is taken before the fetch; a fetch that touches a locked byte can't be made (stop 4); otherwise `does` is what the word
+-- fetched does.
 abbrev pub stepWith : (ℕ → Machine → Next) → Machine → Next
-stepWith does m = pick (takesLine (m .state)) (taking m) (does (fetched m) m)
+stepWith does m = pick (takesLine (m .state)) (taking m) (pick (fetchLocked (m .state)) (cannot 4) (does (fetched m) m))
+
+-- a machine in this state fetches: it takes no line, and its fetch touches no locked byte
+abbrev pub fetches : State → Bool
+fetches s = not (takesLine s) && not (fetchLocked s)
 
 -- by the rules
 abbrev pub byRule : ℕ → Machine → Next

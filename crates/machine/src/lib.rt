@@ -4,11 +4,11 @@ ghost use Prim.Native.Nat.{_+_, _-_, _%_, _<_};
 ghost use Rattle.word.specs.Fields.{a-of, b-of};
 ghost use Rattle.word.specs.Word.{pick, add};
 ghost use lib.Dec.{eqb};
-ghost use Rattle.machine.specs.Machine.{reset, R, putR, putPC, putN, putJournaled, count, boardNumber, boardOf, resetOn, lowestLine, withLine, withoutLine, takesLine, lineTaken, evenPlaces, putEnabled, putPending, putTaken};
+ghost use Rattle.machine.specs.Machine.{reset, R, putR, putPC, putN, putJournaled, count, boardNumber, boardOf, resetOn, lowestLine, withLine, withoutLine, takesLine, lineTaken, putLocked, isLocked, touchesLocked, bytesAt, fetchLocked, evenPlaces, putEnabled, putPending, putTaken};
 
 // R0 to R7, PC, n, the count of steps done, the count of journal entries, and the board: 0 with two memories, any other number the
 // single-memory one. Then interrupts: enabled where it is not 0, a pending byte with bit k for line k, the number of the line last taken and the
-// address to return to.
+// address to return to. Then the locked range of data memory, first to last, none where `locked` is 0.
 #[repr(C)]
 pub struct State {
     pub r: [u16; 8],
@@ -20,6 +20,9 @@ pub struct State {
     pub pending: u8,
     pub line: u8,
     pub return_address: u16,
+    pub locked: u8,
+    pub first_locked: u16,
+    pub last_locked: u16,
 }
 
 // The board that a load names: instructions are fetched from program memory, or from data memory, the only one.
@@ -29,7 +32,7 @@ pub enum Board {
 }
 
 // What an engine's step hands back: stop 0, the register state, and how many places of the log are filled; or why it can't be
-// made (1 the word is unassigned, 3 its divisor is zero, 2 it writes a port and the log is full), with both as they were.
+// made (1 the word is unassigned, 3 its divisor is zero, 4 it touches a locked byte, 2 it writes a port and the log is full), with both as they were.
 pub struct Stepped {
     pub stop: u8,
     pub state: State,
@@ -133,6 +136,9 @@ impl State {
             pending: 0,
             line: 0,
             return_address: 0,
+            locked: 0,
+            first_locked: 0,
+            last_locked: 0,
         }
     }
 
@@ -194,6 +200,9 @@ impl State {
             pending: self.pending,
             line: self.line,
             return_address: self.return_address,
+            locked: self.locked,
+            first_locked: self.first_locked,
+            last_locked: self.last_locked,
         }
     }
 
@@ -212,6 +221,9 @@ impl State {
             pending: self.pending,
             line: self.line,
             return_address: self.return_address,
+            locked: self.locked,
+            first_locked: self.first_locked,
+            last_locked: self.last_locked,
         }
     }
 
@@ -245,6 +257,9 @@ impl State {
             pending: self.pending,
             line: self.line,
             return_address: self.return_address,
+            locked: self.locked,
+            first_locked: self.first_locked,
+            last_locked: self.last_locked,
         }
     }
 
@@ -269,6 +284,9 @@ impl State {
             pending: self.pending,
             line: self.line,
             return_address: self.return_address,
+            locked: self.locked,
+            first_locked: self.first_locked,
+            last_locked: self.last_locked,
         }
     }
 
@@ -284,6 +302,48 @@ impl State {
         ensures { λ r. ⌜ r ≡ evenPlaces self ⌝ }
     {
         (self.pc % 2 == 0) & (self.return_address % 2 == 0)
+    }
+
+    // A byte of data memory is locked (02, L14).
+    pub fn locks_byte(self, address: u16) -> bool
+        ensures { λ r. ⌜ r ≡ isLocked address self ⌝ }
+    {
+        (self.locked != 0) & (self.first_locked <= address) & (address <= self.last_locked)
+    }
+
+    // A byte of the word at an address is.
+    pub fn locks_word(self, address: u16) -> bool
+        ensures { λ r. ⌜ r ≡ touchesLocked (bytesAt address) self ⌝ }
+    {
+        self.locks_byte(address) | self.locks_byte(word::sum(address, 1))
+    }
+
+    // The fetch touches a locked byte.
+    pub fn locks_fetch(self) -> bool
+        ensures { λ r. ⌜ r ≡ fetchLocked self ⌝ }
+    {
+        (self.board != 0) & self.locks_word(self.pc)
+    }
+
+    // The locked range.
+    pub fn with_locked(self, locked: u8, first_locked: u16, last_locked: u16) -> Self
+        ensures { λ s. ⌜ s ≡ putLocked locked «first_locked» «last_locked» self ⌝ }
+    {
+        let r = self.r;
+        State {
+            r,
+            pc: self.pc,
+            n: self.n,
+            journaled: self.journaled,
+            board: self.board,
+            enabled: self.enabled,
+            pending: self.pending,
+            line: self.line,
+            return_address: self.return_address,
+            locked,
+            first_locked,
+            last_locked,
+        }
     }
 
     // The lowest pending line; 8 where none is pending.
@@ -311,6 +371,9 @@ impl State {
             pending,
             line,
             return_address: self.pc,
+            locked: self.locked,
+            first_locked: self.first_locked,
+            last_locked: self.last_locked,
         }
     }
 
@@ -328,6 +391,9 @@ impl State {
             pending: self.pending,
             line: self.line,
             return_address: self.return_address,
+            locked: self.locked,
+            first_locked: self.first_locked,
+            last_locked: self.last_locked,
         }
     }
 
@@ -345,6 +411,9 @@ impl State {
             pending: v,
             line: self.line,
             return_address: self.return_address,
+            locked: self.locked,
+            first_locked: self.first_locked,
+            last_locked: self.last_locked,
         }
     }
 
@@ -371,6 +440,9 @@ impl State {
             pending: self.pending,
             line,
             return_address,
+            locked: self.locked,
+            first_locked: self.first_locked,
+            last_locked: self.last_locked,
         }
     }
 }

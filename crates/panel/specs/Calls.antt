@@ -1,13 +1,13 @@
 -- What setting an input, raising a line and the window reply and leave, of what they are given (01, "Set", "The window", "Refusal table").
-use Prim.Native.Nat.{ℕ, _+_}
-use mathlib.Core.Bool.{Bool}
+use Prim.Native.Nat.{ℕ, zero, suc, _+_}
+use mathlib.Core.Bool.{Bool, false, _&&_, _||_}
 use mathlib.Core.List.{List, []}
 use lib.Dec.{eqb, leb, ltb}
 use lib.ListN.{length, set, take, drop}
 use Rattle.refusal.specs.Refusals.{refusalNumber, Verdict, accepted, refused}
 use Rattle.word.specs.Word.{pick}
 use Rattle.machine.specs.declared.State.{State}
-use Rattle.machine.specs.Machine.{withLine, putPending}
+use Rattle.machine.specs.Machine.{withLine, putPending, isLocked}
 use Rattle.panel.specs.declared.Setting.{Setting}
 use Rattle.panel.specs.declared.Setting.the-variants.{Done, Refused}
 use Rattle.panel.specs.declared.Raising.{Raising}
@@ -59,5 +59,11 @@ raiseLeft s line =
 abbrev pub partOf : List ℕ → ℕ → ℕ → List ℕ
 partOf M start count = pick (leb (start + count) (length M)) (take count (drop start M)) []
 
-unfoldable pub windowOf : List ℕ → List ℕ → Bool → ℕ → ℕ → List ℕ
-windowOf P D ofData start count = partOf (pick ofData D P) start count
+-- one of the `count` bytes from `start` on is locked (02, L14)
+unfoldable pub holdsLocked : State → ℕ → ℕ → Bool
+holdsLocked s start zero = false
+holdsLocked s start (suc count) = isLocked start s || holdsLocked s (suc start) count
+
+-- It also gets the state, and gives a data span holding a locked byte as the empty part.
+unfoldable pub windowOf : State → List ℕ → List ℕ → Bool → ℕ → ℕ → List ℕ
+windowOf s P D ofData start count = pick (ofData && holdsLocked s start count) [] (partOf (pick ofData D P) start count)

@@ -1,5 +1,5 @@
 -- The file of case c (docs/CONFORMANCE.md), of each sort: as under "The file of case c", as under "Keys", as under "The single-memory
--- board", as for a table from 128 on, as under "Knob interrupts", as for a table from 160 on, and as under "Pages".
+-- board", as for a table from 128 on, as under "Knob interrupts", as for a table from 160 on, as under "Pages", and as under "Locked calibration".
 use Prim.Native.Nat.{ℕ, _+_, _-_, _*_, _/_, _%_}
 use mathlib.Core.List.{List, [], _∷_}
 use lib.Dec.{ltb, eqb}
@@ -8,10 +8,10 @@ use Rattle.word.specs.Word.{pick, flag}
 use Rattle.numbers.specs.Numbers.{numberOf}
 use Rattle.player.specs.Lists.{places}
 use Rattle.player.specs.declared.file.Sort.{Sort}
-use Rattle.player.specs.declared.file.Sort.the-variants.{Any, Keys, Stores, LowPorts, Knobs, Enabling, Pages}
+use Rattle.player.specs.declared.file.Sort.the-variants.{Any, Keys, Stores, LowPorts, Knobs, Enabling, Pages, Locks}
 
--- W = 1 + number(c, 0) mod 200, C = number(c, 1) mod 300; under "Keys", "The single-memory board" and "Pages" W is 32, under "Knob
--- interrupts" 136
+-- W = 1 + number(c, 0) mod 200, C = number(c, 1) mod 300; under "Keys", "The single-memory board", "Pages" and "Locked calibration" W is 32,
+-- under "Knob interrupts" 136
 abbrev pub anyW : ℕ → ℕ
 anyW c = 1 + numberOf c 0 % 200
 
@@ -23,6 +23,7 @@ W LowPorts c = anyW c
 W Knobs c = 136
 W Enabling c = anyW c
 W Pages c = 32
+W Locks c = 32
 
 abbrev pub C : ℕ → ℕ
 C c = numberOf c 1 % 300
@@ -47,7 +48,7 @@ anyWord c j =
     let x = numberOf c (1000 + j) in
     pick (eqb (numberOf c (2000 + j) % 16) 0) x (x / 4096 % 12 * 4096 + x % 4096)
 
--- Under "Keys" and "The single-memory board": word j, for j from 0 to 29, where number(c, 4,000 + j) mod 2 is 0, is the section's own; else
+-- Under "Keys", "The single-memory board" and "Locked calibration": word j, for j from 0 to 29, where number(c, 4,000 + j) mod 2 is 0, is the section's own; else
 -- it is as above; word 30 is 32,993 and word 31 is 33,248.
 unfoldable pub loopWord : ℕ → ℕ → ℕ → ℕ
 loopWord c j own =
@@ -62,6 +63,19 @@ abbrev pub storeWord : ℕ → ℕ → ℕ
 storeWord c j =
     let x = numberOf c (1000 + j) in
     loopWord c j (16384 + 8192 * (x % 2) + 64 * (x / 2 % 8) + x / 16 % 64)
+
+-- FIRST = number(c, 8) mod 32, LAST = FIRST + number(c, 9) mod 3
+abbrev pub firstLocked : ℕ → ℕ
+firstLocked c = numberOf c 8 % 32
+
+abbrev pub lastLocked : ℕ → ℕ
+lastLocked c = firstLocked c + numberOf c 9 % 3
+
+-- under "Locked calibration" 12,288 + 4,096 · (x mod 4) + 64 · ((x / 4) mod 8) + (FIRST + 60 + (x / 32) mod 8) mod 64, an LD, ST, LDB or STB
+abbrev pub lockedWord : ℕ → ℕ → ℕ
+lockedWord c j =
+    let x = numberOf c (1000 + j) in
+    loopWord c j (12288 + 4096 * (x % 4) + 64 * (x / 4 % 8) + (firstLocked c + 60 + x / 32 % 8) % 64)
 
 -- For a table from 128 on: the low byte of word j is made number(c, 4,000 + j) mod 4.
 unfoldable pub lowPortWord : ℕ → ℕ → ℕ
@@ -107,6 +121,7 @@ programWord LowPorts c j = lowPortWord c j
 programWord Knobs c j = knobWord c j
 programWord Enabling c j = enablingWord c j
 programWord Pages c j = pageWord c j
+programWord Locks c j = lockedWord c j
 
 -- the bytes of a number under 65,536, the low one first; others are 0
 abbrev pub bytesOf : ℕ → List ℕ

@@ -40,10 +40,10 @@ requestBy change kept n budget places =
 abbrev pub requestOf : ℕ → ℕ → State → ℕ → ℕ → Request
 requestOf c i kept n places = requestBy (ofCall c i 3 % 16) kept n (ofCall c i 1 % 2000) places
 
--- Where the call was accepted the host keeps that state, after a stop 1 or 3 with PC moved on by 2 (modulo 65,536) and the count of journal
+-- Where the call was accepted the host keeps that state, after a stop 1, 3 or 4 with PC moved on by 2 (modulo 65,536) and the count of journal
 -- entries made 0 (a run without a journal leaves it 0); where it was refused it keeps the one it had.
 unfoldable pub keptAfter : State → Reply → State
 keptAfter kept reply =
     let state = reply .state in
     let moved = putJournaled 0 (putPC (add (state .pc) 2) state) in
-    pick (eqb (reply .refusal) 0) (pick (eqb (reply .stop) 1 || eqb (reply .stop) 3) moved state) kept
+    pick (eqb (reply .refusal) 0) (pick ((eqb (reply .stop) 1 || eqb (reply .stop) 3) || eqb (reply .stop) 4) moved state) kept

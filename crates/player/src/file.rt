@@ -4,12 +4,12 @@ ghost use Prim.Native.Nat.{_<_};
 ghost use lib.Dec.{eqb};
 ghost use lib.ListN.{getD};
 ghost use Rattle.word.specs.Word.{flag};
-ghost use Rattle.player.specs.File.{anyW, W, C, damageOf, lengthOf, header, anyWord, loopWord, keyWord, storeWord, lowPortWord, interruptF, interruptWord, enablingWord, knobWord, outWord, addiWord, pageWord, programWord, byteOf, fileByte, fileOf};
+ghost use Rattle.player.specs.File.{anyW, W, C, damageOf, lengthOf, header, anyWord, loopWord, keyWord, storeWord, firstLocked, lastLocked, lockedWord, lowPortWord, interruptF, interruptWord, enablingWord, knobWord, outWord, addiWord, pageWord, programWord, byteOf, fileByte, fileOf};
 use crate::lent::File;
 use numbers::number;
 
-// The sort of a file, by its program: a case's, one of "Keys", of "The single-memory board", of "Knob interrupts" or of "Pages", or one for a
-// table from 128 or from 160 on.
+// The sort of a file, by its program: a case's, one of "Keys", of "The single-memory board", of "Knob interrupts", of "Pages" or of "Locked
+// calibration", or one for a table from 128 or from 160 on.
 pub enum Sort {
     Any,
     Keys,
@@ -18,6 +18,7 @@ pub enum Sort {
     Knobs,
     Enabling,
     Pages,
+    Locks,
 }
 
 // A damage that is none.
@@ -48,6 +49,7 @@ fn words(sort: Sort, c: u16) -> u16
         Sort::Knobs => 136,
         Sort::Enabling => any_words(c),
         Sort::Pages => 32,
+        Sort::Locks => 32,
     }
 }
 
@@ -125,6 +127,30 @@ fn store_word(c: u16, j: u16) -> u16
         j,
         16384 + 8192 * (x % 2) + 64 * (x / 2 % 8) + x / 16 % 64,
     )
+}
+
+// FIRST of the page.
+pub fn first_locked(c: u16) -> u16
+    ensures { λ r. ⌜ (r ≡ firstLocked c) × (r < 32) ⌝ }
+{
+    number(c, 8) % 32
+}
+
+// LAST of the page.
+pub fn last_locked(c: u16) -> u16
+    ensures { λ r. ⌜ r ≡ lastLocked c ⌝ }
+{
+    first_locked(c) + number(c, 9) % 3
+}
+
+// The section's own word is an LD, ST, LDB or STB near FIRST, at an address from a register.
+fn locked_word(c: u16, j: u16) -> u16
+    requires { ⌜ j < 200 ⌝ }
+    ensures { λ r. ⌜ r ≡ lockedWord c j ⌝ }
+{
+    let x = number(c, 1000 + j);
+    let n = (first_locked(c) + 60 + x / 32 % 8) % 64;
+    loop_word(c, j, 12288 + 4096 * (x % 4) + 64 * (x / 4 % 8) + n)
 }
 
 fn low_port_word(c: u16, j: u16) -> u16
@@ -216,6 +242,7 @@ fn program_word(sort: Sort, c: u16, j: u16) -> u16
         Sort::Knobs => knob_word(c, j),
         Sort::Enabling => enabling_word(c, j),
         Sort::Pages => page_word(c, j),
+        Sort::Locks => locked_word(c, j),
     }
 }
 

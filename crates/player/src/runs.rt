@@ -83,7 +83,7 @@ pub fn kept_after(kept: State, reply: Reply) -> State
         return kept;
     }
     let state = reply.state;
-    if (reply.stop == 1) | (reply.stop == 3) {
+    if (reply.stop == 1) | (reply.stop == 3) | (reply.stop == 4) {
         return state
             .with_pc(wrapping_add_u16(state.pc, 2))
             .with_journaled(0);

@@ -2,7 +2,7 @@
 -- accepted or refused with a number.
 use Prim.Native.Nat.{ℕ}
 use Rattle.refusal.specs.declared.Refusal.{Refusal}
-use Rattle.refusal.specs.declared.Refusal.the-variants.{LentLength, ShortFile, LargePart, PartOutside, OddPc, StepCount, InstructionPart, LongFile, ShortDestination, TextLine, TextName, TextValue, FullSheet, ShortJournal, SmallBoard, LineNumber, TrimCount}
+use Rattle.refusal.specs.declared.Refusal.the-variants.{LentLength, ShortFile, LargePart, PartOutside, OddPc, StepCount, InstructionPart, LongFile, ShortDestination, TextLine, TextName, TextValue, FullSheet, ShortJournal, SmallBoard, LineNumber, TrimCount, LockedRange}
 
 abbrev pub refusalNumber : Refusal → ℕ
 -- P or D not 65,536 bytes, or I or O not 256 words (set looks at I only)
@@ -39,6 +39,8 @@ refusalNumber SmallBoard = 15
 refusalNumber LineNumber = 16
 -- no trims or more than 8 (02, L13)
 refusalNumber TrimCount = 17
+-- a range with first over last (02, L14)
+refusalNumber LockedRange = 18
 
 -- whether a call is accepted: it is, or it is refused with this number
 pub data Verdict : Type 0 where

@@ -20,6 +20,7 @@ pub enum Refusal {
     SmallBoard,
     LineNumber,
     TrimCount,
+    LockedRange,
 }
 
 // The refusal's number in the table.
@@ -44,5 +45,6 @@ pub fn number(refusal: Refusal) -> u8
         Refusal::SmallBoard => 15,
         Refusal::LineNumber => 16,
         Refusal::TrimCount => 17,
+        Refusal::LockedRange => 18,
     }
 }

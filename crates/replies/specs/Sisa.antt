@@ -4,7 +4,7 @@
 use Prim.Native.Nat.{ℕ, _+_}
 use denote.Ref.{RefT, now}
 use denote.Triple.Both.{Both}
-use mathlib.Core.Bool.{_&&_, not}
+use mathlib.Core.Bool.{Bool, _&&_, not}
 use mathlib.Core.List.{List, map}
 use mathlib.Core.Path.{_≡_}
 use lib.Dec.{eqb, leb}
@@ -20,7 +20,7 @@ use Rattle.machine.specs.declared.State.{State}
 use Rattle.machine.specs.Machine.{boardOf}
 use Rattle.machine.specs.Run.{Stepper}
 use Rattle.machine.specs.Slices.{Slice, before, after}
-use Rattle.panel.specs.Calls.{SetGiven, SetLeft, setLeft, raiseLeft, windowOf}
+use Rattle.panel.specs.Calls.{SetGiven, SetLeft, setLeft, raiseLeft, holdsLocked, windowOf}
 use Rattle.image.specs.Image.{LoadGiven, LoadLeft, loadLeft, fileLent}
 use Rattle.save.specs.Saved.{SaveReply, saved, save-refused, SaveGiven, SaveLeft, saveLeft, lentToSave}
 use Rattle.assembler.specs.Text.{Reply, words, text-refused, AssembleLeft, assembleLeft}
@@ -69,11 +69,11 @@ loadInNumbers l = record { reply = sisaLoad (l .reply) (l .state); P = l .P; D =
 unfoldable pub sisaLoadLeft : LoadGiven → SisaLoadLeft
 sisaLoadLeft g = loadInNumbers (loadLeft g)
 
--- the board is the one that the number names
-abbrev pub SisaLoads : Slice → ℕ → Slice → Slice → Slice → Slice → SisaLoad → Type 0
-SisaLoads file board program memory inputs outputs r =
+-- the board is the one that the number names, the range is in numbers
+abbrev pub SisaLoads : Slice → ℕ → ℕ → ℕ → ℕ → Slice → Slice → Slice → Slice → SisaLoad → Type 0
+SisaLoads file board locked first last program memory inputs outputs r =
     _≡_ {A = SisaLoadLeft} (record { reply = r; P = after program; D = after memory; I = after inputs; O = after outputs })
-    (sisaLoadLeft (fileLent file (boardOf board) program memory inputs outputs))
+    (sisaLoadLeft (fileLent file (boardOf board) (record { locked = locked; first = first; last = last }) program memory inputs outputs))
 
 -- ---- sisa_save
 
@@ -311,10 +311,14 @@ sisaFeed s k u = sisaFed (feedBy (eqb k 0) s u)
 abbrev pub chosen : ℕ → List ℕ → List ℕ → List ℕ
 chosen ofData P D = pick (eqb ofData 0) P D
 
--- The bytes start .. start + count of the memory M. Both numbers are 0 for the empty part: of no bytes, or with an end beyond M.
-unfoldable pub sisaWindow : List ℕ → ℕ → ℕ → SisaWindow
-sisaWindow M start count =
-    pick (leb (start + count) (length M) && not (eqb count 0))
+-- a data span holds a locked byte (02, L14)
+abbrev pub isHidden : State → ℕ → ℕ → ℕ → Bool
+isHidden s ofData start count = not (eqb ofData 0) && holdsLocked s start count
+
+-- The bytes start .. start + count of the memory M. Both numbers are 0 for the empty part: hidden, of no bytes, or with an end beyond M.
+unfoldable pub sisaWindow : Bool → List ℕ → ℕ → ℕ → SisaWindow
+sisaWindow hidden M start count =
+    pick (not hidden && (leb (start + count) (length M) && not (eqb count 0)))
     (record { start = start; count = count })
     (record { start = 0; count = 0 })
 
@@ -322,7 +326,7 @@ sisaWindow M start count =
 abbrev pub bytesOf : SisaWindow → List ℕ → List ℕ
 bytesOf w M = take (w .count) (drop (w .start) M)
 
-abbrev pub SisaShows : Slice → Slice → ℕ → ℕ → ℕ → SisaWindow → Type 0
-SisaShows program memory ofData start count r =
+abbrev pub SisaShows : State → Slice → Slice → ℕ → ℕ → ℕ → SisaWindow → Type 0
+SisaShows s program memory ofData start count r =
     let M = chosen ofData (before program) (before memory) in
-    (r ≡ sisaWindow M start count) × (bytesOf r M ≡ windowOf (before program) (before memory) (not (eqb ofData 0)) start count)
+    (r ≡ sisaWindow (isHidden s ofData start count) M start count) × (bytesOf r M ≡ windowOf s (before program) (before memory) (not (eqb ofData 0)) start count)

@@ -19,7 +19,7 @@ unfolding printed
 too-long file h e = rw (lt-leb (length file) 65536 h) e
 
 module _ (file : List ℕ) {l : LoadLeft} (h : length file ≤ 65536)
-    (e : l ≡ loadLeft (record { file = file; board = TwoMemories; P = replicate 65536 0; D = replicate 65536 0; I = replicate 256 0; O = replicate 256 0 })) where
+    (e : l ≡ loadLeft (record { file = file; board = TwoMemories; range = record { locked = 0; first = 0; last = 0 }; P = replicate 65536 0; D = replicate 65536 0; I = replicate 256 0; O = replicate 256 0 })) where
   loaded : {reply : Verdict} {r : Printed} → l .reply ≡ reply → r ≡ inArray (loadedBy reply l) → r ≡ inArray (printed file)
   unfolding printed
   loaded k p =

@@ -70,5 +70,5 @@ loadedBy (refused number) l = refusedLine number
 -- 8: the program's file exceeds 65,536 bytes. The program tests 8 before its load.
 unfoldable pub printed : List ℕ → List ℕ
 printed file =
-    let l = loadLeft (record { file = file; board = TwoMemories; P = replicate 65536 0; D = replicate 65536 0; I = replicate 256 0; O = replicate 256 0 }) in
+    let l = loadLeft (record { file = file; board = TwoMemories; range = record { locked = 0; first = 0; last = 0 }; P = replicate 65536 0; D = replicate 65536 0; I = replicate 256 0; O = replicate 256 0 }) in
     pick (leb (length file) 65536) (loadedBy (l .reply) l) (refusedLine 8)

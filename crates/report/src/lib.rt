@@ -7,6 +7,7 @@ ghost use Rattle.run.specs.Runs.{no-journal, given, runLeft};
 ghost use Rattle.printing.specs.Text.{inArray};
 ghost use Rattle.report.specs.Printed.{refusedLine, ranLines, printed};
 use image::Loading;
+use image::Range;
 use machine::Board;
 use machine::State;
 use printing::Printed;
@@ -69,6 +70,11 @@ pub fn report(file: &[u8]) -> Printed
     let loaded = image::load(
         file,
         Board::TwoMemories,
+        Range {
+            locked: 0,
+            first: 0,
+            last: 0,
+        },
         &mut program,
         &mut memory,
         &mut inputs,

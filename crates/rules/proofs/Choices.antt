@@ -13,7 +13,7 @@ use Rattle.word.specs.Fields.{opcode, e-of, f-of}
 use Rattle.word.specs.Word.{pick}
 use Rattle.word.proofs.Computed.{all, all-at}
 use Rattle.word.proofs.Tests.{same-test}
-use Rattle.machine.specs.Step.{RuleRow, by-f, by-f-dividing, one, by-e, no-rule, among, ruleRows, Choice, rule, division, unassigned, ruleInRow, choice, input, output}
+use Rattle.machine.specs.Step.{RuleRow, by-f, by-f-dividing, one, one-at, by-e, no-rule, among, ruleRows, Choice, rule, division, access, unassigned, ruleInRow, choice, input, output}
 use Rattle.machine.specs.Run.{isOut}
 use Rattle.rules.proofs.Values.{f-is}
 
@@ -22,6 +22,7 @@ use Rattle.rules.proofs.Values.{f-is}
 abbrev isAssigned : Choice → Bool
 isAssigned (rule r) = true
 isAssigned (division r) = true
+isAssigned (access touched r) = true
 isAssigned unassigned = false
 
 abbrev assignedBy : ℕ → ℕ → Bool
@@ -62,6 +63,7 @@ abbrev choiceIn : RuleRow → ℕ → ℕ → Choice
 choiceIn (by-f fs r) e f = rule r
 choiceIn (by-f-dividing fs gs r) e f = pick (among f gs) (division r) (rule r)
 choiceIn (one r) e f = rule r
+choiceIn (one-at touched r) e f = access touched r
 choiceIn (by-e r₀ r₁) e f = rule (pick (eqb e 0) r₀ r₁)
 choiceIn no-rule e f = unassigned
 
@@ -80,6 +82,7 @@ in-row (by-f-dividing fs gs r) e f = by-tests (among f fs) (among f gs)
     by-tests true false = refl
     by-tests false s = refl
 in-row (one r) e f = refl
+in-row (one-at touched r) e f = refl
 in-row (by-e r₀ r₁) e f = refl
 in-row no-rule e f = refl
 

@@ -8,12 +8,13 @@ use lib.Dec.{eqb}
 use lib.ListN.{List·getD-map}
 use Rattle.word.specs.Fields.{e-of, f-of, N8}
 use Rattle.word.specs.Word.{pick, add, SE}
+use Rattle.word.proofs.Tests.{never}
 use Rattle.machine.specs.declared.State.{State}
 use Rattle.machine.specs.declared.Stepped.{Stepped}
-use Rattle.machine.specs.Machine.{Machine, putR, putPC, count, onState, putD}
-use Rattle.machine.specs.Step.{PC, d5-3, d11-9, write, jump, Rule, Choice, rule, division, unassigned, choice, cannot, doing, stepBy, bz, bnz, movi, movhi, interruptRules, interrupt}
+use Rattle.machine.specs.Machine.{Machine, touchesLocked, putR, putPC, count, onState, putD}
+use Rattle.machine.specs.Step.{PC, d5-3, d11-9, write, jump, Rule, Touched, Choice, rule, division, access, unassigned, choice, cannot, doing, stepBy, bz, bnz, movi, movhi, interruptRules, interrupt}
 use Rattle.machine.specs.Run.{Outcome}
-use Rattle.machine.specs.Held.{outcomeOf}
+use Rattle.machine.specs.Held.{outcomeOf, isLockStop, TestsLock}
 use Rattle.rules.specs.Parts.{advancedOf, RuleMeets, raOf, rbOf, targetOf, branchOf, moveOf, interruptOf}
 
 -- PC = PC+2 is done
@@ -40,6 +41,14 @@ dividing w s x t zero m es = by-test t ∙ ap (λ b. pick b (cannot 3) (doing x 
     by-test : (t : Bool) → stepBy (pick t (division x) (rule x)) w m ≡ pick (t && eqb (rbOf w (m .state)) 0) (cannot 3) (doing x w m)
     by-test true = refl
     by-test false = refl
+
+-- a rule that touches no locked byte
+accessing : (w : ℕ) (s : State) (t : Touched) (x : Rule) → choice w ≡ access t x → TestsLock (stepBy (choice w) w) s false → Does w s (access t x) x
+accessing w s t x q free m es = by-test (touchesLocked (t w m) (m .state)) (ap (λ y. isLockStop (stepBy y w m)) (sym q) ∙ free m es)
+  where
+    by-test : (b : Bool) → isLockStop (pick b (cannot 4) (doing x w m)) ≡ false → pick b (cannot 4) (doing x w m) ≡ doing x w m
+    by-test true e = never (sym e)
+    by-test false e = refl
 
 module _ {w : ℕ} {s : State} {D : List ℕ} {k : ℕ} {r : Stepped} where
   meets : {stop : ℕ} {t : State} {D′ : List ℕ}
@@ -94,14 +103,6 @@ module _ {w : ℕ} {s : State} {D : List ℕ} {k : ℕ} {r : Stepped} where
         → RuleMeets w s D k r D
     wrote = wrote-by x q (λ m es. refl) advanced
 
-    -- the rule writes the data
-    pub stored : (put : State → List ℕ → List ℕ) {D′ : List ℕ}
-        → ((m : Machine) → x w (on m) ≡ putD (put (m .state) (m .D)) (on m))
-        → D′ ≡ put s D
-        → r ≡ answer 0 next k
-        → RuleMeets w s D k r D′
-    stored put p eD′ = leaves x q (λ m es. refl) advanced (λ u n E. n) put (λ m. ap (onState count) (p m)) refl eD′
-
     -- the rule names PC
     pub jumped : (F : State → State → State) {t : State}
         → ((m : Machine) → onState count (x w (on m)) ≡ onState (λ u. F u (advancedOf u)) m)
@@ -109,6 +110,23 @@ module _ {w : ℕ} {s : State} {D : List ℕ} {k : ℕ} {r : Stepped} where
         → r ≡ answer 0 t k
         → RuleMeets w s D k r D
     jumped F p et = leaves x q (λ m es. refl) advanced (λ u n E. F u n) (λ u E. E) p et refl
+
+  module _ {next : State} (touched : Touched) (x : Rule) (q : choice w ≡ access touched x) (free : TestsLock (stepBy (choice w) w) s false) (advanced : next ≡ advancedOf s) where
+    -- the same of a register, by a load
+    pub loaded : (d : ℕ) (value : State → List ℕ → ℕ) {t : State}
+        → ((m : Machine) → x w (on m) ≡ write d (value (m .state) (m .D)) (on m))
+        → t ≡ putR d (value s D) next
+        → r ≡ answer 0 t k
+        → RuleMeets w s D k r D
+    loaded = wrote-by x q (accessing w s touched x q free) advanced
+
+    -- a store writes the data
+    pub stored : (put : State → List ℕ → List ℕ) {D′ : List ℕ}
+        → ((m : Machine) → x w (on m) ≡ putD (put (m .state) (m .D)) (on m))
+        → D′ ≡ put s D
+        → r ≡ answer 0 next k
+        → RuleMeets w s D k r D′
+    stored put p eD′ = leaves x q (accessing w s touched x q free) advanced (λ u n E. n) put (λ m. ap (onState count) (p m)) refl eD′
 
   -- the same of a register, by a rule that may divide, where the divisor is not zero
   pub divided : {next : State} (x : Rule) (t : Bool) → choice w ≡ pick t (division x) (rule x) → (t && eqb (rbOf w s) 0) ≡ false → next ≡ advancedOf s

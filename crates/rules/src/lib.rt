@@ -1,12 +1,12 @@
 // The engine by the rules: the step of a word.
 ghost use mathlib.Core.Path.{_≡_};
-ghost use mathlib.Core.Bool.{true};
+ghost use mathlib.Core.Bool.{true, false};
 ghost use mathlib.Core.List.{List};
 ghost use Prim.Native.Nat.{ℕ, _/_, _<_, _≤_};
 ghost use lib.ListN.{length};
 ghost use Rattle.machine.specs.Step.{rule, choice, stepBy, output};
 ghost use Rattle.machine.specs.Run.{isOut};
-ghost use Rattle.machine.specs.Held.{held, Ready, StepMeets, StepsAs};
+ghost use Rattle.machine.specs.Held.{held, Ready, StepMeets, TestsLock, StepsAs};
 ghost use Rattle.rules.specs.Parts.{Begun, RuleMeets};
 use machine::Port;
 use machine::State;
@@ -72,6 +72,7 @@ fn by_rule(op: u16, w: u16, state: State, next: State, memory: &mut [u8], entrie
     requires { ⌜ Begun op w state next ⌝ }
     requires { ⌜ (2 ≤ op) × (op ≡ 10 → ⊥) ⌝ }
     requires { ⌜ length (now memory) ≡ 65536 ⌝ }
+    requires { ⌜ TestsLock (stepBy (choice w) w) state false ⌝ }
     ensures { λ r. ⌜ RuleMeets w state (now (memory .entry)) entries r (now (memory .exit)) ⌝ }
 {
     match op {
@@ -141,7 +142,19 @@ fn at_port(
     }
 }
 
-// The step of w. (With an early `return` the compiled step is four times slower.)
+// What w reads or stores touches a locked byte.
+pub fn touches_locked(w: u16, state: State) -> bool
+    ensures { λ r. ⌜ TestsLock (stepBy (choice w) w) state r ⌝ }
+{
+    let a = rule::sum(w, state.ra(w));
+    match w / 4096 {
+        3 | 4 => state.locks_word(word::clear_bit0(a)),
+        5 | 6 => state.locks_byte(a),
+        _ => false,
+    }
+}
+
+// The step of w, which touches no locked byte. (With an early `return` the compiled step is four times slower.)
 pub fn step(
     w: u16,
     state: State,
@@ -152,6 +165,7 @@ pub fn step(
     entries: usize,
 ) -> Stepped
     requires { ⌜ Ready (held state (now memory) (now inputs) (now outputs) (now log) entries) ⌝ }
+    requires { ⌜ TestsLock (stepBy (choice w) w) state false ⌝ }
     ensures { λ r. ⌜ StepsAs (stepBy (choice w) w) (isOut w) state memory inputs outputs log entries r ⌝ }
 {
     let op = w / 4096;

@@ -47,7 +47,7 @@ pub fn multiplied(w: u16, state: State, next: State) -> State
 }
 
 // Ra+SE(N6): ADDI's result, and the address of a load or a store. x is Ra.
-fn sum(w: u16, x: u16) -> u16
+pub fn sum(w: u16, x: u16) -> u16
     ensures { λ r. ⌜ r ≡ add x (SE 6 (N6 w)) ⌝ }
 {
     word::sum(x, word::extend6(w))

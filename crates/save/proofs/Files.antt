@@ -17,10 +17,12 @@ use Rattle.machine.specs.declared.State.{State}
 use Rattle.machine.specs.declared.Board.{Board}
 use Rattle.machine.specs.declared.Board.the-variants.{TwoMemories, SingleMemory}
 use Rattle.machine.specs.Machine.{reset, resetOn, isSingle, wordAt}
-use Rattle.image.specs.Image.{W, programOffset, C, dataOffset, partOf, memoryOf, singleMemoryOf, loadedP, loadedD, boardHolds, loadReply, loadLeft}
-use Rattle.save.specs.Saved.{kept, wordsKept, wordsSaved, bytesKept, fileOf, savedFile, SaveReply, saved, save-refused, SaveGiven, saveReply, saveLeftBy, saveLeft}
+use Rattle.image.specs.declared.Range.{Range}
+use Rattle.image.specs.Image.{W, programOffset, C, dataOffset, partOf, memoryOf, singleMemoryOf, loadedP, loadedD, boardHolds, withRange, rangeFits, loadReply, loadLeft}
+use Rattle.save.specs.Saved.{wordsKept, wordsSaved, bytesKept, fileOf, unlocked, savedFile, SaveReply, saved, save-refused, SaveGiven, saveReply, saveLeftBy, saveLeft}
 use Rattle.image.proofs.Fits.{no-refusal}
 use Rattle.image.proofs.Left.{left-by, accepted-left}
+use Rattle.save.proofs.Unlocked.{unlocked-length}
 use Rattle.save.proofs.Kept.{Cut, cut, least, words-kept}
 
 -- ---- Its length
@@ -28,22 +30,22 @@ use Rattle.save.proofs.Kept.{Cut, cut, least, words-kept}
 words-within : (P : List ℕ) → 2 * wordsKept P ≤ length P
 words-within P = omega (arith, cut (λ k. wordAt P (2 * k)) (length P / 2) .within)
 
-bytes-within : (D : List ℕ) → bytesKept D ≤ length D
+pub bytes-within : (D : List ℕ) → bytesKept D ≤ length D
 bytes-within D = cut (λ k. getD D k 0) (length D) .within
 
 -- the words saved, by the board
 saved-within : (s : State) (P : List ℕ) → 2 * wordsSaved s P ≤ length P
 saved-within s P = either (λ w. 2 * w ≤ length P) (isSingle s) (omega arith) (words-within P)
 
-pub file-length : (s : State) (P D : List ℕ) → length (savedFile s P D) ≡ 16 + 2 * wordsSaved s P + bytesKept D
+pub file-length : (s : State) (P D : List ℕ) → length (savedFile s P D) ≡ 16 + 2 * wordsSaved s P + bytesKept (unlocked s D)
 unfolding savedFile
 file-length s P D =
     let p = length-take-le (2 * wordsSaved s P) P (saved-within s P) in
-    let d = length-take-le (bytesKept D) D (bytes-within D) in
+    let d = length-take-le (bytesKept (unlocked s D)) (unlocked s D) (bytes-within (unlocked s D)) in
     simp (length-append, p, d) (omega arith)
 
 pub file-at-most : (s : State) (P D : List ℕ) → length P ≡ 65536 → length D ≡ 65536 → length (savedFile s P D) ≤ 131088
-file-at-most s P D p d = omega (arith, file-length s P D, saved-within s P, bytes-within D)
+file-at-most s P D p d = omega (arith, file-length s P D, saved-within s P, bytes-within (unlocked s D), unlocked-length s D)
 
 -- ---- Loading it gives back both memories, on the single-memory board data memory alone
 
@@ -100,11 +102,11 @@ module _ (w : ℕ) (P D : List ℕ) (within : 2 * w ≤ length P) (p : length P 
   data-part = rw (bytes, bytes-offset, ← drop-drop) (rw (drop-at (take (2 * w) P) _ _ part) (take-take (bytesKept D) (bytesKept D) D (le-refl _)))
 
   -- whatever the memories and ports that it is loaded to held
-  module _ (board : Board) (held : boardHolds board (file w P D) ≡ true) (P′ D′ I′ O′ : List ℕ) (p′ : length P′ ≡ 65536) (d′ : length D′ ≡ 65536) (i′ : length I′ ≡ 256) (o′ : length O′ ≡ 256) where
-    accepts : accepted ≡ loadReply (record { file = file w P D; board = board; P = P′; D = D′; I = I′; O = O′ })
+  module _ (board : Board) (range : Range) (named : rangeFits range ≡ true) (held : boardHolds board (file w P D) ≡ true) (P′ D′ I′ O′ : List ℕ) (p′ : length P′ ≡ 65536) (d′ : length D′ ≡ 65536) (i′ : length I′ ≡ 256) (o′ : length O′ ≡ 256) where
+    accepts : accepted ≡ loadReply (record { file = file w P D; board = board; range = range; P = P′; D = D′; I = I′; O = O′ })
     accepts =
         let size : length (file w P D) ≡ 16 + 2 * w + bytesKept D = simp (length-append, part, length-take-le (bytesKept D) D (bytes-within D)) (omega arith) in
-        no-refusal (record { file = file w P D; board = board; P = P′; D = D′; I = I′; O = O′ })
+        no-refusal (record { file = file w P D; board = board; range = range; P = P′; D = D′; I = I′; O = O′ })
         (simp (eq-eqb _ _ p′, eq-eqb _ _ d′, eq-eqb _ _ i′, eq-eqb _ _ o′))
         (omega (arith, size))
         (rw words words-small)
@@ -114,43 +116,52 @@ module _ (w : ℕ) (P D : List ℕ) (within : 2 * w ≤ length P) (p : length P 
         (rw bytes-offset (omega arith))
         (rw (bytes-offset, bytes) (omega (arith, size)))
         held
+        named
 
-    loads : loadLeft (record { file = file w P D; board = board; P = P′; D = D′; I = I′; O = O′ })
-        ≡ record { reply = accepted; state = resetOn board; P = loadedP board (file w P D); D = loadedD board (file w P D); I = replicate 256 0; O = replicate 256 0 }
-    loads = sym (left-by _ accepts (accepted-left (file w P D) board refl refl refl refl refl))
+    loads : loadLeft (record { file = file w P D; board = board; range = range; P = P′; D = D′; I = I′; O = O′ })
+        ≡ record { reply = accepted; state = withRange range (resetOn board); P = loadedP board (file w P D); D = loadedD board (file w P D); I = replicate 256 0; O = replicate 256 0 }
+    loads = sym (left-by _ accepts (accepted-left (file w P D) board range refl refl refl refl refl))
 
-module _ (s : State) (P D : List ℕ) (p : length P ≡ 65536) (d : length D ≡ 65536) where
-  data-back : take (bytesKept D) D ++ replicate (65536 - bytesKept D) 0 ≡ D
-  data-back = rest-zero D _ 65536 d (le-refl _) (bytes-within D)
+module _ (s : State) (range : Range) (named : rangeFits range ≡ true) (P D : List ℕ) (p : length P ≡ 65536) (d : length D ≡ 65536) where
+  -- the data memory with its locked bytes zero
+  E : List ℕ
+  E = unlocked s D
+
+  e-length : length E ≡ 65536
+  unfolding E
+  e-length = unlocked-length s D ∙ d
+
+  data-back : take (bytesKept E) E ++ replicate (65536 - bytesKept E) 0 ≡ E
+  data-back = rest-zero E _ 65536 e-length (le-refl _) (bytes-within E)
 
   module _ (P′ D′ I′ O′ : List ℕ) (p′ : length P′ ≡ 65536) (d′ : length D′ ≡ 65536) (i′ : length I′ ≡ 256) (o′ : length O′ ≡ 256) where
     pub loads-back :
         isSingle s ≡ false
-        → loadLeft (record { file = savedFile s P D; board = TwoMemories; P = P′; D = D′; I = I′; O = O′ })
-        ≡ record { reply = accepted; state = reset; P = P; D = D; I = replicate 256 0; O = replicate 256 0 }
-    unfolding savedFile
+        → loadLeft (record { file = savedFile s P D; board = TwoMemories; range = range; P = P′; D = D′; I = I′; O = O′ })
+        ≡ record { reply = accepted; state = withRange range reset; P = P; D = unlocked s D; I = replicate 256 0; O = replicate 256 0 }
+    unfolding savedFile E
     loads-back e =
         let w = wordsKept P in
-        let program : memoryOf (file w P D) (programOffset (file w P D)) (2 * W (file w P D)) ≡ P =
-        rw (program-part w P D (words-within P) p d, words w P D (words-within P) p d) (rest-zero P _ 65536 p (omega (arith, words-kept P p refl)) (words-within P)) in
-        let contents : memoryOf (file w P D) (dataOffset (file w P D)) (C (file w P D)) ≡ D =
-        rw (data-part w P D (words-within P) p d, bytes w P D (words-within P) p d) data-back in
-        rw e (loads w P D (words-within P) p d TwoMemories refl P′ D′ I′ O′ p′ d′ i′ o′)
-        ∙ (λ i. record { reply = accepted; state = reset; P = program i; D = contents i; I = replicate 256 0; O = replicate 256 0 })
+        let program : memoryOf (file w P E) (programOffset (file w P E)) (2 * W (file w P E)) ≡ P =
+        rw (program-part w P E (words-within P) p e-length, words w P E (words-within P) p e-length) (rest-zero P _ 65536 p (omega (arith, words-kept P p refl)) (words-within P)) in
+        let contents : memoryOf (file w P E) (dataOffset (file w P E)) (C (file w P E)) ≡ E =
+        rw (data-part w P E (words-within P) p e-length, bytes w P E (words-within P) p e-length) data-back in
+        rw e (loads w P E (words-within P) p e-length TwoMemories range named refl P′ D′ I′ O′ p′ d′ i′ o′)
+        ∙ (λ i. record { reply = accepted; state = withRange range reset; P = program i; D = contents i; I = replicate 256 0; O = replicate 256 0 })
 
     pub loads-back-single :
         isSingle s ≡ true
-        → loadLeft (record { file = savedFile s P D; board = SingleMemory; P = P′; D = D′; I = I′; O = O′ })
-        ≡ record { reply = accepted; state = resetOn SingleMemory; P = replicate 65536 0; D = D; I = replicate 256 0; O = replicate 256 0 }
-    unfolding savedFile
+        → loadLeft (record { file = savedFile s P D; board = SingleMemory; range = range; P = P′; D = D′; I = I′; O = O′ })
+        ≡ record { reply = accepted; state = withRange range (resetOn SingleMemory); P = replicate 65536 0; D = unlocked s D; I = replicate 256 0; O = replicate 256 0 }
+    unfolding savedFile E
     loads-back-single e =
         let within : 2 * 0 ≤ length P = omega arith in
-        let held : boardHolds SingleMemory (file 0 P D) ≡ true =
-        rw (words 0 P D within p d, bytes 0 P D within p d) (le-leb (0 + bytesKept D) 65536 (omega (arith, bytes-within D))) in
-        let contents : singleMemoryOf (file 0 P D) ≡ D =
-        (λ i. program-part 0 P D within p d i ++ data-part 0 P D within p d i ++ replicate (65536 - (2 * words 0 P D within p d i + bytes 0 P D within p d i)) 0) ∙ rw zero-add data-back in
-        rw e (loads 0 P D within p d SingleMemory held P′ D′ I′ O′ p′ d′ i′ o′)
-        ∙ ap (λ (E : List ℕ). record { reply = accepted; state = resetOn SingleMemory; P = replicate 65536 0; D = E; I = replicate 256 0; O = replicate 256 0 }) contents
+        let held : boardHolds SingleMemory (file 0 P E) ≡ true =
+        rw (words 0 P E within p e-length, bytes 0 P E within p e-length) (le-leb (0 + bytesKept E) 65536 (omega (arith, bytes-within E, e-length))) in
+        let contents : singleMemoryOf (file 0 P E) ≡ E =
+        (λ i. program-part 0 P E within p e-length i ++ data-part 0 P E within p e-length i ++ replicate (65536 - (2 * words 0 P E within p e-length i + bytes 0 P E within p e-length i)) 0) ∙ rw zero-add data-back in
+        rw e (loads 0 P E within p e-length SingleMemory range named held P′ D′ I′ O′ p′ d′ i′ o′)
+        ∙ ap (λ (M : List ℕ). record { reply = accepted; state = withRange range (resetOn SingleMemory); P = replicate 65536 0; D = M; I = replicate 256 0; O = replicate 256 0 }) contents
 
 -- ---- What is kept ends with no zero, and is the least that leaves only zeros after it
 

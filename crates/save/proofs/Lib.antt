@@ -1,3 +1,4 @@
 mod Kept
 mod Writing
 pub mod Files
+pub mod Unlocked

@@ -6,7 +6,7 @@ use mathlib.Core.List.{List, _++_}
 use native.Mathlib.Omega.{arith}
 use lib.ListN.{length, take, drop, length-append, length-take}
 use lib.Seq.{take-at, drop-at, drop-drop}
-use Rattle.save.specs.Saved.{wordsSaved, bytesKept, header, fileOf, savedFile, saved, save-refused, SaveGiven, SaveLeft, saveLeftBy, saveLeft}
+use Rattle.save.specs.Saved.{wordsSaved, bytesKept, header, fileOf, unlocked, savedFile, saved, save-refused, SaveGiven, SaveLeft, saveLeftBy, saveLeft}
 use Rattle.save.proofs.Files.{file-length, Found, short, room, decided, replies, nothing-changes}
 
 -- the memory begins with `front`, of n bytes, and is as it was after that
@@ -47,20 +47,20 @@ module _ (g : SaveGiven) where
 
 -- where the memories have their lengths, with the numbers that the code computes
 
-module _ (g : SaveGiven) {w c : ℕ} (p : length (g .P) ≡ 65536) (d : length (g .D) ≡ 65536) (e : w ≡ wordsSaved (g .state) (g .P)) (f : c ≡ bytesKept (g .D)) where
+module _ (g : SaveGiven) {w c : ℕ} (p : length (g .P) ≡ 65536) (d : length (g .D) ≡ 65536) (e : w ≡ wordsSaved (g .state) (g .P)) (f : c ≡ bytesKept (unlocked (g .state) (g .D))) where
   end : 16 + 2 * w + c ≡ length (savedFile (g .state) (g .P) (g .D))
   end = rw (e, f) (sym (file-length (g .state) (g .P) (g .D)))
 
-  file : fileOf w c (g .P) (g .D) ≡ savedFile (g .state) (g .P) (g .D)
+  file : fileOf w c (g .P) (unlocked (g .state) (g .D)) ≡ savedFile (g .state) (g .P) (g .D)
   unfolding savedFile
-  file = ap (λ n. fileOf n c (g .P) (g .D)) e ∙ ap (λ n. fileOf (wordsSaved (g .state) (g .P)) n (g .P) (g .D)) f
+  file = ap (λ n. fileOf n c (g .P) (unlocked (g .state) (g .D))) e ∙ ap (λ n. fileOf (wordsSaved (g .state) (g .P)) n (g .P) (unlocked (g .state) (g .D))) f
 
   pub short-left : length (g .destination) < 16 + 2 * w + c
       → _≡_ {A = SaveLeft} (record { reply = save-refused 9; state = g .state; P = g .P; D = g .D; destination = g .destination }) (saveLeft g)
   short-left h = refused-left g (short (p, d) (rw end at h))
 
   pub written-left : {new : List ℕ} → 16 + 2 * w + c ≤ length (g .destination)
-      → new ≡ fileOf w c (g .P) (g .D) ++ drop (16 + 2 * w + c) (g .destination)
+      → new ≡ fileOf w c (g .P) (unlocked (g .state) (g .D)) ++ drop (16 + 2 * w + c) (g .destination)
       → _≡_ {A = SaveLeft} (record { reply = saved (16 + 2 * w + c); state = g .state; P = g .P; D = g .D; destination = new }) (saveLeft g)
   written-left h n =
       let found : Found g (saved (length (savedFile (g .state) (g .P) (g .D)))) = room (p, d) (rw end at h) in

@@ -8,7 +8,7 @@ use lib.ListN.{length, getD, take, drop}
 use Rattle.refusal.specs.Refusals.{refusalNumber}
 use Rattle.word.specs.Word.{pick}
 use Rattle.machine.specs.declared.State.{State}
-use Rattle.machine.specs.Machine.{isSingle, wordAt}
+use Rattle.machine.specs.Machine.{isSingle, isLocked, wordAt}
 use Rattle.machine.specs.Slices.{Slice, before, after}
 use Rattle.save.specs.declared.Saved.{Saved}
 use Rattle.save.specs.declared.Saving.{Saving}
@@ -45,9 +45,17 @@ fileOf w c P D = header w c ++ take (2 * w) P ++ take c D
 abbrev pub wordsSaved : State → List ℕ → ℕ
 wordsSaved s P = pick (isSingle s) 0 (wordsKept P)
 
--- Write a trim file from program and data memory.
+-- data memory from address k on with its locked bytes zero (02, L14)
+unfoldable pub unlockedFrom : State → ℕ → List ℕ → List ℕ
+unlockedFrom s k [] = []
+unlockedFrom s k (x ∷ xs) = pick (isLocked k s) 0 x ∷ unlockedFrom s (suc k) xs
+
+abbrev pub unlocked : State → List ℕ → List ℕ
+unlocked s D = unlockedFrom s 0 D
+
+-- Write a trim file from program and data memory. It leaves locked bytes as zero; trailing zeros are dropped then.
 unfoldable pub savedFile : State → List ℕ → List ℕ → List ℕ
-savedFile s P D = fileOf (wordsSaved s P) (bytesKept D) P D
+savedFile s P D = fileOf (wordsSaved s P) (bytesKept (unlocked s D)) P (unlocked s D)
 
 -- ---- The call
 

@@ -8,6 +8,7 @@ use Rattle.machine.specs.declared.State.{State}
 use Rattle.machine.specs.declared.Board.{Board}
 use Rattle.machine.specs.Run.{Stepper}
 use Rattle.panel.specs.Calls.{SetGiven, SetLeft, setLeft}
+use Rattle.image.specs.declared.Range.{Range}
 use Rattle.image.specs.Image.{LoadGiven, LoadLeft, loadLeft}
 use Rattle.save.specs.Saved.{SaveReply, SaveGiven, SaveLeft, saveLeft}
 use Rattle.assembler.specs.Text.{Reply, AssembleLeft, assembleLeft}
@@ -26,10 +27,10 @@ use Rattle.replies.specs.declared.SisaBack.{SisaBack}
 use Rattle.replies.specs.Sisa.{sisaLoad, SisaLoadLeft, loadInNumbers, sisaLoadLeft, sisaSaved, SisaSaveLeft, saveInNumbers, sisaSaveLeft, sisaAssembly, SisaAssembleLeft, assemblyInNumbers, sisaAssembleLeft, verdictNumber, SisaSetLeft, setInNumbers, sisaSetLeft, sisaRun, sisaLeft, runInNumbers, sisaRunLeft, SisaRunMeets, sisaPage, pageInNumbers, sisaPageLeft, SisaPageMeets, sisaBack, SisaBackLeft, backInNumbers, sisaBackLeft}
 
 -- the board that a number names
-pub board-load : (file P D I O : List ℕ) {b b′ : Board} {l : LoadLeft} → b ≡ b′
-    → l ≡ loadLeft (record { file = file; board = b; P = P; D = D; I = I; O = O })
-    → l ≡ loadLeft (record { file = file; board = b′; P = P; D = D; I = I; O = O })
-board-load file P D I O e l = l ∙ ap (λ (b : Board). loadLeft (record { file = file; board = b; P = P; D = D; I = I; O = O })) e
+pub board-load : (file P D I O : List ℕ) (range : Range) {b b′ : Board} {l : LoadLeft} → b ≡ b′
+    → l ≡ loadLeft (record { file = file; board = b; range = range; P = P; D = D; I = I; O = O })
+    → l ≡ loadLeft (record { file = file; board = b′; range = range; P = P; D = D; I = I; O = O })
+board-load file P D I O range e l = l ∙ ap (λ (b : Board). loadLeft (record { file = file; board = b; range = range; P = P; D = D; I = I; O = O })) e
 
 pub load-meets : (g : LoadGiven) {reply : Verdict} {state : State} {P D I O : List ℕ} {r : SisaLoad}
     → _≡_ {A = LoadLeft} (record { reply = reply; state = state; P = P; D = D; I = I; O = O }) (loadLeft g)

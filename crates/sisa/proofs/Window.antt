@@ -10,9 +10,10 @@ use lib.Dec.{eqb, leb}
 use lib.ListN.{length, take, drop, length-drop}
 use lib.Seq.{length-take-le}
 use Rattle.word.specs.Word.{pick}
+use Rattle.machine.specs.declared.State.{State}
 use Rattle.panel.specs.Calls.{partOf, windowOf}
 use Rattle.replies.specs.declared.SisaWindow.{SisaWindow}
-use Rattle.replies.specs.Sisa.{chosen, sisaWindow, bytesOf}
+use Rattle.replies.specs.Sisa.{chosen, isHidden, sisaWindow, bytesOf}
 
 -- the part, by whether it ends within M
 abbrev part-by : Bool → List ℕ → ℕ → ℕ → List ℕ
@@ -46,39 +47,50 @@ other-order : (b : Bool) (P D : List ℕ) → pick b P D ≡ pick (not b) D P
 other-order true P D = refl
 other-order false P D = refl
 
--- a reply that has the numbers names the window's bytes
-pub shows : {r : SisaWindow} (P D : List ℕ) (ofData start count : ℕ) → r ≡ sisaWindow (chosen ofData P D) start count
-    → (r ≡ sisaWindow (chosen ofData P D) start count)
-    × (bytesOf r (chosen ofData P D) ≡ windowOf P D (not (eqb ofData 0)) start count)
-unfolding sisaWindow windowOf
-shows P D ofData start count e =
-    let M = chosen ofData P D in (
-      e,
-      ap (λ (w : SisaWindow). bytesOf w M) e
-          ∙ bytes-by (leb (start + count) (length M)) (eqb count 0) M start count refl
-          ∙ ap (λ (M : List ℕ). partOf M start count) (other-order (eqb ofData 0) P D),
-    )
+module _ (s : State) (P D : List ℕ) (ofData start count : ℕ) where
+  -- the memory chosen, and whether its bytes are hidden
+  abbrev M : List ℕ
+  M = chosen ofData P D
 
-module _ (P D : List ℕ) (ofData start count : ℕ) {part : List ℕ} (is : part ≡ windowOf P D (not (eqb ofData 0)) start count) where
-  is-part : part ≡ partOf (chosen ofData P D) start count
+  abbrev hidden : Bool
+  hidden = isHidden s ofData start count
+
+  abbrev shown : Bool → List ℕ
+  shown h = pick h [] (partOf (pick (not (eqb ofData 0)) D P) start count)
+
+  bytes-are : (h : Bool) → bytesOf (sisaWindow h M start count) M ≡ shown h
+  unfolding sisaWindow
+  bytes-are true = refl
+  bytes-are false = bytes-by (leb (start + count) (length M)) (eqb count 0) M start count refl ∙ ap (λ (M : List ℕ). partOf M start count) (other-order (eqb ofData 0) P D)
+
+  -- a reply that has the numbers names the window's bytes
+  pub shows : {r : SisaWindow} → r ≡ sisaWindow hidden M start count → (r ≡ sisaWindow hidden M start count) × (bytesOf r M ≡ windowOf s P D (not (eqb ofData 0)) start count)
   unfolding windowOf
-  is-part = is ∙ ap (λ (M : List ℕ). partOf M start count) (sym (other-order (eqb ofData 0) P D))
+  shows e = (e, ap (λ (w : SisaWindow). bytesOf w M) e ∙ bytes-are hidden)
 
-  none : length part ≡ 0 → record { start = 0; count = 0 } ≡ sisaWindow (chosen ofData P D) start count
-  unfolding sisaWindow
-  none e = none-by _ (chosen ofData P D) start count refl (sym (ap length is-part) ∙ e)
+  module _ (part : List ℕ) where
+    none : part ≡ partOf M start count → length part ≡ 0 → record { start = 0; count = 0 } ≡ sisaWindow false M start count
+    unfolding sisaWindow
+    none is e = none-by _ M start count refl (sym (ap length is) ∙ e)
 
-  some : (length part ≡ 0 → ⊥) → record { start = start; count = length part } ≡ sisaWindow (chosen ofData P D) start count
-  unfolding sisaWindow
-  some e =
-      ap (λ (l : List ℕ). record { start = start; count = length l }) is-part
-      ∙ some-by _ (chosen ofData P D) start count refl (λ z. e (ap length is-part ∙ z))
+    some : part ≡ partOf M start count → (length part ≡ 0 → ⊥) → record { start = start; count = length part } ≡ sisaWindow false M start count
+    unfolding sisaWindow
+    some is e =
+        ap (λ (l : List ℕ). record { start = start; count = length l }) is ∙ some-by _ M start count refl (λ z. e (ap length is ∙ z))
 
-  numbers-are : (b : Bool) → eqb (length part) 0 ≡ b
-      → pick b (record { start = 0; count = 0 }) (record { start = start; count = length part }) ≡ sisaWindow (chosen ofData P D) start count
-  numbers-are true e = none (eqb-true _ _ e)
-  numbers-are false e = some (eqb-false _ _ e)
+    abbrev numbersOf : Bool → SisaWindow
+    numbersOf b = pick b (record { start = 0; count = 0 }) (record { start = start; count = length part })
 
-  -- the numbers of the part that `panel::window` hands back
-  pub numbers : pick (eqb (length part) 0) (record { start = 0; count = 0 }) (record { start = start; count = length part }) ≡ sisaWindow (chosen ofData P D) start count
-  numbers = numbers-are _ refl
+    by-length : part ≡ partOf M start count → (b : Bool) → eqb (length part) 0 ≡ b → numbersOf b ≡ sisaWindow false M start count
+    by-length is true e = none is (eqb-true _ _ e)
+    by-length is false e = some is (eqb-false _ _ e)
+
+    by-hidden : (h : Bool) → part ≡ shown h → numbersOf (eqb (length part) 0) ≡ sisaWindow h M start count
+    unfolding sisaWindow
+    by-hidden true is = rw is
+    by-hidden false is = by-length (is ∙ ap (λ (M : List ℕ). partOf M start count) (sym (other-order (eqb ofData 0) P D))) _ refl
+
+    -- the numbers of the part that `panel::window` hands back
+    pub numbers : part ≡ windowOf s P D (not (eqb ofData 0)) start count → numbersOf (eqb (length part) 0) ≡ sisaWindow hidden M start count
+    unfolding windowOf
+    numbers is = by-hidden hidden is

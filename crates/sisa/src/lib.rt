@@ -5,6 +5,7 @@ ghost use Rattle.machine.specs.Run.{byRules};
 ghost use Rattle.control.specs.Control.{byTable};
 ghost use Rattle.isa.specs.Masks.{decodingOf};
 ghost use Rattle.replies.specs.Sisa.{SisaLoads, SisaSaves, SisaAssembles, SisaSets, SisaRuns, SisaRunsJournaled, SisaPages, SisaGoesBack, sisaInstruction, sisaWrite, sisaFeed, sisaRaise, SisaShows};
+use image::Range;
 use machine::Port;
 use machine::State;
 use page::Trims;
@@ -28,16 +29,24 @@ pub mod host;
 pub extern "C" fn sisa_load(
     file: &[u8],
     board: u8,
+    locked: u8,
+    first: u16,
+    last: u16,
     program: &mut [u8],
     memory: &mut [u8],
     inputs: &mut [u16],
     outputs: &mut [u16],
 ) -> SisaLoad
-    ensures { λ r. ⌜ SisaLoads file board program memory inputs outputs r ⌝ }
+    ensures { λ r. ⌜ SisaLoads file board locked first last program memory inputs outputs r ⌝ }
 {
     let loaded = image::load(
         file,
         machine::board_of(board),
+        Range {
+            locked,
+            first,
+            last,
+        },
         program,
         memory,
         inputs,
@@ -260,14 +269,15 @@ pub extern "C" fn sisa_write(kind: u8, a: u8, b: u8, d: u8, n: i16) -> SisaWord
 // of_data is 0 for the program; any other number is the data memory.
 #[no_mangle]
 pub extern "C" fn sisa_window<'a>(
+    state: State,
     program: &'a [u8],
     memory: &'a [u8],
     of_data: u8,
     start: usize,
     count: usize,
 ) -> SisaWindow
-    ensures { λ r. ⌜ SisaShows program memory «of_data» start count r ⌝ }
+    ensures { λ r. ⌜ SisaShows state program memory «of_data» start count r ⌝ }
 {
-    let part = panel::window(program, memory, of_data != 0, start, count);
+    let part = panel::window(state, program, memory, of_data != 0, start, count);
     replies::window(start, part.len())
 }

@@ -9,6 +9,7 @@ mod files;
 mod host;
 mod keys;
 mod knobs;
+mod locks;
 mod pages;
 mod runs;
 mod saves;
@@ -20,6 +21,7 @@ pub use calls::lines;
 pub use files::file;
 pub use keys::key_file;
 pub use knobs::knob_file;
+pub use locks::{locked_file, range};
 pub use pages::{trim_file, trims};
 pub use tables::{file as table_file, lines as table_lines, table};
 

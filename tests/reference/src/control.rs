@@ -7,7 +7,7 @@
 
 use crate::machine::{
     branch_target, comparison, data_word, divides_by_zero, e, extension, f, interrupt, log_entry,
-    opcode, operation, store_data_word, take_input, Places, State, Stepped,
+    opcode, operation, store_data_word, take_input, Places, State, Stepped, Touched,
 };
 use crate::number::{bit_0_cleared, bits, modulo16, sign_extend, unsigned};
 
@@ -65,6 +65,19 @@ pub fn assigned(c: u16, w: u16) -> bool {
 pub fn zero_divisor(c: u16, w: u16, state: &State) -> bool {
     let (_, rb) = operands(w, state);
     !leaves_to_f(c) && unit(c) == 5 && divides_by_zero(f(w), second_operand(c, w, rb))
+}
+
+/// Whether a word or byte that is read or stored is locked, whatever the destination:
+/// "result 1 and store 1 touch the word at the unit's result with bit 0 cleared,
+/// result 2 and store 2 the byte" (docs/CONFORMANCE.md).
+pub fn touches_locked(c: u16, w: u16, state: &State) -> bool {
+    let (ra, rb) = operands(w, state);
+    let unit = unit_result(c, w, ra, second_operand(c, w, rb));
+    let word = bits(c, 4, 2) == 1 || bits(c, 11, 10) == 1;
+    let byte = bits(c, 4, 2) == 2 || bits(c, 11, 10) == 2;
+    let locked = |touched: Touched| touched.is_locked(state);
+    let touches = word && locked(Touched::Word(unit)) || byte && locked(Touched::Byte(unit));
+    !leaves_to_f(c) && touches
 }
 
 /// "Bits 11..10 store: ... 3 port from Ra."
@@ -196,10 +209,10 @@ fn step_by_f(c: u16, w: u16, state: State) -> Stepped {
     }
 }
 
-/// The instruction, with the control word as an argument; None if unassigned, or on
-/// a zero divisor.
+/// The instruction, with the control word as an argument; None if unassigned, on a
+/// zero divisor, or where it touches a locked byte.
 pub fn step(c: u16, w: u16, state: State, places: &mut Places) -> Option<Stepped> {
-    if !assigned(c, w) || zero_divisor(c, w, &state) {
+    if !assigned(c, w) || zero_divisor(c, w, &state) || touches_locked(c, w, &state) {
         return None;
     }
     if leaves_to_f(c) {

@@ -1,5 +1,5 @@
 //! The SISA trim processor of paper 01, the SISA reference sheet (004) and
-//! requests L1, L2, L4 to L9 and L11 to L13 of paper 02, written from those papers
+//! requests L1, L2, L4 to L9 and L11 to L14 of paper 02, written from those papers
 //! alone, to be compared with another build.
 //!
 //! Sentences in quotation marks are paper 01's unless "Sheet" or a request is

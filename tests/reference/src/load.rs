@@ -67,6 +67,30 @@ fn contents(board: Memories, program: &[u8], data: &[u8]) -> Result<[Vec<u8>; 2]
     }
 }
 
+/// A range of data memory, its first and its last byte.
+#[derive(Clone, Copy, Debug, PartialEq, Eq)]
+pub struct Range {
+    pub first: u16,
+    pub last: u16,
+}
+
+/// The state of a load: of this board, with this range locked.
+fn loaded(board: Memories, locked: Option<Range>) -> State {
+    let reset = State {
+        board: board.number(),
+        ..State::reset()
+    };
+    match locked {
+        None => reset,
+        Some(Range { first, last }) => State {
+            locked: 1,
+            first_locked: first,
+            last_locked: last,
+            ..reset
+        },
+    }
+}
+
 /// The content, and "zeroes all other memory": here one memory.
 fn fill(memory: &mut [u8], content: &[u8]) {
     for (at, place) in memory.iter_mut().enumerate() {
@@ -74,11 +98,13 @@ fn fill(memory: &mut [u8], content: &[u8]) {
     }
 }
 
-/// Loads a file for a board and "returns a reset machine", or the refusal's number.
-/// "Order is by number: load 1 to 4", then 15. "Nothing lent changes" on a refusal.
+/// Loads a file for a board, with a range locked or none, and "returns a reset
+/// machine", or the refusal's number. "Order is by number: load 1 to 4", then 15 and
+/// 18. "Nothing lent changes" on a refusal.
 pub fn load(
     file: &[u8],
     board: Memories,
+    locked: Option<Range>,
     p: &mut [u8],
     d: &mut [u8],
     i: &mut [u16],
@@ -90,12 +116,13 @@ pub fn load(
     }
     let (program, data) = parts(file)?;
     let [of_p, of_d] = contents(board, program, data)?;
+    // L14: "18, first over last, after 15"
+    if locked.is_some_and(|range| range.first > range.last) {
+        return Err(18);
+    }
     fill(p, &of_p);
     fill(d, &of_d);
     i.fill(0);
     o.fill(0);
-    Ok(State {
-        board: board.number(),
-        ..State::reset()
-    })
+    Ok(loaded(board, locked))
 }

@@ -27,6 +27,11 @@ pub struct State {
     pub line: u8,
     /// L12: "a return address"
     pub return_address: u16,
+    /// L14: "A load may name a range of data memory, first to last, possibly none,
+    /// which the state keeps": none for 0, a range for any other byte (the issue).
+    pub locked: u8,
+    pub first_locked: u16,
+    pub last_locked: u16,
 }
 
 /// The boards: L11's "new board fetches from data memory [...]; older boards stay in
@@ -60,7 +65,8 @@ impl Memories {
 
 impl State {
     /// "A reset machine has every register, PC and n at zero." L7's count is
-    /// "from 0 at a load", and L12's fields are "all 0 at reset". Of an older board.
+    /// "from 0 at a load", and L12's fields are "all 0 at reset". Of an older board,
+    /// and no range is locked.
     pub fn reset() -> State {
         State {
             r: [0; 8],
@@ -72,7 +78,27 @@ impl State {
             pending: 0,
             line: 0,
             return_address: 0,
+            locked: 0,
+            first_locked: 0,
+            last_locked: 0,
         }
+    }
+
+    /// Whether the byte of data memory at this address is locked; a range whose first
+    /// is over its last has none.
+    pub fn locks(&self, address: u16) -> bool {
+        self.locked != 0 && (self.first_locked..=self.last_locked).contains(&address)
+    }
+
+    /// Whether one of the word's two bytes is.
+    fn locks_word(&self, address: u16) -> bool {
+        self.locks(address) || self.locks(modulo16(i64::from(address) + 1))
+    }
+
+    /// L14: "a fetch [...] touching a locked byte", which an older board's can't:
+    /// there the range is of data.
+    pub fn locks_fetch(&self) -> bool {
+        self.memories() == Memories::Single && self.locks_word(self.pc)
     }
 
     /// The board that the state names.
@@ -171,6 +197,34 @@ pub fn assigned(w: u16) -> bool {
 /// Whether w, an assigned word, is DIV or DIVU and Rb is zero.
 pub fn zero_divisor(w: u16, state: &State) -> bool {
     opcode(w) == 11 && divides_by_zero(f(w), Fields::of(w, state).rb)
+}
+
+/// What a load or store touches of data memory, if anything, by the address before
+/// bit 0 is cleared.
+#[derive(Clone, Copy, Debug, PartialEq, Eq)]
+pub enum Touched {
+    Word(u16),
+    Byte(u16),
+}
+
+impl Touched {
+    /// L14: "load or store touching a locked byte".
+    pub fn is_locked(self, state: &State) -> bool {
+        match self {
+            Touched::Word(address) => state.locks_word(bit_0_cleared(address)),
+            Touched::Byte(address) => state.locks(address),
+        }
+    }
+}
+
+/// Whether w, an assigned word, is LD, ST, LDB or STB and touches a locked byte.
+pub fn touches_locked(w: u16, state: &State) -> bool {
+    let touched = match opcode(w) {
+        3 | 4 => Touched::Word(Fields::of(w, state).address()),
+        5 | 6 => Touched::Byte(Fields::of(w, state).address()),
+        _ => return false,
+    };
+    touched.is_locked(state)
 }
 
 /// "10 | e=1 OUT"
@@ -364,6 +418,11 @@ impl Fields {
             se_n8: sign_extend(bits(w, 7, 0), 8),
         }
     }
+
+    /// "A is Ra+SE(N6)"
+    fn address(&self) -> u16 {
+        modulo16(unsigned(self.ra) + self.se_n6)
+    }
 }
 
 /// One step: a line is taken, or the instruction at PC is done.
@@ -375,10 +434,14 @@ pub fn step(state: State, places: &mut Places) -> Option<Stepped> {
 }
 
 /// The instruction at PC, or None: "If w is unassigned, no step is possible." L6:
-/// "the plain machine so widened, which can't step on a zero divisor".
+/// "the plain machine so widened, which can't step on a zero divisor". L14: where a
+/// locked byte is touched "the plain machine can't step there either".
 fn instruction(state: State, places: &mut Places) -> Option<Stepped> {
+    if state.locks_fetch() {
+        return None;
+    }
     let w = places.fetch(&state);
-    if !assigned(w) || zero_divisor(w, &state) {
+    if !assigned(w) || zero_divisor(w, &state) || touches_locked(w, &state) {
         return None;
     }
     let x = Fields::of(w, &state);
@@ -426,8 +489,8 @@ fn calculate(w: u16, x: &Fields, after: &mut State) -> Option<()> {
 
 /// Opcodes 3 to 6.
 fn access_memory(w: u16, x: &Fields, d: &mut [u8; MEMORY], after: &mut State) {
-    // "A is Ra+SE(N6); A' is A with bit 0 cleared."
-    let address = modulo16(unsigned(x.ra) + x.se_n6);
+    let address = x.address();
+    // "A' is A with bit 0 cleared."
     let even = bit_0_cleared(address);
     match opcode(w) {
         // "3 LD | Rd = D[A'] + 256 times D[A'+1]"

@@ -36,8 +36,8 @@ fn outcome(file: &[u8]) -> Result<Vec<String>, u8> {
     let mut i = vec![0; PORTS];
     let mut o = vec![0; PORTS];
     let mut log = [0; 64];
-    // L11: "`panelrun` names an older one"
-    let state = load(file, Memories::Two, &mut p, &mut d, &mut i, &mut o)?;
+    // L11: "`panelrun` names an older one", and no range
+    let state = load(file, Memories::Two, None, &mut p, &mut d, &mut i, &mut o)?;
     // "runs the table engine with inputs zero, budget 1,000 and a 64-place log"
     let lent = Lent {
         p: &p,

@@ -42,11 +42,24 @@ impl Engine<'_> {
         }
     }
 
+    /// Whether the word, an assigned one that divides by no zero, touches a locked
+    /// byte of data.
+    fn touches_locked(self, w: u16, state: &State) -> bool {
+        match self {
+            Engine::Rules => machine::touches_locked(w, state),
+            Engine::Table(table) => control::touches_locked(control_word(table, w), w, state),
+        }
+    }
+
     /// The stop before the next step, "in this order", if any. L12: taking a line
     /// "needs only budget".
     fn stop(self, state: &State, places: &Places, free_place: bool) -> Option<u8> {
         if machine::taken(*state).is_some() {
             return None;
+        }
+        // L14: "Stop 1 comes before it, except on a locked fetch."
+        if state.locks_fetch() {
+            return Some(4);
         }
         let w = places.fetch(state);
         // "word unassigned, stop 1"
@@ -57,16 +70,22 @@ impl Engine<'_> {
         if self.zero_divisor(w, state) {
             return Some(3);
         }
+        // L14: "a fetch, load or store touching a locked byte is stop 4"
+        if self.touches_locked(w, state) {
+            return Some(4);
+        }
         // "word is OUT and the log has no free place, stop 2"
         (self.writes_port(w) && !free_place).then_some(2)
     }
 
-    /// One step; None if the word at PC is unassigned or divides by zero. Taking a
-    /// line is no matter of a table.
+    /// One step; None if the word at PC is unassigned, divides by zero or touches a
+    /// locked byte, or can't be fetched. Taking a line and the fetch are no matter of a
+    /// table.
     pub fn step(self, state: State, places: &mut Places) -> Option<Stepped> {
         match (self, machine::taken(state)) {
             (Engine::Rules, _) => machine::step(state, places),
             (_, Some(state)) => Some(Stepped { state, entry: None }),
+            _ if state.locks_fetch() => None,
             (Engine::Table(table), None) => {
                 let w = places.fetch(&state);
                 control::step(control_word(table, w), w, state, places)

@@ -1,7 +1,7 @@
-//! Saving a trim file, as document 02's request L1 says, and of the single-memory
-//! board as L11 does.
+//! Saving a trim file, as document 02's request L1 says, of the single-memory board as
+//! L11 does, and without locked bytes as L14 does.
 //!
-//! Sentences in quotation marks are L1's unless L11 is named before them.
+//! Sentences in quotation marks are L1's unless another is named before them.
 
 use crate::machine::{Memories, State, MEMORY};
 
@@ -24,6 +24,14 @@ fn trimmed(memory: &[u8], size: usize) -> &[u8] {
     &memory[..memory.len() - size * dropped]
 }
 
+/// The data memory as L14 has it saved: "L1 leaves locked bytes as zero".
+fn unlocked(state: &State, d: &[u8]) -> Vec<u8> {
+    let bytes = d.iter().enumerate();
+    bytes
+        .map(|(at, &byte)| if state.locks(at as u16) { 0 } else { byte })
+        .collect()
+}
+
 /// "Write a trim file from program and data memory and return its length", or
 /// the refusal's number. "The unused end of the destination keeps its bytes." L11:
 /// "L1's call now also gets the state", which stays as it is.
@@ -39,7 +47,7 @@ pub fn save(state: &State, p: &[u8], d: &[u8], destination: &mut [u8]) -> Result
         // L11: "saves the new board's data memory as data with W zero"
         Memories::Single => &[],
     };
-    let file = file_of(program, trimmed(d, 1));
+    let file = file_of(program, trimmed(&unlocked(state, d), 1));
     // "9, destination shorter than the file, after 1"
     let Some(start) = destination.get_mut(..file.len()) else {
         return Err(9);

@@ -9,7 +9,7 @@ mod ffi;
 #[path = "../../../bench/assembling/src/texts.rs"]
 mod texts;
 
-use ffi::{Lent, Sheet, State, Trims, Usage};
+use ffi::{Lent, Named, Sheet, State, Trims, Usage};
 use std::thread;
 
 const STACK_BYTES: usize = 128 * 1024;
@@ -27,6 +27,21 @@ const RESET: State = State {
     pending: 0,
     line: 0,
     return_address: 0,
+    locked: 0,
+    first_locked: 0,
+    last_locked: 0,
+};
+/// A range without bytes: each step is tested, and none is stopped.
+const TESTED: State = State {
+    locked: 1,
+    first_locked: 1,
+    ..RESET
+};
+const LOCKED: State = State {
+    locked: 1,
+    first_locked: 16,
+    last_locked: 31,
+    ..RESET
 };
 
 /// A loop with all 34 kinds of instruction, RETI back to address 0; a semicolon stands
@@ -98,21 +113,35 @@ fn call(
     }
 }
 
-/// Loads and saves, of full memories and of empty ones.
+/// The board and the range that give this state.
+fn named(state: State) -> Named {
+    Named {
+        board: state.board,
+        locked: state.locked,
+        first: state.first_locked,
+        last: state.last_locked,
+    }
+}
+
+/// Loads and saves, of full memories, with a range too, and of empty ones.
 fn files() -> Vec<Call> {
     let mut calls = Vec::new();
-    for (what, fill, length) in [("full memories", 7, FILE_BYTES), ("empty memories", 0, 16)] {
+    for (what, fill, length, state) in [
+        ("full memories", 7, FILE_BYTES, RESET),
+        ("full memories, a range locked", 7, FILE_BYTES, LOCKED),
+        ("empty memories", 0, 16, RESET),
+    ] {
         let mut world = World::new(fill);
         let mut file = vec![0; FILE_BYTES];
-        let reply = ffi::save(RESET, &world.program, &world.memory, &mut file);
+        let reply = ffi::save(state, &world.program, &world.memory, &mut file);
         assert_eq!(reply.length, length);
         let saved = file[..length].to_vec();
         let (program, memory) = (world.program.clone(), world.memory.clone());
         calls.push(call("sisa_load", what, move || {
-            ffi::load(&saved, 0, &mut world.lent()).refusal == 0
+            ffi::load(&saved, named(state), &mut world.lent()).refusal == 0
         }));
         calls.push(call("sisa_save", what, move || {
-            ffi::save(RESET, &program, &memory, &mut file).length == length
+            ffi::save(state, &program, &memory, &mut file).length == length
         }));
     }
     calls
@@ -169,11 +198,18 @@ fn runs(export: &'static str, run: fn(State, u32, &mut Lent) -> ffi::Run) -> Vec
     let mut calls = vec![call(export, "budget 1, every word", move || {
         every_word(|world| run(RESET, 1, &mut world.lent()).refusal)
     })];
-    for budget in [100, 2_048, 2_049, LONG_RUN] {
+    for (budget, start, range) in [
+        (100, RESET, ""),
+        (2_048, RESET, ""),
+        (2_049, RESET, ""),
+        (LONG_RUN, RESET, ""),
+        (100, TESTED, ", with a range"),
+        (LONG_RUN, TESTED, ", with a range"),
+    ] {
         let mut world = World::with_every_kind();
-        let what = format!("budget {budget}, every kind");
+        let what = format!("budget {budget}, every kind{range}");
         calls.push(call(export, what, move || {
-            let reply = run(RESET, budget, &mut world.lent());
+            let reply = run(start, budget, &mut world.lent());
             (reply.refusal, reply.stop, reply.steps) == (0, 0, budget)
                 && reply.usage.kinds.iter().all(|&count| count > 0)
         }));
@@ -197,8 +233,20 @@ fn with_lines() -> (World, State) {
     (world, state)
 }
 
-/// A page of eight trims.
-fn page(export: &'static str, page: fn(Trims, u8, u32, &mut Lent) -> ffi::Page) -> Call {
+/// Pages of eight trims.
+fn pages(export: &'static str, page: fn(Trims, u8, u32, &mut Lent) -> ffi::Page) -> [Call; 2] {
+    [
+        page_of(export, "8 trims, every kind", RESET, page),
+        page_of(export, "8 trims, every kind, with a range", TESTED, page),
+    ]
+}
+
+fn page_of(
+    export: &'static str,
+    what: &'static str,
+    start: State,
+    page: fn(Trims, u8, u32, &mut Lent) -> ffi::Page,
+) -> Call {
     let one = World::with_every_kind();
     let mut eight = World {
         program: one.program.repeat(8),
@@ -207,8 +255,8 @@ fn page(export: &'static str, page: fn(Trims, u8, u32, &mut Lent) -> ffi::Page) 
         outputs: one.outputs.repeat(8),
         log: one.log,
     };
-    call(export, "8 trims, every kind", move || {
-        let trims = Trims { states: [RESET; 8] };
+    call(export, what, move || {
+        let trims = Trims { states: [start; 8] };
         let reply = page(trims, 8, LONG_RUN, &mut eight.lent());
         let steps: u32 = reply.answers.iter().map(|answer| answer.steps).sum();
         (reply.refusal, steps) == (0, LONG_RUN)
@@ -302,8 +350,8 @@ fn panel() -> Vec<Call> {
     let set = call("sisa_set_input", "port 255", move || {
         ffi::set_input(&mut world.inputs, 255, 3) == 0
     });
-    let window = call("sisa_window", "to the end of the data memory", move || {
-        ffi::window(&[], &memory, 1, 16, MEMORY_BYTES - 16).count == MEMORY_BYTES - 16
+    let window = call("sisa_window", "from a range to the end", move || {
+        ffi::window(LOCKED, &[], &memory, 1, 32, MEMORY_BYTES - 32).count == MEMORY_BYTES - 32
     });
     let raise = call("sisa_raise", "every line", || {
         (0..=u8::MAX).all(|line| (ffi::raise(RESET, line).refusal == 16) == (line > 7))
@@ -318,8 +366,8 @@ fn calls() -> Vec<Call> {
     all.extend(runs("sisa_run_by_table", ffi::run_by_table));
     all.extend(runs("sisa_run_by_rules_with_journal", by_rules_with_journal));
     all.extend(runs("sisa_run_by_table_with_journal", by_table_with_journal));
-    all.push(page("sisa_page_by_rules", ffi::page_by_rules));
-    all.push(page("sisa_page_by_table", ffi::page_by_table));
+    all.extend(pages("sisa_page_by_rules", ffi::page_by_rules));
+    all.extend(pages("sisa_page_by_table", ffi::page_by_table));
     all.extend([back(100, 1), back(LONG_RUN, LONG_RUN.into()), back_over_lines()]);
     all.extend(host_steps());
     all.push(feeding());

@@ -10,7 +10,7 @@ main-spec =
     tie.close
     (tie.spec
     (λ _ _ _ _ _ _ _ _ _ _ _ _. Unit {0})
-    (λ _ _ _ _ _ _ _ _ _ _ _ t. 176 - t)
+    (λ _ _ _ _ _ _ _ _ _ _ _ t. 192 - t)
     (λ c κs. tt)
     (λ c. tt)
     (λ c κs. tt)

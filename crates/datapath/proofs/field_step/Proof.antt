@@ -12,13 +12,13 @@ performed-requires c κs =
     let e = c .before .before .before .before in
     let t = e .before .before in
     let start = t .before .before .before .before .before .before in
-    (start .pre, (sym (t .before .by-interrupt .ensures) ∙ t .if1 .left, sym (e .before .stop-of .ensures) ∙ e .if2 .taken))
+    (start .pre .0, (sym (t .before .by-interrupt .ensures) ∙ t .if1 .left, sym (e .before .stop-of .ensures) ∙ e .if2 .taken, start .pre .1))
 
 returns : tie.Need-returns
 returns c =
     let t = c .before in
     let start = t .before .before .before .before .before .before in
-    interrupt-done (start .args .control) (start .args .w) _ (sym (t .before .by-interrupt .ensures) ∙ t .if1 .taken) (start .pre .filled) (c .interrupt-step .result) (c .interrupt-step .ensures)
+    interrupt-done (start .args .control) (start .args .w) _ (sym (t .before .by-interrupt .ensures) ∙ t .if1 .taken) (start .pre .0 .filled) (c .interrupt-step .result) (c .interrupt-step .ensures)
 
 returns-3 : tie.Need-returns-3
 returns-3 c =
@@ -26,7 +26,7 @@ returns-3 c =
     let t = e .before .before in
     let start = t .before .before .before .before .before .before in
     answered (c .stopped .result) _ (c .stopped .ensures)
-    (stopped (start .args .control) (start .args .w) _ (sym (t .before .by-interrupt .ensures) ∙ t .if1 .left) _ (start .pre .filled) (e .before .stop-of .ensures) (e .if2 .left))
+    (stopped (start .args .control) (start .args .w) _ (sym (t .before .by-interrupt .ensures) ∙ t .if1 .left) (start .pre .1) _ (start .pre .0 .filled) (e .before .stop-of .ensures) (e .if2 .left))
 
 pub field-step-spec : {M : Type 1} → statement M
 field-step-spec =

@@ -40,7 +40,7 @@ returns c =
     let en = following .next-pc .ensures ∙ ap (λ x. next (a .control) (a .w) x (a .state .pc)) ex in
     let em = moved .with-pc .ensures ∙ ap₂ putPC en (counted .counted .ensures) in
     answered (c .done .result) _ (c .done .ensures)
-    (fields-done (a .control) (a .w) _ (start .pre .1 .0) (start .pre .0 .filled) (start .pre .1 .1)
+    (fields-done (a .control) (a .w) _ (start .pre .1 .0) (start .pre .1 .2) (start .pre .0 .filled) (start .pre .1 .1)
     (wrote .write-destination .ensures ∙ ap₂ (written (a .control) (a .w)) ev em)
     (stored .store-data .ensures ∙ ap₂ (λ y u. storedData (a .control) y u (a .memory .now)) ey eu)
     (choosing .chosen-result .ensures .1)

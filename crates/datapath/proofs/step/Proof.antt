@@ -10,7 +10,7 @@ use Rattle.datapath.proofs.step.Tie as tie
 result-step-requires : tie.Need-result-step-requires
 result-step-requires c κs =
     let t = c .before .before in
-    let p = t .before .before .before .before .before .before .pre in
+    let p = t .before .before .before .before .before .before .pre .0 in
     (record { counts = p .counts; memory = p .memory; inputs = p .inputs }, sym (t .before .is-result .ensures) ∙ t .if1 .taken)
 
 returns : tie.Need-returns
@@ -20,7 +20,7 @@ returns c =
     let start = t .before .before .before .before .before .before in
     let a = start .args in
     let g = result-group (a .control) (a .w) (a .state) (sym (t .before .is-result .ensures) ∙ t .if1 .taken) in
-    result-done (a .control) (a .w) _ (g .by-fields) (start .pre .filled) (g .no-port) (g .no-store _) (g .on) (done .result-step .result) (done .result-step .ensures)
+    result-done (a .control) (a .w) _ (g .by-fields) (start .pre .1) (start .pre .0 .filled) (g .no-port) (g .no-store _) (g .on) (done .result-step .result) (done .result-step .ensures)
 
 pub step-spec : {M : Type 1} → statement M
 step-spec =

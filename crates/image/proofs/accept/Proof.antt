@@ -1,6 +1,8 @@
 -- What the verdict says of the file and of what is lent (`fits`) lets the memories be filled; the laws of `Left` join what is left.
 -- Assumes nothing.
+use mathlib.Core.Path.{ap, _∙_}
 use borrow.Author.Needs.{needs}
+use Rattle.image.specs.Image.{withRange}
 use Rattle.image.proofs.Fits.{fits}
 use Rattle.image.proofs.Left.{ports-left, accepted-left}
 use Rattle.image.proofs.accept.Statement.{statement}
@@ -11,11 +13,12 @@ fill-requires c κs = let f = fits _ (c .before .before .before .before .before 
 
 returns : tie.Need-returns
 returns c =
-    let outputs = c .before .before .before in
+    let outputs = c .before .before .before .before in
     let inputs = outputs .before .before .before .before in
     let filled = inputs .before .before .before .before .before .before in
-    let f = fits _ (filled .before .before .before .before .before .before .before .before .pre) in
-    accepted-left _ _ (c .reset-on .ensures) (filled .fill .ensures .0) (filled .fill .ensures .1) (ports-left (f .inputs) (inputs .zero-ports .ensures))
+    let start = filled .before .before .before .before .before .before .before .before in
+    let f = fits _ (start .pre) in
+    accepted-left _ _ _ (c .with-range .ensures ∙ ap (withRange (start .args .range)) (c .before .reset-on .ensures)) (filled .fill .ensures .0) (filled .fill .ensures .1) (ports-left (f .inputs) (inputs .zero-ports .ensures))
     (ports-left (f .outputs) (outputs .zero-ports2 .ensures))
 
 pub accept-spec : {M : Type 1} → statement M
@@ -23,6 +26,7 @@ accept-spec =
     tie.close
     (tie.spec
     fill-requires
+    (λ c κs. search needs)
     (λ c κs. search needs)
     (λ c κs. search needs)
     (λ c κs. search needs)

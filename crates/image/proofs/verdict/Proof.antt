@@ -1,8 +1,8 @@
 -- What is lent, then the file.
 -- Assumes nothing.
-use mathlib.Core.Path.{_∙_}
+use mathlib.Core.Path.{ap, _∙_}
 use borrow.Author.Needs.{needs}
-use Rattle.image.specs.Image.{loadReply}
+use Rattle.image.specs.Image.{thenRange, loadReply}
 use Rattle.image.proofs.Fits.{passes, fails}
 use Rattle.image.proofs.verdict.Statement.{statement}
 use Rattle.image.proofs.verdict.Tie as tie
@@ -15,4 +15,5 @@ verdict-spec =
     (λ c κs. search needs)
     (λ c. rw (fails (c .before .lengths-fit .ensures) (c .if1 .taken)))
     (λ c κs. search needs)
-    (λ c. c .file-verdict .ensures ∙ rw (passes (c .before .before .lengths-fit .ensures) (c .before .if1 .left))))
+    (λ c κs. search needs)
+    (λ c. c .then-range .ensures ∙ ap (thenRange _) (c .before .file-verdict .ensures) ∙ rw (passes (c .before .before .before .lengths-fit .ensures) (c .before .before .if1 .left))))

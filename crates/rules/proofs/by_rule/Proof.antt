@@ -5,10 +5,10 @@ use native.Mathlib.Omega.{arith}
 use borrow.Author.Needs.{needs}
 use Rattle.word.specs.Word.{clear0}
 use Rattle.machine.specs.Machine.{putWord, putByte}
-use Rattle.machine.specs.Step.{d8-6, d11-9, addi, ld, st, ldb, stb, jalr}
+use Rattle.machine.specs.Step.{d8-6, d11-9, wordAtA', byteAtA, addi, ld, st, ldb, stb, jalr}
 use Rattle.rules.specs.Parts.{rbOf, sumOf, wordOf, byteOf, linkOf, branchOf, moveOf}
 use Rattle.rules.proofs.Choices.{past-from, chosen, past-12}
-use Rattle.rules.proofs.Effects.{wrote, stored, jumped, stopped, moves, branches}
+use Rattle.rules.proofs.Effects.{wrote, loaded, stored, jumped, stopped, moves, branches}
 use Rattle.rules.proofs.by_rule.Statement.{statement}
 use Rattle.rules.proofs.by_rule.Tie as tie
 
@@ -25,7 +25,7 @@ unfolding ld
 returns-2 c =
     let start = c .before .before .before .before .before in
     let w = start .args .w in
-    wrote ld (chosen 3 w (start .fits .w .fits) (start .pre .0 .opcode ∙ c .before .before .before .match .keys2)) (start .pre .0 .advanced)
+    loaded wordAtA' ld (chosen 3 w (start .fits .w .fits) (start .pre .0 .opcode ∙ c .before .before .before .match .keys2)) (start .pre .1 .1 .1) (start .pre .0 .advanced)
     (d8-6 w) (wordOf w) (λ m. refl) (c .before .load-word .ensures) (c .done2 .ensures)
 
 returns-3 : tie.Need-returns-3
@@ -33,7 +33,7 @@ unfolding st
 returns-3 c =
     let start = c .before .before .before .before .before .before .before in
     let w = start .args .w in
-    stored st (chosen 4 w (start .fits .w .fits) (start .pre .0 .opcode ∙ c .before .before .before .before .before .match .keys3)) (start .pre .0 .advanced)
+    stored wordAtA' st (chosen 4 w (start .fits .w .fits) (start .pre .0 .opcode ∙ c .before .before .before .before .before .match .keys3)) (start .pre .1 .1 .1) (start .pre .0 .advanced)
     (λ s D. putWord (clear0 (sumOf w s)) (rbOf w s) D) (λ m. refl) (c .before .before .before .store-word .ensures) (c .done3 .ensures)
 
 returns-4 : tie.Need-returns-4
@@ -41,7 +41,7 @@ unfolding ldb
 returns-4 c =
     let start = c .before .before .before .before .before in
     let w = start .args .w in
-    wrote ldb (chosen 5 w (start .fits .w .fits) (start .pre .0 .opcode ∙ c .before .before .before .match .keys4)) (start .pre .0 .advanced)
+    loaded byteAtA ldb (chosen 5 w (start .fits .w .fits) (start .pre .0 .opcode ∙ c .before .before .before .match .keys4)) (start .pre .1 .1 .1) (start .pre .0 .advanced)
     (d8-6 w) (byteOf w) (λ m. refl) (c .before .load-byte .ensures) (c .done4 .ensures)
 
 returns-5 : tie.Need-returns-5
@@ -49,7 +49,7 @@ unfolding stb
 returns-5 c =
     let start = c .before .before .before .before .before .before .before in
     let w = start .args .w in
-    stored stb (chosen 6 w (start .fits .w .fits) (start .pre .0 .opcode ∙ c .before .before .before .before .before .match .keys5)) (start .pre .0 .advanced)
+    stored byteAtA stb (chosen 6 w (start .fits .w .fits) (start .pre .0 .opcode ∙ c .before .before .before .before .before .match .keys5)) (start .pre .1 .1 .1) (start .pre .0 .advanced)
     (λ s D. putByte (sumOf w s) (rbOf w s) D) (λ m. refl) (c .before .before .before .store-byte .ensures) (c .done5 .ensures)
 
 returns-6 : tie.Need-returns-6

@@ -11,7 +11,7 @@ returns : tie.Need-returns
 returns c =
     let arm = c .before in
     let start = arm .before .before .before .before .before .before in
-    by-rule-done (start .args .w) _ (start .pre .filled) (at-no-port (start .args .w) (start .fits .w .fits) (λ e. omega arith)) (c .arithmetic .ensures _)
+    by-rule-done (start .args .w) _ (start .pre .0 .filled) (at-no-port (start .args .w) (start .fits .w .fits) (λ e. omega arith)) (c .arithmetic .ensures _)
 
 returns-2 : tie.Need-returns-2
 returns-2 c = c .before .before .before .before .before .before .at-port .ensures _
@@ -20,7 +20,7 @@ returns-3 : tie.Need-returns-3
 returns-3 c =
     let arm = c .before .before .before .before in
     let start = arm .before .before .before .before .before .before .before in
-    by-rule-done (start .args .w) _ (start .pre .filled) (at-no-port (start .args .w) (start .fits .w .fits) (arm .if2 .left)) (c .before .before .by-rule .ensures)
+    by-rule-done (start .args .w) _ (start .pre .0 .filled) (at-no-port (start .args .w) (start .fits .w .fits) (arm .if2 .left)) (c .before .before .by-rule .ensures)
 
 pub step-spec : {M : Type 1} → statement M
 step-spec =

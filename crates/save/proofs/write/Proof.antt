@@ -1,6 +1,8 @@
 -- Header, program and data are put one after the other (`written`).
 -- Assumes nothing.
 use borrow.Author.Needs.{needs}
+use Rattle.save.specs.Saved.{unlocked}
+use Rattle.save.proofs.Unlocked.{unlocked-length}
 use Rattle.save.proofs.Writing.{written}
 use Rattle.save.proofs.write.Statement.{statement}
 use Rattle.save.proofs.write.Tie as tie
@@ -12,9 +14,9 @@ returns c =
     let at-put = at-put2 .before .before .before .before in
     let start = at-put .before .before .before .before .before .before .before in
     let a = start .args in
-    written (a .program .now) (a .memory .now) (a .destination .now) (a .words) (a .bytes)
-    (at-put .before .before .before .header .ensures) (start .pre .1) (start .pre .2)
-    (at-put .put-at .ensures) (at-put2 .put-at2 .ensures) (at-put3 .put-at3 .ensures)
+    written (a .program .now) (unlocked (a .state) (a .memory .now)) (a .destination .now) (a .words) (a .bytes)
+    (at-put .before .before .before .header .ensures) (start .pre .1) (rw (unlocked-length (a .state) (a .memory .now)) (start .pre .2))
+    (at-put .put-at .ensures) (at-put2 .put-at2 .ensures) (at-put3 .put-data .ensures)
 
 pub write-spec : {M : Type 1} → statement M
 write-spec =

@@ -10,13 +10,13 @@ use Rattle.save.proofs.written.Tie as tie
 returns-3 : tie.Need-returns-3
 returns-3 c =
     let tests = c .before .before .before in
-    short-left _ (tests .before .if1 .left) (tests .if2 .left) (c .before .before .words-saved .ensures .0) (c .before .bytes-kept .ensures .0) (c .if3 .taken)
+    short-left _ (tests .before .if1 .left) (tests .if2 .left) (c .before .before .words-saved .ensures .0) (c .before .bytes-saved .ensures .0) (c .if3 .taken)
 
 returns-4 : tie.Need-returns-4
 returns-4 c =
     let room = c .before .before .before .before in
     let tests = room .before .before .before in
-    written-left _ (tests .before .if1 .left) (tests .if2 .left) (room .before .before .words-saved .ensures .0) (room .before .bytes-kept .ensures .0) (room .if3 .left) (c .before .before .write .ensures)
+    written-left _ (tests .before .if1 .left) (tests .if2 .left) (room .before .before .words-saved .ensures .0) (room .before .bytes-saved .ensures .0) (room .if3 .left) (c .before .before .write .ensures)
 
 pub written-spec : {M : Type 1} → statement M
 written-spec =

@@ -11,8 +11,8 @@ returns c =
     let a = c .before .before .before .before .args in
     let P = a .program .now in
     let D = a .memory .now in
-    shows P D (a .of-data) (a .start) (a .count)
-    (c .window2 .ensures ∙ numbers P D (a .of-data) (a .start) (a .count) (c .before .window .ensures))
+    shows (a .state) P D (a .of-data) (a .start) (a .count)
+    (c .window2 .ensures ∙ numbers (a .state) P D (a .of-data) (a .start) (a .count) _ (c .before .window .ensures))
 
 pub sisa-window-spec : {M : Type 1} → statement M
 sisa-window-spec = tie.close (tie.spec (λ c κs. search needs) (λ c κs. search needs) returns)

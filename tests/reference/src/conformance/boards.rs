@@ -26,7 +26,7 @@ pub fn storing_file(c: u64) -> Vec<u8> {
 }
 
 /// "The file has 64,016 bytes"
-fn long_file(c: u64, data: usize) -> Vec<u8> {
+pub fn long_file(c: u64, data: usize) -> Vec<u8> {
     let mut file = header([32_000, 16, data, 16]);
     file.extend((16..64_016).map(|j| (number(c, j) % 256) as u8));
     file

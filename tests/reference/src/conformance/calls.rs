@@ -3,6 +3,7 @@
 use super::backs::GOING_BACK;
 use super::files::{file, undamaged};
 use super::host::Host;
+use super::locks::{range_of, start_near};
 use super::runs::{first_sheet, By};
 use super::{number, Call, Digest};
 use crate::instruction::{read, write_numbered};
@@ -30,6 +31,7 @@ pub fn lines() -> Vec<String> {
     lines.extend(host.boards());
     lines.extend(host.knobs());
     lines.extend(host.pages());
+    lines.extend(host.locks());
     lines
 }
 
@@ -96,14 +98,18 @@ impl Host {
             0 => Memory::Program,
             _ => Memory::Data,
         };
-        let start = call.number(2) as usize;
+        let (start, most) = match range_of(call.c) {
+            None => (call.number(2) as usize, 4_096),
+            Some(range) => (start_near(call, range), 8),
+        };
         let count = match call.number(4) % 8 {
             0 => MEMORY - start,
             1 => MEMORY - start + 1,
             2 => 0,
-            _ => call.number(3) as usize % 4_096,
+            _ => call.number(3) as usize % most,
         };
-        let part = window(chosen, &self.program, &self.memory, start, count);
+        let (program, memory) = (&self.program, &self.memory);
+        let part = window(&self.kept, chosen, program, memory, start, count);
         // "the empty part has 0 and 0"
         let start = if part.is_empty() { 0 } else { start };
         let mut digest = Digest::default();

@@ -2,7 +2,7 @@
 
 use super::knobs::is_of_knobs;
 use super::{Call, Digest};
-use crate::load::load;
+use crate::load::{load, Range};
 use crate::machine::{Lent, Memories, State, MEMORY, PORTS};
 use crate::run::Reply;
 use crate::sheet::Sheet;
@@ -16,8 +16,9 @@ pub struct Handed<'a> {
 }
 
 pub struct Host {
-    /// The board that its loads name.
+    /// The board and the range that its loads name.
     pub board: Memories,
+    pub locked: Option<Range>,
     pub kept: State,
     pub sheet: Sheet,
     pub program: Vec<u8>,
@@ -32,6 +33,7 @@ impl Host {
     pub fn at_the_start() -> Host {
         Host {
             board: Memories::Two,
+            locked: None,
             kept: State::reset(),
             sheet: Sheet::empty(),
             program: (0..MEMORY).map(|at| (at % 251) as u8).collect(),
@@ -62,6 +64,7 @@ impl Host {
         let loaded = load(
             file,
             self.board,
+            self.locked,
             &mut self.program,
             &mut self.memory[..memory],
             &mut self.inputs,
@@ -99,13 +102,13 @@ impl Host {
         }
     }
 
-    /// "Where the call was accepted the host keeps that state, after a stop 1 or
-    /// 3 with PC moved on by 2 (modulo 65,536); where it was refused it keeps
+    /// "Where the call was accepted the host keeps that state, after a stop 1, 3 or
+    /// 4 with PC moved on by 2 (modulo 65,536); where it was refused it keeps
     /// the one it had."
     pub fn keep(&mut self, reply: Reply) {
         if let Reply::Done { state, stop, .. } = reply {
             self.kept = state;
-            if stop == 1 || stop == 3 {
+            if matches!(stop, 1 | 3 | 4) {
                 self.kept.pc = state.pc.wrapping_add(2);
                 // "and the count of journal entries made 0"; without a journal
                 // it is 0

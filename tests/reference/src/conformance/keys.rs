@@ -25,7 +25,7 @@ pub fn key_file(c: u64) -> Vec<u8> {
 
 /// The file of case c with 32 words, "where number(c, 4,000 + j) mod 2 is 0" that of
 /// x = number(c, 1,000 + j).
-pub fn file_of_32(c: u64, of: fn(u64) -> u64) -> Vec<u8> {
+pub fn file_of_32(c: u64, of: impl Fn(u64) -> u64) -> Vec<u8> {
     of_words(c, 32, |j| match j {
         // BZ and BNZ of R0 to address 0
         30 => 32_993,

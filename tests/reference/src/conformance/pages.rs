@@ -79,6 +79,7 @@ impl Joined {
         let loaded = load(
             &trim_file(c, i),
             board,
+            None,
             &mut self.programs[bytes.clone()],
             &mut self.memories[bytes],
             &mut self.inputs[words.clone()],

@@ -38,6 +38,7 @@ impl Host {
                 digest.value()
             ));
             lines.extend(self.board_line(c));
+            lines.extend(self.locked_line(c));
             if s == 0 {
                 length = replied;
             }
@@ -46,6 +47,7 @@ impl Host {
                 let refusal = self.load(&buffer[..lent], MEMORY);
                 lines.push(format!("again {c} {refusal} {}", self.digest(self.kept)));
                 lines.extend(self.board_line(c));
+                lines.extend(self.locked_line(c));
                 again = Some(refusal);
             }
         }

@@ -6,14 +6,18 @@ use super::knobs::{knob_word, lines_of};
 use super::runs::numbers_of;
 use super::{number, Call};
 use crate::control::{Table, TABLE};
-use crate::machine::{MEMORY, PORTS};
+use crate::load::Range;
+use crate::machine::{Memories, MEMORY, PORTS};
 use crate::run::{run, Engine};
 
-/// "Tables are 0 to 175"
-const TABLES: u64 = 176;
+/// "Tables are 0 to 191"
+const TABLES: u64 = 192;
 
 /// "for t from 160 on"
 const WITH_LINES: u64 = 160;
+
+/// "for t from 176 on"
+const WITH_RANGE: u64 = 176;
 
 /// "Four runs by the table follow"
 const RUNS: u64 = 4;
@@ -83,6 +87,14 @@ impl Host {
     /// The load of table t's file, which is not printed, and the runs by t.
     fn runs(&mut self, t: u64) -> Vec<String> {
         let c = case_of(t);
+        if t >= WITH_RANGE {
+            self.board = Memories::of((t % 2) as u8);
+            let first = 256 + number(c, 74) % 16_384;
+            self.locked = Some(Range {
+                first: first as u16,
+                last: (first + number(c, 75) % 32_768) as u16,
+            });
+        }
         self.load(&file(t), MEMORY);
         // "Then input p becomes number(c, 400 + p), for every p"
         self.inputs = numbers::<PORTS>(c, 400).to_vec();

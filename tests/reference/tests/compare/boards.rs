@@ -1,7 +1,7 @@
 //! Loads for both boards, the parts' sizes around what one memory holds.
 
 use crate::call::{Answer, Bytes, Call, Sides};
-use crate::ffi;
+use crate::ffi::{self, Named};
 use crate::make::{board, one_of};
 use crate::random::Random;
 use crate::world::{Lengths, World};
@@ -68,7 +68,13 @@ fn loads_around_the_size_of_one_memory() {
             lent.inputs.fill(0xEEEE);
             lent.outputs.fill(0xEEEE);
         });
-        let call = Call::Load(board, Bytes(file.clone()));
+        let named = Named {
+            board,
+            locked: 0,
+            first: random.word(),
+            last: random.word(),
+        };
+        let call = Call::Load(named, Bytes(file.clone()));
         let answer = sides.call(&call, &Lengths::right(0));
         let at = format!("SISA_SEED={}, load {case}, W {w}, C {c}", seed());
         let Answer::Load(load) = answer.unwrap_or_else(|x| panic!("{at}: {x}")) else {

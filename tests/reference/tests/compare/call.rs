@@ -1,10 +1,10 @@
 //! One call, made of the reference and of the library.
 
-use crate::ffi::{self, Lent};
+use crate::ffi::{self, Lent, Named};
 use crate::world::{first, touched, Lengths, World, GUARD};
 use reference::assemble::{assemble, Refused};
 use reference::back::{step_back, Back};
-use reference::load::load;
+use reference::load::{load, Range};
 use reference::machine::{self, Memories, State};
 use reference::raise::raise;
 use reference::run::{host_step, run_by_rules, run_by_table, Engine, Reply, Returned};
@@ -13,7 +13,7 @@ use reference::set::set;
 use reference::usage::Usage;
 use reference::window::{window, Memory};
 use std::fmt;
-use std::ops::Range;
+use std::ops;
 
 /// A trim file or a destination, printed in hexadecimal.
 #[derive(Clone, PartialEq, Eq)]
@@ -44,8 +44,7 @@ impl fmt::Debug for Text {
 
 #[derive(Clone, Debug)]
 pub enum Call {
-    /// For the board of this number.
-    Load(u8, Bytes),
+    Load(Named, Bytes),
     Set(u8, u16),
     /// The library knows the paper's table only.
     Run(Engine<'static>, State, u32),
@@ -54,7 +53,7 @@ pub enum Call {
     HostStep(State),
     Back(State, u64),
     Raise(State, u8),
-    Window(u8, usize, usize),
+    Window(State, u8, usize, usize),
     /// Into these bytes, but for the guards before and after.
     Save(State, Bytes),
     Assemble(Text),
@@ -79,13 +78,13 @@ impl Call {
         match *self {
             Call::Run(_, state, _) | Call::Journaled(_, state, _) => Some(state),
             Call::HostStep(state) | Call::Back(state, _) | Call::Save(state, _) => Some(state),
-            Call::Raise(state, _) => Some(state),
+            Call::Raise(state, _) | Call::Window(state, ..) => Some(state),
             _ => None,
         }
     }
 
     /// The places of the journal that the call may write, by its answer.
-    fn places_written(&self, answer: &Answer) -> Range<u64> {
+    fn places_written(&self, answer: &Answer) -> ops::Range<u64> {
         match (self, answer) {
             (Call::Journaled(_, state, _), Answer::Run(run)) => {
                 state.journaled..run.state.journaled
@@ -154,6 +153,9 @@ pub fn header_state(state: State) -> ffi::State {
         pending: state.pending,
         line: state.line,
         return_address: state.return_address,
+        locked: state.locked,
+        first_locked: state.first_locked,
+        last_locked: state.last_locked,
     }
 }
 
@@ -169,6 +171,9 @@ pub fn plain_state(state: ffi::State) -> State {
         pending: state.pending,
         line: state.line,
         return_address: state.return_address,
+        locked: state.locked,
+        first_locked: state.first_locked,
+        last_locked: state.last_locked,
     }
 }
 
@@ -218,6 +223,7 @@ fn header_back(back: Back) -> ffi::Back {
 
 /// The place of the part that the reference shows; 0 and 0 for the empty part.
 pub fn header_window(
+    state: &State,
     program: &[u8],
     data: &[u8],
     of_data: u8,
@@ -228,7 +234,7 @@ pub fn header_window(
         0 => (Memory::Program, program),
         _ => (Memory::Data, data),
     };
-    let part = window(chosen, program, data, start, count);
+    let part = window(state, chosen, program, data, start, count);
     match part.len() {
         0 => ffi::Window { start: 0, count: 0 },
         count => ffi::Window {
@@ -283,6 +289,25 @@ fn run_by_reference(
     Answer::Run(header_run(run(state, places, budget, log, journal)))
 }
 
+/// The range that a load names: "`locked` 0 names no range, any other a range" (the
+/// issue).
+pub fn range(named: Named) -> Option<Range> {
+    (named.locked != 0).then_some(Range {
+        first: named.first,
+        last: named.last,
+    })
+}
+
+fn load_by_reference(named: Named, file: &[u8], lent: Lent) -> Answer {
+    let (board, p, d) = (Memories::of(named.board), lent.program, lent.memory);
+    let loaded = load(file, board, range(named), p, d, lent.inputs, lent.outputs);
+    Answer::Load(ffi::Load {
+        // All zero where the load is refused.
+        state: header_state(loaded.unwrap_or(State::reset())),
+        refusal: loaded.err().unwrap_or(0),
+    })
+}
+
 /// The memories and ports, and the log.
 fn split(lent: Lent<'_>) -> (machine::Lent<'_>, &mut [u64]) {
     let places = machine::Lent {
@@ -297,15 +322,7 @@ fn split(lent: Lent<'_>) -> (machine::Lent<'_>, &mut [u64]) {
 pub fn of_reference(call: &Call, world: &mut World, lengths: &Lengths) -> Answer {
     let (lent, journal) = world.lend_with_journal(lengths);
     match *call {
-        Call::Load(board, ref file) => {
-            let (board, p, d) = (Memories::of(board), lent.program, lent.memory);
-            let loaded = load(&file.0, board, p, d, lent.inputs, lent.outputs);
-            Answer::Load(ffi::Load {
-                // All zero where the load is refused.
-                state: header_state(loaded.unwrap_or(State::reset())),
-                refusal: loaded.err().unwrap_or(0),
-            })
-        }
+        Call::Load(named, ref file) => load_by_reference(named, &file.0, lent),
         Call::Set(port, value) => Answer::Set(set(lent.inputs, port, value).err().unwrap_or(0)),
         Call::Run(engine, state, budget) => run_by_reference(engine, state, budget, lent, None),
         Call::Journaled(engine, state, budget) => {
@@ -328,9 +345,9 @@ pub fn of_reference(call: &Call, world: &mut World, lengths: &Lengths) -> Answer
                 refusal: raised.refusal,
             })
         }
-        Call::Window(of_data, start, count) => {
+        Call::Window(ref state, of_data, start, count) => {
             let (program, memory) = (lent.program, lent.memory);
-            Answer::Window(header_window(program, memory, of_data, start, count))
+            Answer::Window(header_window(state, program, memory, of_data, start, count))
         }
         Call::Save(state, ref bytes) => {
             let (program, memory) = (lent.program, lent.memory);
@@ -347,7 +364,7 @@ pub fn of_library(call: &Call, world: &mut World, lengths: &Lengths) -> Answer {
     let (mut lent, journal) = world.lend_with_journal(lengths);
     let lent = &mut lent;
     match *call {
-        Call::Load(board, ref file) => Answer::Load(ffi::load(&file.0, board, lent)),
+        Call::Load(named, ref file) => Answer::Load(ffi::load(&file.0, named, lent)),
         Call::Set(port, value) => Answer::Set(ffi::set_input(lent.inputs, port, value)),
         Call::Run(engine, state, budget) => {
             let run = match engine {
@@ -370,9 +387,9 @@ pub fn of_library(call: &Call, world: &mut World, lengths: &Lengths) -> Answer {
         }
         Call::Back(state, k) => Answer::Back(ffi::step_back(header_state(state), lent, journal, k)),
         Call::Raise(state, line) => Answer::Raise(ffi::raise(header_state(state), line)),
-        Call::Window(of_data, start, count) => {
-            let (program, memory) = (&*lent.program, &*lent.memory);
-            Answer::Window(ffi::window(program, memory, of_data, start, count))
+        Call::Window(state, of_data, start, count) => {
+            let (state, program, memory) = (header_state(state), &*lent.program, &*lent.memory);
+            Answer::Window(ffi::window(state, program, memory, of_data, start, count))
         }
         Call::Save(state, ref bytes) => saved_into(bytes, |to| {
             ffi::save(header_state(state), lent.program, lent.memory, to)

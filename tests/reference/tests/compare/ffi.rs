@@ -20,6 +20,18 @@ pub struct State {
     pub pending: u8,
     pub line: u8,
     pub return_address: u16,
+    pub locked: u8,
+    pub first_locked: u16,
+    pub last_locked: u16,
+}
+
+/// What a load names: the board, and a range to be locked.
+#[derive(Clone, Copy, Debug, PartialEq, Eq)]
+pub struct Named {
+    pub board: u8,
+    pub locked: u8,
+    pub first: u16,
+    pub last: u16,
 }
 
 /// `SisaLoad`
@@ -245,6 +257,9 @@ extern "C" {
         file: *const u8,
         file_len: usize,
         board: u8,
+        locked: u8,
+        first: u16,
+        last: u16,
         program: *mut u8,
         program_len: usize,
         memory: *mut u8,
@@ -377,6 +392,7 @@ extern "C" {
     fn sisa_read(word: u16) -> Instruction;
     fn sisa_write(kind: u8, a: u8, b: u8, d: u8, n: i16) -> Word;
     fn sisa_window(
+        state: State,
         program: *const u8,
         program_len: usize,
         memory: *const u8,
@@ -402,13 +418,16 @@ extern "C" {
     ) -> Assembly;
 }
 
-pub fn load(file: &[u8], board: u8, lent: &mut Lent) -> Load {
+pub fn load(file: &[u8], named: Named, lent: &mut Lent) -> Load {
     // SAFETY: pointers and lengths are those of slices that don't overlap.
     unsafe {
         sisa_load(
             file.as_ptr(),
             file.len(),
-            board,
+            named.board,
+            named.locked,
+            named.first,
+            named.last,
             lent.program.as_mut_ptr(),
             lent.program.len(),
             lent.memory.as_mut_ptr(),
@@ -593,10 +612,18 @@ pub fn write(kind: u8, a: u8, b: u8, d: u8, n: i16) -> Word {
     unsafe { sisa_write(kind, a, b, d, n) }
 }
 
-pub fn window(program: &[u8], memory: &[u8], of_data: u8, start: usize, count: usize) -> Window {
+pub fn window(
+    state: State,
+    program: &[u8],
+    memory: &[u8],
+    of_data: u8,
+    start: usize,
+    count: usize,
+) -> Window {
     // SAFETY: pointers and lengths are those of slices, which are only read.
     unsafe {
         sisa_window(
+            state,
             program.as_ptr(),
             program.len(),
             memory.as_ptr(),

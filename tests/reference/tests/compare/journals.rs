@@ -8,7 +8,7 @@ mod keys;
 mod words;
 
 use crate::ffi::Lent;
-use crate::make::{board, one_of};
+use crate::make::{board, one_of, with_any_range};
 use crate::random::Random;
 use reference::machine::State;
 
@@ -73,14 +73,15 @@ fn before_loop(random: &mut Random) -> State {
     }
 }
 
-/// Before such a loop on any board, any lines pending; on the single-memory board its
-/// stores may change it.
+/// Before such a loop on any board, any lines pending and any range locked, which may
+/// stop it; on the single-memory board its stores may change it.
 fn before_loop_on_any_board(random: &mut Random) -> State {
+    let before_loop = before_loop(random);
     State {
         board: board(random),
         enabled: one_of(random, &[0, 1, 255]),
         pending: random.word() as u8,
-        ..before_loop(random)
+        ..with_any_range(random, before_loop)
     }
 }
 

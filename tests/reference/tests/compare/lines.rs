@@ -75,6 +75,18 @@ fn check_taking(before: State, after: State, answer: &ffi::Answer) {
     assert_eq!(others.sum::<u64>(), 0);
 }
 
+/// A state with these lines pending.
+fn before_taking(random: &mut Random, pending: u8) -> State {
+    let state = with_any_lines(random, State::reset());
+    State {
+        return_address: state.return_address & 0xFFFE,
+        pending,
+        pc: one_of(random, &[0, 0x0040, 0x0100, 0xFFFE]),
+        board: board(random),
+        ..state
+    }
+}
+
 /// Every pending byte, several enable flags, any word at PC and at 0x0100, budgets
 /// that end before and after taking, logs with no place and journals that are full.
 #[test]
@@ -84,11 +96,7 @@ fn every_pending_byte() {
     // Runs of one taking alone, runs that took two lines, by stop.
     let (mut alone, mut twice, mut stops) = (0, 0, [0; 4]);
     for case in 0..12_000_u32 {
-        let mut state = with_any_lines(&mut random, State::reset());
-        state.return_address &= 0xFFFE;
-        state.pending = case as u8;
-        state.pc = one_of(&mut random, &[0, 0x0040, 0x0100, 0xFFFE]);
-        state.board = board(&mut random);
+        let state = before_taking(&mut random, case as u8);
         for at in [state.pc, 0x0100, 0x0102, state.pc.wrapping_add(2)] {
             let w = one_of(&mut random, &WORDS);
             twins.change(|lent| put(lent, &State { pc: at, ..state }, w));

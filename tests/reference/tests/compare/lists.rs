@@ -57,7 +57,8 @@ struct List {
     written: u64,
     /// The state that the host keeps.
     kept: State,
-    /// The last run took no step before an unassigned word or a zero divisor.
+    /// The last run took no step before an unassigned word, a zero divisor or a locked
+    /// byte.
     stuck: bool,
     /// The file last loaded.
     loaded: Option<Bytes>,
@@ -106,9 +107,12 @@ impl List {
         let after_load = matches!(self.sort, Sort::Kept | Sort::Journaled);
         // Without a load the memories are the case's random ones.
         if after_load && at == 0 {
-            let board = make::board(random);
-            let file = Bytes(make::file(random, board));
-            return (Call::Load(board, file), Lengths::right(0));
+            let mut named = make::named(random);
+            if named.first > named.last {
+                named.locked = 0;
+            }
+            let file = Bytes(make::file(random, named.board));
+            return (Call::Load(named, file), Lengths::right(0));
         }
         let load = self.sort == Sort::Loads || (self.stuck && random.below(3) == 0);
         let call = match (load, self.sort) {
@@ -153,19 +157,20 @@ impl List {
 
     fn load(&mut self) -> Call {
         let random = &mut self.random;
-        let board = make::board(random);
+        let named = make::named(random);
         let file = match random.below(4) {
             0 => make::file(random, 0),
-            1 => make::file(random, board),
-            _ => make::damaged_file(random, board),
+            1 => make::file(random, named.board),
+            _ => make::damaged_file(random, named.board),
         };
-        Call::Load(board, Bytes(file))
+        Call::Load(named, Bytes(file))
     }
 
     fn window(&mut self, lengths: &Lengths) -> Call {
         let mut number = || make::window_number(&mut self.random, lengths.program, lengths.memory);
         let (start, count) = (number(), number());
         Call::Window(
+            self.kept,
             make::one_of(&mut self.random, &[0, 1, 2, 255]),
             start,
             count,
@@ -255,7 +260,7 @@ impl List {
         let (pc, n) = (state.pc, state.n);
         self.kept = plain_state(state);
         self.written = self.written.max(state.journaled);
-        let at_word = stop == 1 || stop == 3;
+        let at_word = matches!(stop, 1 | 3 | 4);
         self.stuck = at_word && steps == 0;
         if self.sort == Sort::Altered {
             if at_word && self.random.below(2) == 0 {

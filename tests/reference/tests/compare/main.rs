@@ -12,6 +12,7 @@ mod ffi;
 mod journals;
 mod lines;
 mod lists;
+mod locked;
 mod make;
 mod masks;
 mod pages;

@@ -1,6 +1,7 @@
 //! Random files, states, budgets and lengths, edges more often than by chance.
 
 use crate::call::Bytes;
+use crate::ffi::Named;
 use crate::random::Random;
 use crate::world::{Lengths, GUARD, JOURNAL, LOG};
 use reference::machine::State;
@@ -186,11 +187,12 @@ pub fn great_budget(random: &mut Random, n: u32) -> u32 {
     one_of(random, &[greatest, greatest.saturating_add(1), u32::MAX])
 }
 
-/// The state with registers, PC, n, board or lines changed; n often so that the budget just
+/// The state with registers, PC, n, board, lines or range changed; n often so that the budget just
 /// fits or just doesn't.
 pub fn altered(random: &mut Random, kept: State, budget: u32) -> State {
     let mut state = kept;
-    match random.below(11) {
+    match random.below(12) {
+        9 => return with_any_range(random, kept),
         7 => return with_any_lines(random, kept),
         8 => state.enabled = one_of(random, &[0, 1, 2, 255]),
         0 => state.pc = random.word() | 1,
@@ -328,6 +330,43 @@ pub fn window_number(random: &mut Random, program: usize, memory: usize) -> usiz
 /// aren't memories.
 pub fn saved_length(state: &State, program: &[u8], memory: &[u8]) -> usize {
     save(state, program, memory, &mut [0; 131_088]).unwrap_or(16)
+}
+
+/// A board and no range, or any range: mostly of a few bytes, often near address 0.
+pub fn named(random: &mut Random) -> Named {
+    let board = board(random);
+    let (first, last) = range(random);
+    Named {
+        board,
+        locked: one_of(random, &[0, 0, 0, 1, 255]),
+        first,
+        last,
+    }
+}
+
+/// A range's first and last byte; now and then the first is over the last.
+pub fn range(random: &mut Random) -> (u16, u16) {
+    let (any, near) = (random.word(), random.below(600) as u16);
+    let first = one_of(random, &[any, near, near, 0, 0xFFFF, 0xFFFE]);
+    let limit = one_of(random, &[1, 1, 2, 2, 3, 16, 300, 5_000]);
+    let last = first.saturating_add(random.below(limit) as u16);
+    match random.below(16) {
+        0 => (0, 0xFFFF),
+        1 => (first, any),
+        2 => (any, any.wrapping_sub(1)),
+        _ => (first, last),
+    }
+}
+
+/// The state with any range, or none.
+pub fn with_any_range(random: &mut Random, state: State) -> State {
+    let (first_locked, last_locked) = range(random);
+    State {
+        locked: one_of(random, &[0, 0, 1, 2, 255]),
+        first_locked,
+        last_locked,
+        ..state
+    }
 }
 
 /// The number of a board: that with two memories, or the single-memory one.

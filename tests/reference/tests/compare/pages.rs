@@ -112,7 +112,7 @@ struct Counts {
     /// By refusal 0, 1, 5, 6, 17.
     refusals: [u64; 5],
     /// Trims by stop.
-    stops: [u64; 4],
+    stops: [u64; 5],
     /// Trims that did more than their share, and pages that used less than B.
     more: u64,
     less: u64,
@@ -295,7 +295,7 @@ impl Pages {
         for k in 0..self.trims {
             self.states[k] = plain_state(page.trims.states[k]);
             let moves = self.random.below(2) == 0;
-            if matches!(page.answers[k].stop, 1 | 3) && moves {
+            if matches!(page.answers[k].stop, 1 | 3 | 4) && moves {
                 self.states[k].pc = self.states[k].pc.wrapping_add(2);
             }
             self.states[k].n %= 1 << 31;

@@ -1,7 +1,8 @@
 //! Saves of memories of every shape, loaded back.
 
 use crate::call::{Answer, Bytes, Call, Sides};
-use crate::make::{board, destination, one_of, saved_length};
+use crate::ffi::Named;
+use crate::make::{board, destination, one_of, range, saved_length};
 use crate::random::Random;
 use crate::steps::random_state;
 use crate::world::{Lengths, World, GUARD};
@@ -54,8 +55,8 @@ impl Saves {
         Ok((saved.refusal == 0).then_some(Bytes(file)))
     }
 
-    /// The file loads for its board as both memories, or as the data memory alone,
-    /// with the ports reset.
+    /// The file loads for its board and range as both memories, or as the data memory
+    /// alone, with locked bytes zero and the ports reset.
     fn load_back(&mut self, file: Bytes, program: &[u8], memory: &[u8]) -> Result<(), String> {
         self.sides.change(|lent| {
             lent.program.fill(0xEE);
@@ -64,8 +65,17 @@ impl Saves {
             lent.outputs.fill(0xEEEE);
         });
         let right = Lengths::right(0);
-        self.sides
-            .call(&Call::Load(self.state.board, file), &right)?;
+        let named = Named {
+            board: self.state.board,
+            locked: self.state.locked,
+            first: self.state.first_locked,
+            last: self.state.last_locked,
+        };
+        self.sides.call(&Call::Load(named, file), &right)?;
+        let mut memory = memory.to_vec();
+        if self.state.locked != 0 {
+            memory[named.first.into()..=named.last.into()].fill(0);
+        }
         let lent = self.sides.reference.lend(&right);
         let program_is = match self.state.board {
             0 => lent.program == program,
@@ -101,6 +111,9 @@ impl Saves {
         let memory = shaped_memory(&mut self.random);
         self.state = random_state(&mut self.random, 0);
         self.state.board = board(&mut self.random);
+        let (first, last) = range(&mut self.random);
+        self.state.locked = u8::from(first <= last) * one_of(&mut self.random, &[0, 0, 1, 255]);
+        (self.state.first_locked, self.state.last_locked) = (first, last);
         self.sides.change(|lent| {
             lent.program.copy_from_slice(&program);
             lent.memory.copy_from_slice(&memory);

@@ -9,7 +9,7 @@ use crate::{random_of, seed};
 use reference::machine::{Memories, State};
 use reference::run::Engine;
 
-/// A state to step the word from, with no line to take. Ra+SE(N6), a sum or address
+/// A state to step the word from, with no line to take and no byte locked. Ra+SE(N6), a sum or address
 /// of opcodes 2 to 6, is often an edge.
 pub fn random_state(random: &mut Random, w: u16) -> State {
     let even = random.word() & 0xFFFE;
@@ -29,15 +29,22 @@ pub fn random_state(random: &mut Random, w: u16) -> State {
     }
 }
 
-/// Lines are pending or enabled, not both.
+/// Lines are pending or enabled, not both, and a range is one without bytes.
 fn no_line_to_take(random: &mut Random) -> State {
     let any = random.word() as u8;
+    let (locked, first_locked, last_locked) = one_of(
+        random,
+        &[(0, 0, 0), (0, 0, 0xFFFF), (1, 1, 0), (255, 0xFFFF, 0xFFFE)],
+    );
     let (enabled, pending) = one_of(random, &[(0, 0), (0, any), (1, 0), (any, 0)]);
     State {
         enabled,
         pending,
         line: random.word() as u8,
         return_address: random.word() & 0xFFFE,
+        locked,
+        first_locked,
+        last_locked,
         ..State::reset()
     }
 }

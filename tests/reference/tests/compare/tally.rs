@@ -102,6 +102,7 @@ impl Tally {
             "stop 1",
             "stop 2",
             "stop 3",
+            "stop 4",
             "refused 1",
             "refused 5",
             "refused 6",
@@ -113,6 +114,7 @@ impl Tally {
             "refused 3",
             "refused 4",
             "refused 15",
+            "refused 18",
         ];
         let of_assemble = [
             "accepted",

@@ -1,9 +1,10 @@
 //! Windows on memories of any length.
 
-use crate::call::header_window;
+use crate::call::{header_state, header_window};
 use crate::ffi;
-use crate::make::{one_of, window_number};
+use crate::make::{one_of, window_number, with_any_range};
 use crate::{random_of, seed};
+use reference::machine::State;
 
 #[test]
 fn windows_on_memories_of_any_length() {
@@ -22,12 +23,13 @@ fn windows_on_memories_of_any_length() {
         let start = window_number(&mut random, p.len(), d.len());
         let count = window_number(&mut random, p.len(), d.len());
         let of_data = one_of(&mut random, &[0, 0, 1, 2, 128, 255]);
-        let expected = header_window(p, d, of_data, start, count);
+        let state = with_any_range(&mut random, State::reset());
+        let expected = header_window(&state, p, d, of_data, start, count);
         assert_eq!(
             expected,
-            ffi::window(p, d, of_data, start, count),
+            ffi::window(header_state(state), p, d, of_data, start, count),
             "reference, library: SISA_SEED={seed}, window on program of {}, data of {}, \
-             of_data {of_data}, start {start}, count {count}",
+             of_data {of_data}, start {start}, count {count}, {state:?}",
             p.len(),
             d.len()
         );

@@ -143,6 +143,13 @@ impl Board {
         self.fetch_memory()[usize::from(pc.wrapping_add(1))] = high;
     }
 
+    /// Whether one of the two bytes at PC is locked, on the single-memory board.
+    pub fn fetch_is_locked(&self) -> bool {
+        let (s, pc) = (&self.s, self.s.pc);
+        let locked = |at: u16| s.first_locked <= at && at <= s.last_locked;
+        s.board != 0 && s.locked != 0 && (locked(pc) || locked(pc.wrapping_add(1)))
+    }
+
     /// Whether the next step takes a line.
     pub fn takes(&self) -> bool {
         self.s.enabled != 0 && self.s.pending != 0

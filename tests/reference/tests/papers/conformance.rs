@@ -5,6 +5,7 @@ mod backs;
 mod boards;
 mod keys;
 mod knobs;
+mod locks;
 mod pages;
 mod sheets;
 
@@ -177,13 +178,13 @@ fn occur(lines: &[String], start: &str, endings: &[&str]) {
 }
 
 /// Refusals, and stop reasons of accepted runs.
-const OF_RUNS: [&str; 7] = ["1", "5", "6", "0 0", "0 1", "0 2", "0 3"];
+const OF_RUNS: [&str; 8] = ["1", "5", "6", "0 0", "0 1", "0 2", "0 3", "0 4"];
 
 #[test]
 fn every_refusal_and_stop_reason_occurs() {
     let lines = lines();
-    assert_eq!(count(&lines, "load"), 64 + 16 + 9 + 8);
-    occur(&lines, "load *", &["0", "1", "2", "3", "4", "15"]);
+    assert_eq!(count(&lines, "load"), 64 + 16 + 9 + 8 + 9);
+    occur(&lines, "load *", &["0", "1", "2", "3", "4", "15", "18"]);
     occur(&lines, "set * *", &["0", "1"]);
     occur(&lines, "run rules * *", &OF_RUNS);
     occur(&lines, "run table * *", &OF_RUNS);
@@ -194,9 +195,9 @@ fn every_refusal_and_stop_reason_occurs() {
         let start = format!("instruction * * {assigned} * * * * * * *");
         occur(&lines, &start, &["0", "7"]);
     }
-    // By s, in every case whose load was accepted, but for those of keys, the three
+    // By s, in every case whose load was accepted, but for those of keys, the six
     // long files and those of knobs.
-    let accepted = count(&lines, "load * 0") - 16 - 2 - 8;
+    let accepted = count(&lines, "load * 0") - 16 - 2 - 8 - 1;
     assert_eq!(count(&lines, "save"), 4 * accepted);
     for ending in ["0 0", "1 0", "2 9 0", "3 1 0"] {
         assert_eq!(count(&lines, &format!("save * {ending}")), accepted);
@@ -221,9 +222,9 @@ fn every_refusal_and_stop_reason_occurs() {
 #[test]
 fn every_refusal_and_stop_reason_of_a_run_occurs_by_any_table() {
     let lines = table_lines();
-    assert_eq!(count(&lines, "run control"), 4 * 176);
-    assert_eq!(count(&lines, "lines"), 4 * 16);
-    assert_eq!(lines.len(), 4 * 176 + 4 * 16);
+    assert_eq!(count(&lines, "run control"), 4 * 192);
+    assert_eq!(count(&lines, "lines"), 4 * 32);
+    assert_eq!(lines.len(), 4 * 192 + 4 * 32);
     occur(&lines, "run control * *", &OF_RUNS);
     // Table 88 has OUT's word at IN's place. Its program: LD, SHA, STB, SHA, LD,
     // IN, unassigned. The log lent has three places.

@@ -2,7 +2,7 @@
 
 use crate::board::{Board, Engine, ENGINES};
 use crate::random::Random;
-use crate::words::unassigned;
+use crate::words::{unassigned, zero_divisor};
 use reference::control::{Table, TABLE};
 use reference::machine::State;
 use reference::raise::raise;
@@ -180,8 +180,10 @@ fn plain(board: &mut Board, log: &mut Vec<u64>, call: &Call) -> Result<(u8, u32,
                 let full = log.len() - l == places;
                 let before = board.clone();
                 match board.step(Engine::Rules) {
+                    None if board.fetch_is_locked() => break 4,
                     None if unassigned(board.word()) => break 1,
-                    None => break 3,
+                    None if zero_divisor(board.word(), &board.s.r) => break 3,
+                    None => break 4,
                     Some(stepped) if stepped.entry.is_some() && full => {
                         *board = before;
                         break 2;
@@ -245,6 +247,9 @@ fn random_lists_of_calls() {
         if random.below(2) == 0 {
             start = start.on_single_memory();
         }
+        start.s.locked = random.below(2) as u8;
+        start.s.first_locked = random.word();
+        start.s.last_locked = start.s.first_locked.saturating_add(1_000);
         let mut machine = start.clone();
         let mut l = Vec::new();
         // By the rules, by the table, and by either as it falls.

@@ -13,6 +13,7 @@ mod journals;
 mod keys;
 mod lines;
 mod listing;
+mod locked;
 mod marked;
 mod masks;
 mod pages;

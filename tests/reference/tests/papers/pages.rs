@@ -1,6 +1,7 @@
 //! Pages of several trims. Sentences in quotation marks are request L13's.
 
 use crate::board::{Board, COUNTED};
+use crate::locked::locked;
 use crate::random::Random;
 use crate::refusals::noisy;
 use crate::runs::{done, entry, three_outs};
@@ -318,6 +319,30 @@ fn greatest_budgets() {
         assert_eq!(joined.page(page, 3, u32::MAX, &mut []).refusal, 6);
         assert_eq!(joined.page(page, 3, u32::MAX - 7, &mut []).refusal, 0);
     }
+}
+
+/// L14: two pages whose trims differ in locked bytes alone are answered alike.
+#[test]
+fn pages_whose_trims_differ_in_locked_bytes_alone() {
+    let mut random = Random::new(0x9A70);
+    let mut stopped = 0;
+    for at in 0..30 {
+        let one: Vec<Board> = (0..2)
+            .map(|_| locked(any_trim(&mut random), random.word() / 2, 0xC000))
+            .collect();
+        let mut other = one.clone();
+        for board in &mut other {
+            let range = board.s.first_locked.into()..=0xC000;
+            board.d[range].fill_with(|| random.word() as u8);
+        }
+        let mut pages = [&one, &other].map(|boards| Joined::of(boards));
+        let mut logs = [[0xEEEE; 9]; 2];
+        let [first, second] =
+            [0, 1].map(|k| pages[k].page(PAGES[(at + k) % 2], 2, 300, &mut logs[k]));
+        assert!(first == second && logs[0] == logs[1]);
+        stopped += first.answers.iter().filter(|x| x.stop == 4).count();
+    }
+    assert!(stopped > 10, "{stopped}");
 }
 
 /// A trim that stops soon, later or not at all, on either board, lines pending.

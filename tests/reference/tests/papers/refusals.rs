@@ -25,6 +25,7 @@ pub fn answer_for(memories: Memories, bytes: &[u8]) -> Result<Board, u8> {
     match load(
         bytes,
         memories,
+        None,
         &mut board.p,
         &mut board.d,
         &mut board.i,
@@ -62,6 +63,9 @@ fn a_load_copies_the_parts_and_zeroes_the_rest() {
         pending: 0,
         line: 0,
         return_address: 0,
+        locked: 0,
+        first_locked: 0,
+        last_locked: 0,
     };
     assert_eq!(loaded.s, reset);
 }
@@ -143,6 +147,7 @@ fn load_1_before_all_others() {
                 let answer = load(
                     bytes,
                     Memories::Two,
+                    None,
                     &mut board.p,
                     &mut board.d,
                     &mut board.i,
@@ -299,7 +304,7 @@ fn a_window_shows_exactly_its_bytes_or_the_empty_part() {
         for start in (0..13).chain(edges) {
             for count in (0..13).chain(edges) {
                 let expected: Vec<u8> = memory.iter().copied().skip(start).take(count).collect();
-                let part = window(chosen, &p, &d, start, count);
+                let part = window(&State::reset(), chosen, &p, &d, start, count);
                 if expected.len() == count {
                     assert_eq!(part, expected);
                 } else {
@@ -308,9 +313,10 @@ fn a_window_shows_exactly_its_bytes_or_the_empty_part() {
             }
         }
     }
-    assert_eq!(window(Memory::Program, &p, &d, 7, 3), [7, 8, 9]);
-    assert!(window(Memory::Program, &p, &d, 7, 4).is_empty());
-    assert!(window(Memory::Data, &[], &[], 0, 0).is_empty());
+    let of_p = |start, count| window(&State::reset(), Memory::Program, &p, &d, start, count);
+    assert_eq!(of_p(7, 3), [7, 8, 9]);
+    assert!(of_p(7, 4).is_empty());
+    assert!(window(&State::reset(), Memory::Data, &[], &[], 0, 0).is_empty());
 }
 
 #[test]

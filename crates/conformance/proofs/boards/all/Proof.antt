@@ -1,4 +1,4 @@
--- The measures are the cases left.
+-- The measures are the cases and the files left.
 -- Assumes nothing.
 use Prim.Native.Nat.{_-_}
 use native.Mathlib.Omega.{arith}
@@ -9,10 +9,10 @@ pub all-spec : {M : Type 1} → statement M
 all-spec =
     tie.close
     (tie.spec
-    (λ _ _ _ _ _ _ _ _ _ _ _ _. Unit {0})
-    (λ _ _ _ _ _ _ _ _ _ _ _ c. 86 - c)
-    (λ _ _ _ _ _ _ _ _ _ _ _. Unit {0})
-    (λ _ _ _ _ _ _ _ _ _ _ c. 89 - c)
+    (λ _ _ _ _ _ _ _ _ _ _ _ _ _ _ _ _. Unit {0})
+    (λ _ _ large _ _ _ _ _ _ _ _ _ _ _ _ c. large - c)
+    (λ _ _ _ _ _ _ _ _ _ _ _ _ _ _. Unit {0})
+    (λ _ _ end _ _ _ _ _ _ _ _ _ _ c. end - c)
     (λ c. tt)
     (λ c κs. tt)
     (λ c. omega arith)

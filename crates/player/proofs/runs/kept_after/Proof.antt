@@ -16,5 +16,5 @@ kept-after-spec =
     (λ c κs. search needs)
     (λ c κs. search needs)
     (λ c κs. search needs)
-    (λ c. rw (eq-eqb _ _ (c .before .before .before .before .before .before .before .if1 .left), c .before .before .before .if2 .taken) (c .with-journaled .ensures ∙ rw (c .before .with-pc .ensures, c .before .before .wrapping-add-u16 .ensures)))
-    (λ c. rw (eq-eqb _ _ (c .before .before .before .before .if1 .left), c .if2 .left)))
+    (λ c. rw (eq-eqb _ _ (c .before .before .before .before .before .before .before .before .if1 .left), c .before .before .before .if2 .taken) (c .with-journaled .ensures ∙ rw (c .before .with-pc .ensures, c .before .before .wrapping-add-u16 .ensures)))
+    (λ c. rw (eq-eqb _ _ (c .before .before .before .before .before .if1 .left), c .if2 .left)))

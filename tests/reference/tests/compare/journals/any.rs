@@ -3,8 +3,8 @@
 
 use super::{before_loop, endless_loop, put};
 use crate::call::{header_state, of_library, plain_state, Answer, Call};
-use crate::ffi::Back;
-use crate::make::{board, one_of};
+use crate::ffi::{self, Back};
+use crate::make::{board, one_of, with_any_range};
 use crate::random::Random;
 use crate::world::{touched, Lengths, World, LOG};
 use crate::{random_of, seed};
@@ -43,6 +43,22 @@ fn fill(random: &mut Random, world: &mut World, places: usize) {
     }
 }
 
+/// Any state, whose count is that of the places, one more, or few.
+fn any_state(random: &mut Random, places: u64, few: u64) -> State {
+    let before = before_loop(random);
+    let state = State {
+        r: before.r.map(|_| random.value()),
+        journaled: one_of(random, &[places, few, few, places + 1]),
+        n: one_of(random, &[before.n, before.n, few as u32]),
+        pc: one_of(random, &[0, 2, 0xFFFE, 0x1234, 0x1235]),
+        board: board(random),
+        pending: random.word() as u8,
+        return_address: one_of(random, &[0, 2, 0x4320, 0x4321]),
+        ..before
+    };
+    with_any_range(random, state)
+}
+
 /// Whether the journal holds k steps.
 fn holds(state: &State, places: usize, k: u64) -> bool {
     let shorter = (places as u64) < state.journaled;
@@ -64,6 +80,8 @@ fn check(state: State, k: u64, places: usize, back: &Back) -> u64 {
     assert!(back.entries <= k);
     assert!(changed(&state.r, &back.state.r) <= k);
     assert_eq!(back.state.board, state.board);
+    let range = |s: ffi::State| (s.locked, s.first_locked, s.last_locked);
+    assert_eq!(range(back.state), range(header_state(state)));
     // Lines that are pending stay.
     assert_eq!(back.state.pending & state.pending, state.pending);
     k
@@ -93,16 +111,9 @@ fn journals_of_any_numbers() {
     for case in 0..4_000 {
         let any = random.below(300) as usize;
         let places = one_of(&mut random, &[0, 1, 2, 9, any, any, any, 2_500]);
-        let mut state = before_loop(&mut random);
-        state.r = state.r.map(|_| random.value());
         fill(&mut random, &mut world, places);
         let few = random.below(places as u64 + 1);
-        state.journaled = one_of(&mut random, &[places as u64, few, few, places as u64 + 1]);
-        state.n = one_of(&mut random, &[state.n, state.n, few as u32]);
-        state.pc = one_of(&mut random, &[0, 2, 0xFFFE, 0x1234, 0x1235]);
-        state.board = board(&mut random);
-        state.pending = random.word() as u8;
-        state.return_address = one_of(&mut random, &[0, 2, 0x4320, 0x4321]);
+        let state = any_state(&mut random, places as u64, few);
         let k = one_of(
             &mut random,
             &[0, 1, few, state.journaled, state.journaled + 1],

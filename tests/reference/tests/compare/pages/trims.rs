@@ -1,6 +1,6 @@
 //! Trims for pages: that stop at once, soon, or never.
 
-use crate::make::{board, one_of, program_word, with_any_lines};
+use crate::make::{board, one_of, program_word, with_any_lines, with_any_range};
 use crate::random::Random;
 use reference::machine::State;
 
@@ -17,7 +17,7 @@ fn going_on(random: &mut Random, count: u64) -> Vec<u16> {
 }
 
 /// A trim's words at address 0 and at 0x0100, where lines are handled, and its state:
-/// either board, any lines pending.
+/// either board, any lines pending, any range locked.
 pub fn trim(random: &mut Random) -> (Words, State) {
     let few = random.below(4);
     let some = random.below(100);
@@ -35,6 +35,7 @@ pub fn trim(random: &mut Random) -> (Words, State) {
     }
     let handler = vec![0xC003 + 8 * random.below(8) as u16, 0xC002];
     let state = with_any_lines(random, State::reset());
+    let state = with_any_range(random, state);
     let mut state = State {
         pc: one_of(random, &[0, 0, 2, 0xFFFE]),
         n: random.below(1 << 20) as u32,

@@ -76,7 +76,7 @@ fn after_run(kept: Kept, call: &Call, line: &str) -> Kept {
     assert!(steps <= most && (stop != 0 || steps == most), "{line}");
     Kept {
         n: n + steps,
-        journaled: if stop == 0 { journaled } else { 0 },
+        journaled: if matches!(stop, 0 | 2) { journaled } else { 0 },
     }
 }
 

@@ -49,7 +49,8 @@ fn raises_and_takings() {
     // Raises accepted and refused, lines taken by runs, given back, refused with an
     // odd return address.
     let (mut raised, mut refused, mut taken, mut back, mut odd) = (0, 0, 0, 0, 0);
-    for at in first.unwrap()..lines.len() {
+    let last = lines.iter().position(|line| line.starts_with("page "));
+    for at in first.unwrap()..last.unwrap() {
         let pair = &lines[at..];
         let call: Vec<&str> = pair[0].split(' ').collect();
         let fed = usize::from(call[0] == "journal");
@@ -93,7 +94,8 @@ fn tables_with_lines() {
         .iter()
         .position(|line| line.starts_with("run control 160 "));
     let mut taken = 0;
-    for (at, run) in lines[first.unwrap()..].chunks(2).enumerate() {
+    let of_lines = &lines[first.unwrap()..][..2 * 4 * 16];
+    for (at, run) in of_lines.chunks(2).enumerate() {
         let (t, i) = (160 + at as u64 / 4, at as u64 % 4);
         let c = 1_000 + t;
         assert!(run[0].starts_with(&format!("run control {t} {i} ")));

@@ -1,0 +1,14 @@
+pub mod Over
+pub mod Steps
+pub mod Runs
+pub mod Backs
+pub mod Names
+pub mod Assembled
+pub mod Stands
+pub mod Kept
+pub mod Panel
+pub mod Two
+pub mod Sheets
+pub mod Locked
+pub mod TwoPages
+pub mod LockedPages
