@@ -32,7 +32,8 @@ pub enum Board {
 }
 
 // What an engine's step hands back: stop 0, the register state, and how many places of the log are filled; or why it can't be
-// made (1 the word is unassigned, 3 its divisor is zero, 4 it touches a locked byte, 2 it writes a port and the log is full), with both as they were.
+// made (1 the word is unassigned, 3 its divisor is zero, 2 it writes a port and the log is full), with both as they were. Stop 4 is tested
+// before a step is called.
 pub struct Stepped {
     pub stop: u8,
     pub state: State,
