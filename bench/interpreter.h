@@ -133,7 +133,7 @@ static inline void take(SisaState *state, unsigned line, uint16_t pc)
 #define PUT_NOTHING() KEEP(0, 0, NOTHING)
 #define PUT_REGISTER(k, v) (KEEP(r[k], k, REGISTER), r[k] = (uint16_t)(v))
 #define PUT_INPUT(k, port) \
-    ((port) == 1 ? KEEP(r[k], inputs[0], KEY | (k) << 8) : KEEP(r[k], k, REGISTER), r[k] = read_input(inputs, port))
+    (KEEP(r[k], (port) == 1 ? inputs[0] : (k), (port) == 1 ? KEY | (k) << 8 : REGISTER), r[k] = read_input(inputs, port))
 #define PUT_WORD(at, v) (KEEP(load_word(memory, at), (at) & 0xFFFE, WORD), store_word(memory, at, v))
 #define PUT_BYTE(at, v) (KEEP(memory[at], at, BYTE), memory[at] = (uint8_t)(v))
 #define PUT_OUTPUT(port, v) (KEEP(outputs[port], port, OUTPUT), outputs[port] = (v))
