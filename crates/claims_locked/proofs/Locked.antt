@@ -12,13 +12,13 @@ use Rattle.save.specs.Saved.{SaveLeft, saveLeft}
 use Rattle.assembler.specs.Text.{AssembleLeft, assembleLeft}
 use Rattle.run.specs.Runs.{CountedLeft, countedLeft}
 use Rattle.back.specs.Backs.{BackGiven, BackLeft, backVerdict, machineGiven, backLeftBy, backLeft}
-use Rattle.claims.specs.Session.{stepperOf, by-rules, Lent, runs, sets, raises, Host, hostOf, givenTo, afterRun}
-use Rattle.claims.specs.HostSteps.{call, host-step, budget1, a-call, a-step}
+use Rattle.claims.specs.Session.{stepperOf, by-rules, Lent, runs, sets, raises, Reply, Host, hostOf, givenTo, afterRun}
+use Rattle.claims.specs.HostSteps.{HostCall, call, host-step, budget1, HostCallMeets, a-call, a-step, HostCalls, more as more-host}
 use Rattle.claims.specs.Usage.{Reordered}
 use Rattle.claims.specs.Saved.{rangeOf}
 use Rattle.claims.proofs.Together.{both, told}
 use Rattle.claims.proofs.Decided.{ranOn, replyTo, callOn, does-decided}
-use Rattle.claims.proofs.HostSteps.{does-run}
+use Rattle.claims.proofs.HostSteps.{does-run, host-steps}
 use Rattle.claims.proofs.Session.{accepted-load}
 use Rattle.claims_back.specs.History.{givenBack, afterBack}
 use Rattle.claims_locked.specs.Locked.{Differ, Apart, AnyCall, does, goes-back, assembles, looks, saves, AnyReply, did, went-back, assembled, saw, wrote-file, plainOf, Alike, afterAssembly, afterSave, AnyMeets, a-host-call, a-back, an-assembly, a-window, a-save, AnyCalls, none, more, fedOf, Indistinguishable, Isolated}
@@ -190,6 +190,28 @@ indistinguishable h g a cs₁ cs₂ alike rs₁ rs₂ h₁ h₂ ds₁ ds₂ =
       hosts = z .1;
     }
 
+-- ---- Replies exist
+
+host-call-exists : (h : Host) (c : HostCall) → (r : Reply) × (after : Host) × HostCallMeets h c r after
+host-call-exists h c = first (host-steps .replies-exist h (c ∷ []) .2)
+  where
+    first : {rs : List Reply} {last : Host} → HostCalls h (c ∷ []) rs last → (r : Reply) × (after : Host) × HostCallMeets h c r after
+    first (more-host d ds) = (_, _, d)
+
+call-exists : (h : Host) (c : AnyCall) → (r : AnyReply) × (after : Host) × AnyMeets h c r after
+call-exists h (does c) = let z = host-call-exists h c in (did (z .0), z .1, a-host-call (z .2))
+call-exists h (goes-back journal k) = (_, _, a-back h journal k _ refl)
+call-exists h (assembles text) = (_, _, an-assembly h text _ refl)
+call-exists h (looks ofData start count) = (_, _, a-window h ofData start count _ refl)
+call-exists h (saves destination) = (_, _, a-save h destination _ refl)
+
+replies-exist : (h : Host) (cs : List AnyCall) → (rs : List AnyReply) × (last : Host) × AnyCalls h cs rs last
+replies-exist h [] = ([], h, none)
+replies-exist h (c ∷ cs) =
+    let z = call-exists h c in
+    let u = replies-exist (z .1) cs in
+    (z .0 ∷ u .0, u .1, more (z .2) (u .2))
+
 -- ---- Loads
 
 load-state : (g : LoadGiven) (l : LoadLeft) → l ≡ loadLeft g → l .reply ≡ accepted → l .state ≡ withRange (g .range) (resetOn (g .board))
@@ -218,6 +240,7 @@ isolated =
             outputs = ports .1;
           });
       apart = indistinguishable;
+      replies-exist = replies-exist;
       run-range = λ e g. ap (λ (x : CountedLeft). rangeOf (x .left .state)) (both e g (countedLeft (stepperOf e) g) refl) ∙ run-range g;
       run-locked = λ e g k h. ap (λ (x : CountedLeft). getD (x .left .D) k 0) (both e g (countedLeft (stepperOf e) g) refl) ∙ run-locked g k h;
       two-loads = two-loads;

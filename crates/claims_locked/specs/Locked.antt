@@ -147,6 +147,8 @@ pub record Isolated : Type 0 where
   pub apart :
       (h g : Host) → Apart h g → (cs₁ cs₂ : List AnyCall) → Alike cs₁ cs₂
       → (rs₁ rs₂ : List AnyReply) (h₁ h₂ : Host) → AnyCalls h cs₁ rs₁ h₁ → AnyCalls g cs₂ rs₂ h₂ → Indistinguishable rs₁ rs₂ h₁ h₂
+  -- Such replies exist for every list.
+  pub replies-exist : (h : Host) (cs : List AnyCall) → (rs : List AnyReply) × (last : Host) × AnyCalls h cs rs last
   -- A run leaves every locked byte as it is.
   pub run-locked : (e : Engine) (g : Given) (k : ℕ) → isLocked k (g .state) ≡ true → getD (countedLeft (stepperOf e) g .left .D) k 0 ≡ getD (g .D) k 0
   -- Not empty: such loads exist, and their memories differ.
