@@ -29,8 +29,8 @@ MayGoOn g j = (j ≡ g .budget → ⊥) × (Full (g .journal) (g .state .journal
 
 -- The test with reason q is the first that holds before a step, after j steps of a run: budget used, 0, and a full journal counts as
 -- a used budget; the machine can't step, since the word is unassigned, 1, or the divisor is zero, 3, or the fetch, the load or the store touches
--- a locked byte, 4 (02, L14); the step writes a port (the word is OUT) and L, which may grow to the log's length, has no free place, 2. A machine with a line to take (02, L12) can step, and that step writes
--- no port: only the budget, or the journal, ends a run before it.
+-- a locked byte, 4 (02, L14); the step writes a port (the word is OUT) and L, which may grow to the log's length, has no free place, 2. A machine
+-- with a line to take (02, L12) can step, and that step writes no port: only the budget, or the journal, ends a run before it.
 pub data First (v : Stepper) (g : Given) (j : ℕ) (m : Machine) : ℕ → Type 0 where
   budget-used : j ≡ g .budget → First v g j m 0
   journal-full : Full (g .journal) (g .state .journaled + j) → First v g j m 0
