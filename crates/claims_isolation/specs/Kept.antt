@@ -17,7 +17,7 @@ use Rattle.run.specs.Runs.{no-journal, lent-journal, RunReply}
 use Rattle.back.specs.Backs.{BackReply}
 use Rattle.claims.specs.Session.{Engine, runs, sets, raises, of-run, Host, hostOf, machineOn}
 use Rattle.claims.specs.HostSteps.{call, host-step}
-use Rattle.claims_locked.specs.Locked.{AnyCall, does, goes-back, assembles, looks, saves, AnyReply, did, went-back, AnyCalls}
+use Rattle.claims_isolation.specs.Locked.{AnyCall, does, goes-back, assembles, looks, saves, AnyReply, did, went-back, AnyCalls}
 
 -- ---- What an entry names
 

@@ -11,7 +11,7 @@ use Rattle.machine.specs.Machine.{Machine, putPC, putN, onState, putD, putWord,
 use Rattle.journal.specs.Journal.{Overwritten, nothing, register, data-word, data-byte, output-word, key-read, enable-flag, line-taken, pcIn, overwrittenIn, putBack, undo}
 use Rattle.back.specs.Backs.{undone, BackGiven, backVerdict, machineGiven, backLeftBy, backLeft}
 use Rattle.claims.specs.Saved.{rangeOf}
-use Rattle.claims_locked.specs.Locked.{Differ}
+use Rattle.claims_isolation.specs.Locked.{Differ}
 
 -- ---- What is put back in data memory
 

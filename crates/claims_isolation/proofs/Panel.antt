@@ -19,7 +19,7 @@ use Rattle.panel.specs.Calls.{RaiseLeft, raiseLeft, partOf, holdsLocked, window
 use Rattle.save.specs.Saved.{unlocked, savedFile, SaveReply, saved, save-refused, saveReply, saveLeftBy, saveLeft}
 use Rattle.save.proofs.Unlocked.{unlocked-length, unlocked-at}
 use Rattle.claims.specs.Saved.{rangeOf}
-use Rattle.claims_locked.specs.Locked.{Differ}
+use Rattle.claims_isolation.specs.Locked.{Differ}
 
 module _ (s : State) (P : List ℕ) {D E : List ℕ} (d : Differ s D E) where
   -- ---- A window

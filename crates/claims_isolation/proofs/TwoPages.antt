@@ -15,8 +15,8 @@ use Rattle.page.specs.Pages.{PageGiven, pageOf, part}
 use Rattle.claims.specs.Session.{by-rules}
 use Rattle.claims_pages.specs.Pages.{Passes, AcceptedPage}
 use Rattle.claims_pages.proofs.Refusals.{exists}
-use Rattle.claims_locked.specs.Locked.{Differ}
-use Rattle.claims_locked.specs.LockedPages.{DifferEach, TwoPages}
+use Rattle.claims_isolation.specs.Locked.{Differ}
+use Rattle.claims_isolation.specs.LockedPages.{DifferEach, TwoPages}
 
 abbrev state : State
 state = withRange (record { locked = 1; first = 0; last = 0 }) reset

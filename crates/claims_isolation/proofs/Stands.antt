@@ -26,10 +26,10 @@ use Rattle.claims.specs.Saved.{rangeOf}
 use Rattle.claims.proofs.Journaled.{start-is, counted-is, placed-at, placed-other}
 use Rattle.claims.proofs.Together.{both}
 use Rattle.claims_back.proofs.Walks.{Walk, there, then, walked, Goes, run-walks}
-use Rattle.claims_locked.specs.Kept.{named, NamesNone}
-use Rattle.claims_locked.proofs.Over.{same-locked}
-use Rattle.claims_locked.proofs.Runs.{rangeIn, run-locked, run-range}
-use Rattle.claims_locked.proofs.Names.{names-none}
+use Rattle.claims_isolation.specs.Kept.{named, NamesNone}
+use Rattle.claims_isolation.proofs.Over.{same-locked}
+use Rattle.claims_isolation.proofs.Runs.{rangeIn, run-locked, run-range}
+use Rattle.claims_isolation.proofs.Names.{names-none}
 
 -- ---- Whether locked bytes are touched is seen in the range
 

@@ -15,7 +15,7 @@ use Rattle.machine.specs.declared.State.{State}
 use Rattle.machine.specs.Machine.{isLocked}
 use Rattle.image.specs.declared.Range.{Range}
 use Rattle.claims.specs.Saved.{rangeOf}
-use Rattle.claims_locked.specs.Locked.{Differ}
+use Rattle.claims_isolation.specs.Locked.{Differ}
 
 module _ (s : State) (Z : List ℕ) where
   -- from address k on

@@ -19,9 +19,9 @@ use Rattle.run.specs.Runs.{Given, given, left, verdict, verdictOn, allowed, mac
 use Rattle.claims.specs.Saved.{rangeOf}
 use Rattle.claims.proofs.Alike.{alike, usage-alike, ticks-alike, kept-alike, steps-keep}
 use Rattle.claims.proofs.Journaled.{start-is, counted-is}
-use Rattle.claims_locked.specs.Locked.{Differ}
-use Rattle.claims_locked.proofs.Over.{over, over-length, over-keeps, over-differs, differs-over, same-range}
-use Rattle.claims_locked.proofs.Steps.{withOver, Ranged, maps}
+use Rattle.claims_isolation.specs.Locked.{Differ}
+use Rattle.claims_isolation.proofs.Over.{over, over-length, over-keeps, over-differs, differs-over, same-range}
+use Rattle.claims_isolation.proofs.Steps.{withOver, Ranged, maps}
 
 -- what is given with E in the place of its data memory; what is left, likewise
 abbrev pub givenD : List ℕ → Given → Given

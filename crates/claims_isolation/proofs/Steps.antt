@@ -21,7 +21,7 @@ use Rattle.control.specs.Control.{unit, results, resultField, result, inputsAft
 use Rattle.control.proofs.Agreement.{same-stepper}
 use Rattle.control.proofs.Laws.{lawful-rules, local-rules}
 use Rattle.claims.proofs.Alike.{mapNext, Seen, seen-by, Maps}
-use Rattle.claims_locked.proofs.Over.{over, over-free, over-set, over-past}
+use Rattle.claims_isolation.proofs.Over.{over, over-free, over-set, over-past}
 
 -- ---- Which bytes are touched
 

@@ -35,13 +35,13 @@ use Rattle.claims.proofs.Decided.{callOn, ranOn, does-exists}
 use Rattle.claims.proofs.HostSteps.{does-run}
 use Rattle.claims_back.specs.History.{givenBack, afterBack}
 use Rattle.claims_back.proofs.History.{histories}
-use Rattle.claims_locked.specs.Locked.{AnyCall, does, goes-back, AnyReply, did, went-back, afterAssembly, afterSave, AnyMeets, a-host-call, a-back, an-assembly, a-window, a-save, AnyCalls, none, more}
-use Rattle.claims_locked.specs.Kept.{NamesNone, LentNone, OneJournal, none as no-call, with-run, with-back, with-other, Kept}
-use Rattle.claims_locked.proofs.Assembled.{assembled-bytes}
-use Rattle.claims_locked.proofs.Backs.{undone-range}
-use Rattle.claims_locked.proofs.Panel.{save-stays}
-use Rattle.claims_locked.proofs.Names.{names-none, undone-keeps}
-use Rattle.claims_locked.proofs.Stands.{counted-in-range, Stands, run-with, run-without}
+use Rattle.claims_isolation.specs.Locked.{AnyCall, does, goes-back, AnyReply, did, went-back, afterAssembly, afterSave, AnyMeets, a-host-call, a-back, an-assembly, a-window, a-save, AnyCalls, none, more}
+use Rattle.claims_isolation.specs.Kept.{NamesNone, LentNone, OneJournal, none as no-call, with-run, with-back, with-other, Kept}
+use Rattle.claims_isolation.proofs.Assembled.{assembled-bytes}
+use Rattle.claims_isolation.proofs.Backs.{undone-range}
+use Rattle.claims_isolation.proofs.Panel.{save-stays}
+use Rattle.claims_isolation.proofs.Names.{names-none, undone-keeps}
+use Rattle.claims_isolation.proofs.Stands.{counted-in-range, Stands, run-with, run-without}
 
 -- under the range of s, with the locked bytes of Z
 module _ (s : State) (Z : List ℕ) where

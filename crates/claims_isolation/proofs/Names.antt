@@ -19,10 +19,10 @@ use Rattle.journal.proofs.Coding.{read-back}
 use Rattle.journal.proofs.Steps.{overwritten-at-fits}
 use Rattle.journal.proofs.Undone.{undo-in-range}
 use Rattle.back.specs.Backs.{undone}
-use Rattle.claims_locked.specs.Kept.{named, NamesNone}
-use Rattle.claims_locked.proofs.Over.{over, over-set, over-keeps, differs-over}
-use Rattle.claims_locked.proofs.Steps.{one-free, passed-lock, word-stored}
-use Rattle.claims_locked.proofs.Backs.{putIn, undo-memory}
+use Rattle.claims_isolation.specs.Kept.{named, NamesNone}
+use Rattle.claims_isolation.proofs.Over.{over, over-set, over-keeps, differs-over}
+use Rattle.claims_isolation.proofs.Steps.{one-free, passed-lock, word-stored}
+use Rattle.claims_isolation.proofs.Backs.{putIn, undo-memory}
 
 -- ---- What an entry names
 

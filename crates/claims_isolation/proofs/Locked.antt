@@ -21,13 +21,13 @@ use Rattle.claims.proofs.Decided.{ranOn, replyTo, callOn, does-decided}
 use Rattle.claims.proofs.HostSteps.{does-run, host-steps}
 use Rattle.claims.proofs.Session.{accepted-load}
 use Rattle.claims_back.specs.History.{givenBack, afterBack}
-use Rattle.claims_locked.specs.Locked.{Differ, Apart, AnyCall, does, goes-back, assembles, looks, saves, AnyReply, did, went-back, assembled, saw, wrote-file, plainOf, Alike, afterAssembly, afterSave, AnyMeets, a-host-call, a-back, an-assembly, a-window, a-save, AnyCalls, none, more, fedOf, Indistinguishable, Isolated}
-use Rattle.claims_locked.proofs.Over.{same-range}
-use Rattle.claims_locked.proofs.Runs.{run-apart, run-locked, run-range}
-use Rattle.claims_locked.proofs.Backs.{goes-back as undone-alike, undone-range, back-range}
-use Rattle.claims_locked.proofs.Two.{two-loads}
-use Rattle.claims_locked.proofs.Sheets.{same-sheets}
-use Rattle.claims_locked.proofs.Panel.{same-window, same-save, save-stays, raise-range}
+use Rattle.claims_isolation.specs.Locked.{Differ, Apart, AnyCall, does, goes-back, assembles, looks, saves, AnyReply, did, went-back, assembled, saw, wrote-file, plainOf, Alike, afterAssembly, afterSave, AnyMeets, a-host-call, a-back, an-assembly, a-window, a-save, AnyCalls, none, more, fedOf, Indistinguishable, Isolated}
+use Rattle.claims_isolation.proofs.Over.{same-range}
+use Rattle.claims_isolation.proofs.Runs.{run-apart, run-locked, run-range}
+use Rattle.claims_isolation.proofs.Backs.{goes-back as undone-alike, undone-range, back-range}
+use Rattle.claims_isolation.proofs.Two.{two-loads}
+use Rattle.claims_isolation.proofs.Sheets.{same-sheets}
+use Rattle.claims_isolation.proofs.Panel.{same-window, same-save, save-stays, raise-range}
 
 -- ---- What a call replies and leaves
 

@@ -24,9 +24,9 @@ use Rattle.claims_pages.proofs.Rounds.{ran, restAt, endAt}
 use Rattle.claims_pages.proofs.Refusals.{replied, page-refusals}
 use Rattle.claims_pages.proofs.Ends.{left-is}
 use Rattle.claims_pages.proofs.Own.{left-by, own, kept}
-use Rattle.claims_locked.specs.LockedPages.{DifferEach, ApartPages, SamePages, IsolatedPages}
-use Rattle.claims_locked.proofs.Runs.{leftD, bare, LeftApart, run-apart, run-locked, run-range}
-use Rattle.claims_locked.proofs.TwoPages.{two-pages}
+use Rattle.claims_isolation.specs.LockedPages.{DifferEach, ApartPages, SamePages, IsolatedPages}
+use Rattle.claims_isolation.proofs.Runs.{leftD, bare, LeftApart, run-apart, run-locked, run-range}
+use Rattle.claims_isolation.proofs.TwoPages.{two-pages}
 
 -- ---- What is seen of a list of ends: all but the data memories
 

@@ -10,7 +10,7 @@ use Rattle.word.proofs.Tests.{clash, never}
 use Rattle.machine.specs.declared.Board.the-variants.{TwoMemories}
 use Rattle.machine.specs.Machine.{isLocked, resetOn}
 use Rattle.image.specs.Image.{withRange, loaded, LoadGiven, LoadLeft, fileReply, loadReply, loadLeft}
-use Rattle.claims_locked.specs.Locked.{Differ, TwoLoads}
+use Rattle.claims_isolation.specs.Locked.{Differ, TwoLoads}
 
 -- W 0 at 16, C 1 at 16, and the byte
 abbrev file : ℕ → List ℕ

@@ -10,7 +10,7 @@ use Rattle.page.specs.Pages.{PageGiven, PageLeft, part, PageMeets}
 use Rattle.claims.specs.Session.{Engine, stepperOf}
 use Rattle.claims.specs.Saved.{rangeOf}
 use Rattle.claims_pages.specs.Pages.{AcceptedPage}
-use Rattle.claims_locked.specs.Locked.{Differ}
+use Rattle.claims_isolation.specs.Locked.{Differ}
 
 -- the trims' memories, joined: each trim's differ only in bytes that its own state locks
 pub record DifferEach (count : ℕ) (states : List State) (D E : List ℕ) : Type 0 where
