@@ -1,4 +1,5 @@
 // The assembler: a trim written as text, and its words in a program memory.
+#![tactic(auto)]
 ghost use Rattle.std.specs.Prelude.{◌≡◌, ◌≤◌, ◌⊎◌, length};
 ghost use Rattle.refusal.specs.Refusals.{refusal_number};
 ghost use Rattle.assembler.specs.Text.{AssembleLeft, assemble_left};
@@ -9,7 +10,7 @@ use refusal::Refusal;
 mod passes;
 
 // How many words there are; or the first line that is turned away, from 1, and why. Line 0: the call itself.
-#[derive(Drop)]
+#[derive(Clone, Copy)]
 pub enum Assembly {
     Words(u32),
     Refused { line: u32, refusal: Refusal },

@@ -27,7 +27,7 @@ pub fn line_end(text: &[u8], at: usize) -> usize
 }
 
 // The names given so far, and the number that a line is turned away with for the name that it gives, or 0.
-#[derive(Drop)]
+#[derive(Clone, Copy)]
 pub struct Given {
     pub labels: usize,
     pub number: u8,
@@ -73,7 +73,7 @@ fn give(
 
 // Where a pass stands: the number of the next line; how many labels and words were given, and the next word's address; the first
 // line that was turned away, 0 where there is none, and the number.
-#[derive(Drop)]
+#[derive(Clone, Copy)]
 pub struct Progress {
     pub line: u32,
     pub labels: usize,

@@ -1,4 +1,5 @@
 // Going back by the journal that runs kept.
+#![tactic(auto)]
 ghost use Rattle.std.specs.Prelude.{◌≡◌, min};
 ghost use Rattle.back.specs.Backs.{steps_held, GoesBack};
 ghost use Rattle.back.specs.Parts.{CanGo, GoneBack};
@@ -6,7 +7,7 @@ ghost use Rattle.back.specs.Parts.{CanGo, GoneBack};
 use machine::State;
 use refusal::Refusal;
 
-#[derive(Drop)]
+#[derive(Clone, Copy)]
 pub enum Going {
     Gone(u64),
     Refused(Refusal),
@@ -14,7 +15,7 @@ pub enum Going {
 
 // What going back replies: the register state, and how many log entries fall away or the refusal. An enum cannot hold the
 // state's array in covered form, so the state stands beside the reply.
-#[derive(Drop)]
+#[derive(Clone, Copy)]
 pub struct Backed {
     pub state: State,
     pub reply: Going,

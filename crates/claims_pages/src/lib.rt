@@ -1,1 +1,2 @@
 // No code: the theorems on pages of several trims. specs/ has each statement, proofs/ its proof.
+#![tactic(auto)]

@@ -9,7 +9,7 @@ use replies::SisaBack;
 use std::num::wrapping_add_u64;
 
 // How many calls a case makes, below which choice a call is a set, and which bits of a port's number are kept.
-#[derive(Drop)]
+#[derive(Clone, Copy)]
 pub struct Calls {
     pub count: u16,
     pub sets: u16,

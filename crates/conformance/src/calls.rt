@@ -8,7 +8,7 @@ use replies::SisaWindow;
 use sheet::Sheet;
 
 // What the host keeps between two calls.
-#[derive(Drop)]
+#[derive(Clone, Copy)]
 pub struct Kept {
     pub state: State,
     pub sheet: Sheet,

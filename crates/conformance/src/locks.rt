@@ -6,7 +6,7 @@ use player::runs::of_call;
 use std::num::wrapping_add_u16;
 
 // The range that a load names: none where `locked` is 0.
-#[derive(Drop)]
+#[derive(Clone, Copy)]
 pub struct Range {
     pub locked: u8,
     pub first: u16,

@@ -11,7 +11,7 @@ use sisa::{
     sisa_run_by_table_with_journal,
 };
 
-#[derive(Drop)]
+#[derive(Clone, Copy)]
 pub enum Engine {
     Rules,
     Table,

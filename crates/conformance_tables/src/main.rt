@@ -1,4 +1,5 @@
 // Runs pseudo-random files by pseudo-random control tables, and prints what docs/CONFORMANCE.md says.
+#![tactic(auto)]
 use machine::State;
 
 mod runs;

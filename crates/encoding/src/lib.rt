@@ -1,4 +1,5 @@
 // The word of a statement.
+#![tactic(auto)]
 ghost use Rattle.std.specs.Prelude.{◌≡◌, ◌*◌, ◌<◌, ◌≤◌, length};
 ghost use Rattle.encoding.specs.Words.{distance, odd, number_of, encoded};
 ghost use Rattle.statement.specs.Syntax.{table};
@@ -11,7 +12,7 @@ use statement::operands::Parts;
 use statement::rows;
 
 // What comes of a line: the number that it is turned away with, or 0; how many words it gives, none or one; and that word.
-#[derive(Drop)]
+#[derive(Clone, Copy)]
 pub struct Judged {
     pub number: u8,
     pub words: usize,

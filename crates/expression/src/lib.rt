@@ -1,5 +1,6 @@
 // Constant expressions: the value of an expression at a position of a text, given a table of names. The table has three numbers
 // for each name: where it begins and ends in the text, and its address.
+#![tactic(auto)]
 ghost use Rattle.std.specs.Prelude.{◌≡◌, ℕ, ◌<◌, ◌≤◌, List, length};
 ghost use Rattle.token.specs.Scan.{part, tokens_at};
 ghost use Rattle.expression.specs.Grammar.{value_of};
@@ -15,21 +16,21 @@ pub mod names;
 mod prefix;
 
 // A word; known is false where a name in it is unknown.
-#[derive(Drop)]
+#[derive(Clone, Copy)]
 pub struct Value {
     pub word: u16,
     pub known: bool,
 }
 
 // What was read at a position: a value, and where it ends; or nothing.
-#[derive(Drop)]
+#[derive(Clone, Copy)]
 pub enum Answer {
     Refused,
     Read { value: Value, next: usize },
 }
 
 // The operator of a rank that stands at a position.
-#[derive(Drop)]
+#[derive(Clone, Copy)]
 pub enum Join {
     NoJoin,
     By { symbol: u16, end: usize },

@@ -7,7 +7,7 @@ ghost use Rattle.expression.specs.Reading.{number_leaf, labels, leaf_of};
 use crate::{Value, names};
 
 // What a token means as an operand.
-#[derive(Drop)]
+#[derive(Clone, Copy)]
 pub enum Leaf {
     NoOperand,
     Means { value: Value },

@@ -6,7 +6,7 @@ use crate::{Answer, arithmetic};
 use token::Token;
 
 // What a token begins where an operand is wanted, and that is no minus sign.
-#[derive(Drop)]
+#[derive(Clone, Copy)]
 pub enum Start {
     Nothing,
     Bracket,
@@ -14,7 +14,7 @@ pub enum Start {
 }
 
 // The minus signs at a position, as 0, 1 or 2 of them, and what begins after them: the token from start to end.
-#[derive(Drop)]
+#[derive(Clone, Copy)]
 pub struct Lead {
     pub minus: usize,
     pub begin: Start,

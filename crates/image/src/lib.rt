@@ -1,4 +1,5 @@
 // Loading a trim file, called an image here.
+#![tactic(auto)]
 ghost use Rattle.std.specs.Prelude.{◌≡◌, ◌++◌, ◌+◌, ◌-◌, ◌*◌, ◌<◌, ◌≤◌, length, take, drop, replicate, true};
 ghost use Rattle.refusal.specs.Refusals.{accepted};
 ghost use Rattle.machine.specs.declared.Board.TheVariants.{SingleMemory};
@@ -10,7 +11,7 @@ use bus::lengths_fit;
 use machine::{Board, State};
 use refusal::Refusal;
 
-#[derive(Drop)]
+#[derive(Clone, Copy)]
 pub enum Loading {
     Accepted,
     Refused(Refusal),
@@ -18,14 +19,14 @@ pub enum Loading {
 
 // What a load replies. An enum cannot hold the state's array in covered form, so the state stands beside the reply; a
 // refused load's is the reset one.
-#[derive(Drop)]
+#[derive(Clone, Copy)]
 pub struct Loaded {
     pub state: State,
     pub reply: Loading,
 }
 
 // The range of data memory that a load locks: none where `locked` is 0, else first to last, both in it.
-#[derive(Drop)]
+#[derive(Clone, Copy)]
 pub struct Range {
     pub locked: u8,
     pub first: u16,
@@ -33,7 +34,7 @@ pub struct Range {
 }
 
 // A part of the file, in bytes.
-#[derive(Drop)]
+#[derive(Clone, Copy)]
 pub struct Part {
     pub offset: usize,
     pub count: usize,

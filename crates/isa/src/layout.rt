@@ -8,7 +8,7 @@ use kinds::Kind;
 
 // A bit row of the sheet and how its n is read: a, b and d are the row's registers in their order, x its ignored bits. The
 // number holds the word's fixed bits: opcode, e and f.
-#[derive(Drop)]
+#[derive(Clone, Copy)]
 pub enum Form {
     // a b d f
     Abd(u16),
@@ -34,7 +34,7 @@ pub enum Form {
 
 // A form in numbers: the fixed bits; how many values a, b and d may have (1 where the part is unused, and so 0);
 // the weight of d's lowest bit; how many values n may have, and how many of those are negative.
-#[derive(Drop)]
+#[derive(Clone, Copy)]
 pub struct Layout {
     pub base: u16,
     pub a: u16,

@@ -1,4 +1,5 @@
 // Reading and writing one instruction.
+#![tactic(auto)]
 ghost use Rattle.std.specs.Prelude.{◌≡◌};
 ghost use Rattle.isa.specs.Instructions.{write_of, shown_writing};
 ghost use Rattle.isa.specs.Masks.{decoding_of, shown_decoded};
@@ -12,7 +13,7 @@ mod parts;
 pub mod rows;
 
 // An instruction: its kind and its parts. A part that the kind does not use is 0.
-#[derive(Drop)]
+#[derive(Clone, Copy)]
 pub struct Instruction {
     pub kind: Kind,
     pub a: u8,
@@ -21,7 +22,7 @@ pub struct Instruction {
     pub n: i16,
 }
 
-#[derive(Drop)]
+#[derive(Clone, Copy)]
 pub enum Reading {
     Instruction(Instruction),
     Unassigned,
@@ -29,14 +30,14 @@ pub enum Reading {
 
 // What a word reads as, and the registers that it touches, bit k of a mask for Rk: those whose value it uses, and the one that it
 // writes, if any. Both masks are 0 where the word is unassigned.
-#[derive(Drop)]
+#[derive(Clone, Copy)]
 pub struct Decoded {
     pub reading: Reading,
     pub reads: u8,
     pub writes: u8,
 }
 
-#[derive(Drop)]
+#[derive(Clone, Copy)]
 pub enum Writing {
     Word(u16),
     Refused(Refusal),

@@ -8,7 +8,7 @@ ghost use Rattle.isa.specs.Layouts.{mask_in};
 use crate::layout::Layout;
 use kinds::Kind;
 
-#[derive(Drop)]
+#[derive(Clone, Copy)]
 pub struct Touched {
     pub reads: u8,
     pub writes: u8,

@@ -10,7 +10,7 @@ use kinds::Kind;
 use refusal::Refusal;
 
 // The low bits of n, or none where n is out of range.
-#[derive(Drop)]
+#[derive(Clone, Copy)]
 pub enum Low {
     Nothing,
     Bits(u16),

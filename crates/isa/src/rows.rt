@@ -6,7 +6,7 @@ ghost use Rattle.isa.specs.Layouts.{entry_number};
 
 use kinds::Kind;
 
-#[derive(Drop)]
+#[derive(Clone, Copy)]
 pub enum Entry {
     Unassigned,
     Assigned(Kind),

@@ -1,10 +1,11 @@
 // The kinds of instruction and their numbers.
+#![tactic(auto)]
 ghost use Rattle.std.specs.Prelude.{◌≡◌, ◌<◌, length, get_or};
 ghost use Rattle.kinds.specs.declared.Kind.TheVariants.{And};
 ghost use Rattle.kinds.specs.Kinds.{kinds, kind_number};
 
 // The 34 kinds of instruction: 25 in the sheet's order, then opcode 11's and opcode 12's.
-#[derive(Drop)]
+#[derive(Clone, Copy)]
 pub enum Kind {
     And,
     Or,

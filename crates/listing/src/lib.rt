@@ -1,4 +1,5 @@
 // A program listing: the lines that the program `panellist` prints for a trim file.
+#![tactic(auto)]
 ghost use Rattle.std.specs.Prelude.{◌≡◌, [], ◌∷◌};
 ghost use Rattle.refusal.specs.Refusals.{refusal_number, accepted};
 ghost use Rattle.machine.specs.declared.Board.TheVariants.{TwoMemories};
@@ -14,7 +15,7 @@ use refusal::Refusal;
 mod text;
 
 // A line of a listing; past the listing's end it is not there, and its text is empty.
-#[derive(Drop)]
+#[derive(Clone, Copy)]
 pub struct Line {
     pub there: bool,
     pub text: Printed,

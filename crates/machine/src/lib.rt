@@ -1,4 +1,5 @@
 // The register state, memories and ports of the SISA trim processor.
+#![tactic(auto)]
 ghost use Rattle.std.specs.Prelude.{◌≡◌, ◌+◌, ◌-◌, ◌%◌, ◌<◌, eqb};
 ghost use Rattle.word.specs.Fields.{a_of, b_of};
 ghost use Rattle.word.specs.Word.{pick, add};
@@ -8,7 +9,7 @@ ghost use Rattle.machine.specs.Machine.{reset, R, put_r, put_pc, put_n, put_jour
 // single-memory one. Then interrupts: enabled where it is not 0, a pending byte with bit k for line k, the number of the line last taken and the
 // address to return to. Then the locked range of data memory, first to last, none where `locked` is 0.
 #[repr(C)]
-#[derive(Drop)]
+#[derive(Clone, Copy)]
 pub struct State {
     pub r: [u16; 8],
     pub pc: u16,
@@ -25,7 +26,7 @@ pub struct State {
 }
 
 // The board that a load names: instructions are fetched from program memory, or from data memory, the only one.
-#[derive(Drop)]
+#[derive(Clone, Copy)]
 pub enum Board {
     TwoMemories,
     SingleMemory,
@@ -34,7 +35,7 @@ pub enum Board {
 // What an engine's step hands back: stop 0, the register state, and how many places of the log are filled; or why it can't be
 // made (1 the word is unassigned, 3 its divisor is zero, 2 it writes a port and the log is full), with both as they were. Stop 4 is tested
 // before a step is called.
-#[derive(Drop)]
+#[derive(Clone, Copy)]
 pub struct Stepped {
     pub stop: u8,
     pub state: State,
@@ -60,18 +61,18 @@ impl Stepped {
 }
 
 // Ra and Rb of an instruction word: x is Ra, y is Rb.
-#[derive(Drop)]
+#[derive(Clone, Copy)]
 pub struct Sources {
     pub x: u16,
     pub y: u16,
 }
 
 // A port number.
-#[derive(Drop)]
+#[derive(Clone, Copy)]
 pub struct Port(pub u8);
 
 // An address of data memory.
-#[derive(Drop)]
+#[derive(Clone, Copy)]
 pub struct Address(pub u16);
 
 fn choose(d: u16, i: u16, v: u16, old: u16) -> u16

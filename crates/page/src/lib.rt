@@ -1,4 +1,5 @@
 // Several trims under one allowance.
+#![tactic(auto)]
 ghost use Rattle.std.specs.Prelude.{◌≡◌};
 ghost use Rattle.refusal.specs.Refusals.{accepted};
 ghost use Rattle.machine.specs.Run.{by_rules};
@@ -17,13 +18,13 @@ mod turns;
 
 // The states of up to 8 trims.
 #[repr(C)]
-#[derive(Drop)]
+#[derive(Clone, Copy)]
 pub struct Trims {
     pub states: [State; 8],
 }
 
 // What a trim of a page answers, as of one run.
-#[derive(Drop)]
+#[derive(Clone, Copy)]
 pub struct TrimAnswer {
     pub stop: u8,
     pub steps: u32,
@@ -33,7 +34,7 @@ pub struct TrimAnswer {
 }
 
 // What a page replies: every state, whether it is refused, and the trims' answers.
-#[derive(Drop)]
+#[derive(Clone, Copy)]
 pub struct Paged {
     pub trims: Trims,
     pub check: Check,

@@ -8,7 +8,7 @@ use machine::State;
 use run::Counted;
 
 // What a trim's turn comes to: its state, its answer so far, and the steps of this turn.
-#[derive(Drop)]
+#[derive(Clone, Copy)]
 struct Turned {
     state: State,
     answer: TrimAnswer,
@@ -16,7 +16,7 @@ struct Turned {
 }
 
 // How far the trims have come, and what is unused of the budget.
-#[derive(Drop)]
+#[derive(Clone, Copy)]
 pub struct Progress {
     pub states: [State; 8],
     pub answers: [TrimAnswer; 8],

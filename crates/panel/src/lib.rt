@@ -1,11 +1,12 @@
 // What a host does at the panel besides runs: setting an input, raising a line, and the window on a memory.
+#![tactic(auto)]
 ghost use Rattle.std.specs.Prelude.{◌≡◌, ◌-◌};
 ghost use Rattle.panel.specs.Calls.{SetLeft, set_left, shown_setting, RaiseLeft, raise_left, shown_raising, part_of, holds_locked, window_of};
 
 use machine::{Port, State};
 use refusal::Refusal;
 
-#[derive(Drop)]
+#[derive(Clone, Copy)]
 pub enum Setting {
     Done,
     Refused(Refusal),
@@ -23,14 +24,14 @@ pub fn set_input(inputs: &mut [u16], port: Port, value: u16) -> Setting
     Setting::Done
 }
 
-#[derive(Drop)]
+#[derive(Clone, Copy)]
 pub enum Raising {
     Done,
     Refused(Refusal),
 }
 
 // What raising a line replies: the state, as handed where it is refused, and the reply.
-#[derive(Drop)]
+#[derive(Clone, Copy)]
 pub struct Raised {
     pub state: State,
     pub reply: Raising,

@@ -8,7 +8,7 @@ use numbers::number;
 
 // The sort of a file, by its program: a case's, one of "Keys", of "The single-memory board", of "Knob interrupts", of "Pages" or of "Locked
 // calibration", or one for a table from 128 or from 160 on.
-#[derive(Drop)]
+#[derive(Clone, Copy)]
 pub enum Sort {
     Any,
     Keys,

@@ -12,7 +12,7 @@ use std::num::wrapping_add_u16;
 pub const LATE: u32 = 4294967000;
 
 // What a run is handed, and how much of the memory, the outputs and the log it is lent.
-#[derive(Drop)]
+#[derive(Clone, Copy)]
 pub struct Request {
     pub state: State,
     pub budget: u32,
@@ -22,7 +22,7 @@ pub struct Request {
 }
 
 // What a run replies.
-#[derive(Drop)]
+#[derive(Clone, Copy)]
 pub struct Reply {
     pub state: State,
     pub refusal: u8,

@@ -1,5 +1,6 @@
 // A text being written: bytes, words and numbers. A byte beyond the array's end is dropped; that a text is not so long is shown
 // where its parts are joined (`wrote_held` of proofs/Writing.antt).
+#![tactic(auto)]
 ghost use Rattle.std.specs.Prelude.{[], ◌∷◌, ◌≡◌, ◌<◌, length};
 ghost use Rattle.printing.specs.Text.{digit, decimal, hex4, in_array};
 ghost use Rattle.printing.specs.Writing.{Wrote};
@@ -8,7 +9,7 @@ ghost use Rattle.printing.specs.Writing.{Wrote};
 pub const CAPACITY: usize = 4096;
 
 // A text: its bytes stand before count, zeros after them.
-#[derive(Drop)]
+#[derive(Clone, Copy)]
 pub struct Printed {
     pub bytes: [u8; CAPACITY],
     pub count: usize,

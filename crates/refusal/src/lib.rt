@@ -1,8 +1,9 @@
 // The numbered refusals of 01's table and of 02; specs/Refusals.antt has the number and the condition of each.
+#![tactic(auto)]
 ghost use Rattle.std.specs.Prelude.{◌≡◌};
 ghost use Rattle.refusal.specs.Refusals.{refusal_number};
 
-#[derive(Drop)]
+#[derive(Clone, Copy)]
 pub enum Refusal {
     LentLength,
     ShortFile,

@@ -1,4 +1,5 @@
 // The structs of the C interface, include/sisa.h, and the replies of the crates that do the work in its numbers.
+#![tactic(auto)]
 ghost use Rattle.std.specs.Prelude.{◌≡◌, eqb};
 ghost use Rattle.word.specs.Word.{pick};
 ghost use Rattle.image.specs.Image.{shown_loading};
@@ -26,14 +27,14 @@ use sheet::{Fed, Feeding, Sheet};
 use usage::Usage;
 
 #[repr(C)]
-#[derive(Drop)]
+#[derive(Clone, Copy)]
 pub struct SisaLoad {
     pub state: State,
     pub refusal: u8,
 }
 
 #[repr(C)]
-#[derive(Drop)]
+#[derive(Clone, Copy)]
 pub struct SisaRun {
     pub state: State,
     pub refusal: u8,
@@ -45,7 +46,7 @@ pub struct SisaRun {
 }
 
 #[repr(C)]
-#[derive(Drop)]
+#[derive(Clone, Copy)]
 pub struct SisaAnswer {
     pub refusal: u8,
     pub stop: u8,
@@ -56,7 +57,7 @@ pub struct SisaAnswer {
 }
 
 #[repr(C)]
-#[derive(Drop)]
+#[derive(Clone, Copy)]
 pub struct SisaPage {
     pub trims: Trims,
     pub refusal: u8,
@@ -64,7 +65,7 @@ pub struct SisaPage {
 }
 
 #[repr(C)]
-#[derive(Drop)]
+#[derive(Clone, Copy)]
 pub struct SisaBack {
     pub state: State,
     pub refusal: u8,
@@ -72,7 +73,7 @@ pub struct SisaBack {
 }
 
 #[repr(C)]
-#[derive(Drop)]
+#[derive(Clone, Copy)]
 pub struct SisaInstruction {
     pub assigned: u8,
     pub kind: u8,
@@ -85,21 +86,21 @@ pub struct SisaInstruction {
 }
 
 #[repr(C)]
-#[derive(Drop)]
+#[derive(Clone, Copy)]
 pub struct SisaWord {
     pub refusal: u8,
     pub word: u16,
 }
 
 #[repr(C)]
-#[derive(Drop)]
+#[derive(Clone, Copy)]
 pub struct SisaWindow {
     pub start: usize,
     pub count: usize,
 }
 
 #[repr(C)]
-#[derive(Drop)]
+#[derive(Clone, Copy)]
 pub struct SisaSaved {
     pub state: State,
     pub refusal: u8,
@@ -107,21 +108,21 @@ pub struct SisaSaved {
 }
 
 #[repr(C)]
-#[derive(Drop)]
+#[derive(Clone, Copy)]
 pub struct SisaFed {
     pub sheet: Sheet,
     pub refusal: u8,
 }
 
 #[repr(C)]
-#[derive(Drop)]
+#[derive(Clone, Copy)]
 pub struct SisaRaised {
     pub state: State,
     pub refusal: u8,
 }
 
 #[repr(C)]
-#[derive(Drop)]
+#[derive(Clone, Copy)]
 pub struct SisaAssembly {
     pub refusal: u8,
     pub line: u32,

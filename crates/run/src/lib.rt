@@ -1,4 +1,5 @@
 // What a run replies, and the tests that refuse it.
+#![tactic(auto)]
 ghost use Rattle.std.specs.Prelude.{◌≡◌, ◌+◌, ◌≤◌};
 ghost use Rattle.usage.specs.Counting.{Few};
 ghost use Rattle.run.specs.Runs.{shown_verdict, verdict, journal_if, allowed_in};
@@ -9,14 +10,14 @@ use refusal::Refusal;
 use usage::Usage;
 
 // Why a run stopped, how many steps it took, and how many entries of the log it filled.
-#[derive(Drop)]
+#[derive(Clone, Copy)]
 pub struct Report {
     pub stop: u8,
     pub steps: u32,
     pub entries: usize,
 }
 
-#[derive(Drop)]
+#[derive(Clone, Copy)]
 pub enum Answer {
     Stopped(Report),
     Refused(Refusal),
@@ -24,14 +25,14 @@ pub enum Answer {
 
 // What a run replies: the register state, and the report or the refusal. An enum cannot hold the state's array in covered
 // form, so the state stands beside the answer.
-#[derive(Drop)]
+#[derive(Clone, Copy)]
 pub struct Ran {
     pub state: State,
     pub answer: Answer,
 }
 
 // What a run that counts replies: also its counts and its ticks, which are zero where it is refused.
-#[derive(Drop)]
+#[derive(Clone, Copy)]
 pub struct Counted {
     pub state: State,
     pub answer: Answer,
@@ -40,7 +41,7 @@ pub struct Counted {
 }
 
 // The same before its ticks are worked out.
-#[derive(Drop)]
+#[derive(Clone, Copy)]
 pub struct Tallied {
     pub state: State,
     pub answer: Answer,
@@ -48,7 +49,7 @@ pub struct Tallied {
 }
 
 // Whether a run is refused.
-#[derive(Drop)]
+#[derive(Clone, Copy)]
 pub enum Check {
     Accepted,
     Refused(Refusal),

@@ -1,4 +1,5 @@
 // Saving a trim file from program and data memory.
+#![tactic(auto)]
 ghost use Rattle.std.specs.Prelude.{◌≡◌, ◌++◌, ◌+◌, ◌*◌, ◌<◌, ◌≤◌, eqb, length, get_or, take, drop};
 ghost use Rattle.word.specs.Word.{pick};
 ghost use Rattle.machine.specs.Machine.{is_locked};
@@ -9,14 +10,14 @@ use image::HEADER_BYTES;
 use machine::State;
 use refusal::Refusal;
 
-#[derive(Drop)]
+#[derive(Clone, Copy)]
 pub enum Saving {
     Written(usize),
     Refused(Refusal),
 }
 
 // What a save replies: the state as it was handed, and the file's length or the refusal.
-#[derive(Drop)]
+#[derive(Clone, Copy)]
 pub struct Saved {
     pub state: State,
     pub reply: Saving,

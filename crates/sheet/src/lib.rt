@@ -1,4 +1,5 @@
 // A usage sheet: the counts of a show's runs.
+#![tactic(auto)]
 ghost use Rattle.std.specs.Prelude.{◌≡◌, ◌<◌, length};
 ghost use Rattle.run.specs.Runs.{shown_answer};
 ghost use Rattle.sheet.specs.Sheet.{empty, sums, with_run, shown_feeding, FeedLeft, feed_by, feed_left};
@@ -9,7 +10,7 @@ use std::num::wrapping_add_u64;
 use usage::Usage;
 
 #[repr(C)]
-#[derive(Drop)]
+#[derive(Clone, Copy)]
 pub struct Sheet {
     pub kinds: [u64; kinds::COUNT],
     pub taken: u64,
@@ -18,14 +19,14 @@ pub struct Sheet {
     pub runs: u16,
 }
 
-#[derive(Drop)]
+#[derive(Clone, Copy)]
 pub enum Feeding {
     Taken,
     Refused(Refusal),
 }
 
 // What feeding replies. An enum cannot hold the sheet's arrays in covered form, so the sheet stands beside the reply.
-#[derive(Drop)]
+#[derive(Clone, Copy)]
 pub struct Fed {
     pub sheet: Sheet,
     pub reply: Feeding,

@@ -10,7 +10,7 @@ use crate::rows;
 use token::Token;
 
 // The name stands from label to until, which are 0 where there is none. The row is ROWS where there is no statement.
-#[derive(Drop)]
+#[derive(Clone, Copy)]
 pub struct Content {
     pub label: usize,
     pub until: usize,
@@ -18,7 +18,7 @@ pub struct Content {
     pub parts: Parts,
 }
 
-#[derive(Drop)]
+#[derive(Clone, Copy)]
 pub enum Line {
     Outside,
     Reads(Content),

@@ -11,7 +11,7 @@ use expression::{Answer, Value};
 use token::Token;
 
 // The registers of a statement and the value of its expression; 0 where it has none.
-#[derive(Drop)]
+#[derive(Clone, Copy)]
 pub struct Parts {
     pub a: u8,
     pub b: u8,
@@ -20,7 +20,7 @@ pub struct Parts {
 }
 
 // What was read: the parts so far, and where the next operand begins; or nothing.
-#[derive(Drop)]
+#[derive(Clone, Copy)]
 pub enum Operands {
     Refused,
     Read { parts: Parts, next: usize },

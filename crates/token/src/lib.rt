@@ -1,11 +1,12 @@
 // The tokens of a line of text, found one by one from a position on.
+#![tactic(auto)]
 ghost use Rattle.std.specs.Prelude.{◌≡◌, true, ◌⊎◌, ◌<◌, ◌≤◌, min, length, get_or};
 ghost use Rattle.token.specs.Tokens.{between, is_digit, is_letter, is_letter_or_digit};
 ghost use Rattle.token.specs.Scan.{symbol_of, part, alike, Skipped, Ended, TokenAt};
 
 // The token at or after a position, if its line has one: its symbol is its byte, if it has one byte only, 256 if it is `<<`, and
 // else 257; its bytes stand from start to end.
-#[derive(Drop)]
+#[derive(Clone, Copy)]
 pub enum Token {
     End,
     Here {

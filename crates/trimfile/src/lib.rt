@@ -1,4 +1,5 @@
 // What the program `panelasm` writes for a text: a trim file, or why there is none.
+#![tactic(auto)]
 ghost use Rattle.std.specs.Prelude.{◌≡◌};
 ghost use Rattle.refusal.specs.Refusals.{refusal_number};
 ghost use Rattle.trimfile.specs.TrimFile.{FileLeft, turned_away, saved_left, file_left};
@@ -14,7 +15,7 @@ use save::Saving;
 pub const FILE_BYTES: usize = HEADER_BYTES + assembler::PROGRAM_BYTES;
 
 // The length of the trim file, and no diagnostic; or 0 and the diagnostic.
-#[derive(Drop)]
+#[derive(Clone, Copy)]
 pub struct Trim {
     pub length: usize,
     pub diagnostic: Printed,

@@ -1,4 +1,5 @@
 // The counts of a run: steps by kind, lines taken, and reads and writes by register.
+#![tactic(auto)]
 ghost use Rattle.std.specs.Prelude.{◌≡◌, ◌<◌, ◌≤◌, eqb, length, get_or};
 ghost use Rattle.kinds.specs.Kinds.{kind_count};
 ghost use Rattle.isa.specs.Masks.{masks_of};
@@ -6,7 +7,7 @@ ghost use Rattle.usage.specs.Usage.{word_is, added, counted_by, counted, unused}
 ghost use Rattle.usage.specs.Counting.{counters, Below, Countable, either_of, counted_three, Few, ticks_counted};
 
 #[repr(C)]
-#[derive(Drop)]
+#[derive(Clone, Copy)]
 pub struct Usage {
     pub kinds: [u64; kinds::COUNT],
     pub taken: u64,
