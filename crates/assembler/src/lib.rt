@@ -1,5 +1,6 @@
 // The assembler: a trim written as text, and its words in a program memory.
 #![tactic(auto)]
+
 ghost use Rattle.std.specs.Prelude.{◌≡◌, ◌≤◌, ◌⊎◌, length};
 ghost use Rattle.refusal.specs.Refusals.{refusal_number};
 ghost use Rattle.assembler.specs.Text.{AssembleLeft, assemble_left};

@@ -1,5 +1,6 @@
 // Going back by the journal that runs kept.
 #![tactic(auto)]
+
 ghost use Rattle.std.specs.Prelude.{◌≡◌, min};
 ghost use Rattle.back.specs.Backs.{steps_held, GoesBack};
 ghost use Rattle.back.specs.Parts.{CanGo, GoneBack};

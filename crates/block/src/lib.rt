@@ -1,5 +1,6 @@
 // Copying a block of bytes.
 #![tactic(auto)]
+
 ghost use Rattle.std.specs.Prelude.{◌≡◌, length};
 
 pub fn copy(source: &[u8], target: &mut [u8])

@@ -1,5 +1,6 @@
 // The fetch, loads and stores of data memory, and the ports. A data word's address has bit 0 cleared; nothing is refused.
 #![tactic(auto)]
+
 ghost use Rattle.std.specs.Prelude.{◌≡◌, ◌+◌, ◌*◌, ◌%◌, ◌<◌, length, get_or, set};
 ghost use Rattle.word.specs.Word.{clear0};
 ghost use Rattle.machine.specs.Held.{Fetches};

@@ -1,5 +1,6 @@
 // Plays pseudo-random calls on pseudo-random files, and prints what docs/CONFORMANCE.md says.
 #![tactic(auto)]
+
 use machine::State;
 use player::file::Sort;
 

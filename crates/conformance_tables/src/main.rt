@@ -1,5 +1,6 @@
 // Runs pseudo-random files by pseudo-random control tables, and prints what docs/CONFORMANCE.md says.
 #![tactic(auto)]
+
 use machine::State;
 
 mod runs;

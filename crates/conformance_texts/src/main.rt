@@ -1,5 +1,6 @@
 // Assembles the texts on standard input, each ended by a byte 0, and prints what docs/CONFORMANCE.md says.
 #![tactic(auto)]
+
 ghost use Rattle.std.specs.Prelude.{◌≤◌, length};
 
 use libc::STDIN_FILENO;

@@ -1,5 +1,6 @@
 // The control table: its 32 words, and the word of a table for an instruction word.
 #![tactic(auto)]
+
 ghost use Rattle.std.specs.Prelude.{◌≡◌};
 ghost use Rattle.control.specs.Control.{table, control_in};
 

@@ -1,5 +1,6 @@
 // The loop of a run: take a line, or fetch, step and count.
 #![tactic(auto)]
+
 ghost use Rattle.std.specs.Prelude.{◌≡◌, false, ◌+◌, ◌%◌, ◌≤◌, length};
 ghost use Rattle.machine.specs.Held.{held, Ready, TestsLock, StepsAs};
 ghost use Rattle.run.specs.declared.Answer.TheVariants.{Stopped};

@@ -1,5 +1,6 @@
 // The step by a control word: everything but the operands, and f in units 0, 1 and 5 and with bit 15, is learnt from the control word.
 #![tactic(auto)]
+
 ghost use Rattle.std.specs.Prelude.{◌≡◌, true, false, ◌<◌, leb, length};
 ghost use Rattle.machine.specs.Held.{held, Ready, TestsLock, StepsAs};
 ghost use Rattle.control.specs.Control.{by_interrupt, writes_port, control_step};

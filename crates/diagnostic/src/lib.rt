@@ -1,5 +1,6 @@
 // What the program `panelasm` writes for a text that is refused. The number after `Wrote` is the most bytes that the part has.
 #![tactic(auto)]
+
 ghost use Rattle.std.specs.Prelude.{◌≡◌, [], get_or, drop};
 ghost use Rattle.refusal.specs.Refusals.{refusal_number};
 ghost use Rattle.token.specs.Scan.{first_line};

@@ -1,5 +1,6 @@
 // The word of a statement.
 #![tactic(auto)]
+
 ghost use Rattle.std.specs.Prelude.{◌≡◌, ◌*◌, ◌<◌, ◌≤◌, length};
 ghost use Rattle.encoding.specs.Words.{distance, odd, number_of, encoded};
 ghost use Rattle.statement.specs.Syntax.{table};

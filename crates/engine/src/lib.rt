@@ -1,5 +1,6 @@
 // Runs of a trim, by the rules or by a control table.
 #![tactic(auto)]
+
 ghost use Rattle.machine.specs.Run.{by_rules};
 ghost use Rattle.control.specs.Control.{table, by_control, by_the_table};
 ghost use Rattle.run.specs.Runs.{RunsCounted, RunsJournaled, RunsOnly};

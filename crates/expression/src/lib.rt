@@ -1,6 +1,7 @@
 // Constant expressions: the value of an expression at a position of a text, given a table of names. The table has three numbers
 // for each name: where it begins and ends in the text, and its address.
 #![tactic(auto)]
+
 ghost use Rattle.std.specs.Prelude.{◌≡◌, ℕ, ◌<◌, ◌≤◌, List, length};
 ghost use Rattle.token.specs.Scan.{part, tokens_at};
 ghost use Rattle.expression.specs.Grammar.{value_of};

@@ -1,5 +1,6 @@
 // Loading a trim file, called an image here.
 #![tactic(auto)]
+
 ghost use Rattle.std.specs.Prelude.{◌≡◌, ◌++◌, ◌+◌, ◌-◌, ◌*◌, ◌<◌, ◌≤◌, length, take, drop, replicate, true};
 ghost use Rattle.refusal.specs.Refusals.{accepted};
 ghost use Rattle.machine.specs.declared.Board.TheVariants.{SingleMemory};

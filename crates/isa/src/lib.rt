@@ -1,5 +1,6 @@
 // Reading and writing one instruction.
 #![tactic(auto)]
+
 ghost use Rattle.std.specs.Prelude.{◌≡◌};
 ghost use Rattle.isa.specs.Instructions.{write_of, shown_writing};
 ghost use Rattle.isa.specs.Masks.{decoding_of, shown_decoded};

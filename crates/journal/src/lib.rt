@@ -1,5 +1,6 @@
 // What a step overwrites, as the entry of a journal, and a step taken back by such an entry.
 #![tactic(auto)]
+
 ghost use Rattle.std.specs.Prelude.{◌≡◌, ◌%◌, length};
 ghost use Rattle.journal.specs.Journal.{coded, by_taking, entry_with, is_output};
 ghost use Rattle.journal.specs.Parts.{address_of, register_before, word_before, byte_before, input_before, port_before, interrupt_before, IsEntry, IsUndone};

@@ -1,5 +1,6 @@
 // The kinds of instruction and their numbers.
 #![tactic(auto)]
+
 ghost use Rattle.std.specs.Prelude.{◌≡◌, ◌<◌, length, get_or};
 ghost use Rattle.kinds.specs.declared.Kind.TheVariants.{And};
 ghost use Rattle.kinds.specs.Kinds.{kinds, kind_number};

@@ -1,5 +1,6 @@
 // A program listing: the lines that the program `panellist` prints for a trim file.
 #![tactic(auto)]
+
 ghost use Rattle.std.specs.Prelude.{◌≡◌, [], ◌∷◌};
 ghost use Rattle.refusal.specs.Refusals.{refusal_number, accepted};
 ghost use Rattle.machine.specs.declared.Board.TheVariants.{TwoMemories};

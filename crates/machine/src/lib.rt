@@ -1,5 +1,6 @@
 // The register state, memories and ports of the SISA trim processor.
 #![tactic(auto)]
+
 ghost use Rattle.std.specs.Prelude.{◌≡◌, ◌+◌, ◌-◌, ◌%◌, ◌<◌, eqb};
 ghost use Rattle.word.specs.Fields.{a_of, b_of};
 ghost use Rattle.word.specs.Word.{pick, add};

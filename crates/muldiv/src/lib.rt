@@ -1,5 +1,6 @@
 // Products and quotients of words: the operations of opcode 11.
 #![tactic(auto)]
+
 ghost use Rattle.std.specs.Prelude.{◌≡◌, ltb, nat_abs};
 ghost use Rattle.word.specs.Word.{pick, signed};
 ghost use Rattle.muldiv.specs.Muldiv.{mul, mulh, mulhu, div, divu, muldiv};

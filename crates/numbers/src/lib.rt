@@ -1,5 +1,6 @@
 // The pseudo-random numbers of docs/CONFORMANCE.md.
 #![tactic(auto)]
+
 ghost use Rattle.std.specs.Prelude.{◌≡◌};
 ghost use Rattle.numbers.specs.Numbers.{number_of, mixed};
 

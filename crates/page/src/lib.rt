@@ -1,5 +1,6 @@
 // Several trims under one allowance.
 #![tactic(auto)]
+
 ghost use Rattle.std.specs.Prelude.{◌≡◌};
 ghost use Rattle.refusal.specs.Refusals.{accepted};
 ghost use Rattle.machine.specs.Run.{by_rules};

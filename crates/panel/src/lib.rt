@@ -1,5 +1,6 @@
 // What a host does at the panel besides runs: setting an input, raising a line, and the window on a memory.
 #![tactic(auto)]
+
 ghost use Rattle.std.specs.Prelude.{◌≡◌, ◌-◌};
 ghost use Rattle.panel.specs.Calls.{SetLeft, set_left, shown_setting, RaiseLeft, raise_left, shown_raising, part_of, holds_locked, window_of};
 

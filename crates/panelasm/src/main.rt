@@ -1,6 +1,7 @@
 // Reads a trim's text on standard input, and writes the trim file on standard output; where the text is refused, writes nothing
 // there, and the diagnostic on standard error.
 #![tactic(auto)]
+
 use assembler::TEXT_BYTES;
 use libc::{STDERR_FILENO, STDIN_FILENO, STDOUT_FILENO};
 use trimfile::FILE_BYTES;

@@ -1,5 +1,6 @@
 // Reads a trim file on standard input, and writes its listing.
 #![tactic(auto)]
+
 use libc::{STDIN_FILENO, STDOUT_FILENO};
 use report::FILE_BYTES;
 

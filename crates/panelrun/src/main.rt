@@ -1,5 +1,6 @@
 // Reads a trim file on standard input, and writes what its run reports.
 #![tactic(auto)]
+
 use libc::{STDIN_FILENO, STDOUT_FILENO};
 use report::FILE_BYTES;
 

@@ -1,5 +1,6 @@
 // Counting by place: words that count alike share a place, and the steps counted at each are added up at once.
 #![tactic(auto)]
+
 ghost use Rattle.std.specs.Prelude.{◌≡◌, true, ◌+◌, ◌<◌, ◌≤◌, eqb, length, get_or};
 ghost use Rattle.usage.specs.Counting.{counters, raised};
 ghost use Rattle.places.specs.Places.{with_taken, counted_steps, Fits, Room, reads_by, writes_by, place_of, word_of, NoneFrom, folded};

@@ -1,6 +1,7 @@
 // A text being written: bytes, words and numbers. A byte beyond the array's end is dropped; that a text is not so long is shown
 // where its parts are joined (`wrote_held` of proofs/Writing.antt).
 #![tactic(auto)]
+
 ghost use Rattle.std.specs.Prelude.{[], ◌∷◌, ◌≡◌, ◌<◌, length};
 ghost use Rattle.printing.specs.Text.{digit, decimal, hex4, in_array};
 ghost use Rattle.printing.specs.Writing.{Wrote};

@@ -1,5 +1,6 @@
 // The numbered refusals of 01's table and of 02; specs/Refusals.antt has the number and the condition of each.
 #![tactic(auto)]
+
 ghost use Rattle.std.specs.Prelude.{◌≡◌};
 ghost use Rattle.refusal.specs.Refusals.{refusal_number};
 

@@ -1,5 +1,6 @@
 // The structs of the C interface, include/sisa.h, and the replies of the crates that do the work in its numbers.
 #![tactic(auto)]
+
 ghost use Rattle.std.specs.Prelude.{◌≡◌, eqb};
 ghost use Rattle.word.specs.Word.{pick};
 ghost use Rattle.image.specs.Image.{shown_loading};

@@ -1,5 +1,6 @@
 // What the program `panelrun` prints for a trim file: the file is loaded and run by the control table.
 #![tactic(auto)]
+
 ghost use Rattle.std.specs.Prelude.{◌≡◌, replicate};
 ghost use Rattle.refusal.specs.Refusals.{refusal_number};
 ghost use Rattle.control.specs.Control.{by_the_table};

@@ -1,5 +1,6 @@
 // The engine by the rules: the step of a word.
 #![tactic(auto)]
+
 ghost use Rattle.std.specs.Prelude.{◌≡◌, true, false, List, ℕ, ◌/◌, ◌<◌, ◌≤◌, length};
 ghost use Rattle.machine.specs.Step.{rule, choice, step_by, output};
 ghost use Rattle.machine.specs.Run.{is_out};

@@ -1,5 +1,6 @@
 // What a run replies, and the tests that refuse it.
 #![tactic(auto)]
+
 ghost use Rattle.std.specs.Prelude.{◌≡◌, ◌+◌, ◌≤◌};
 ghost use Rattle.usage.specs.Counting.{Few};
 ghost use Rattle.run.specs.Runs.{shown_verdict, verdict, journal_if, allowed_in};

@@ -1,5 +1,6 @@
 // A usage sheet: the counts of a show's runs.
 #![tactic(auto)]
+
 ghost use Rattle.std.specs.Prelude.{◌≡◌, ◌<◌, length};
 ghost use Rattle.run.specs.Runs.{shown_answer};
 ghost use Rattle.sheet.specs.Sheet.{empty, sums, with_run, shown_feeding, FeedLeft, feed_by, feed_left};

@@ -1,6 +1,7 @@
 // The C interface, include/sisa.h, which says what each function and field is. A function calls the crate that does the work
 // and hands on its reply in numbers.
 #![tactic(auto)]
+
 ghost use Rattle.std.specs.Prelude.{◌≡◌};
 ghost use Rattle.machine.specs.Run.{by_rules};
 ghost use Rattle.control.specs.Control.{by_the_table};

@@ -1,5 +1,6 @@
 // The tokens of a line of text, found one by one from a position on.
 #![tactic(auto)]
+
 ghost use Rattle.std.specs.Prelude.{◌≡◌, true, ◌⊎◌, ◌<◌, ◌≤◌, min, length, get_or};
 ghost use Rattle.token.specs.Tokens.{between, is_digit, is_letter, is_letter_or_digit};
 ghost use Rattle.token.specs.Scan.{symbol_of, part, alike, Skipped, Ended, TokenAt};

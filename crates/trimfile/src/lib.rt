@@ -1,5 +1,6 @@
 // What the program `panelasm` writes for a text: a trim file, or why there is none.
 #![tactic(auto)]
+
 ghost use Rattle.std.specs.Prelude.{◌≡◌};
 ghost use Rattle.refusal.specs.Refusals.{refusal_number};
 ghost use Rattle.trimfile.specs.TrimFile.{FileLeft, turned_away, saved_left, file_left};

@@ -1,5 +1,6 @@
 // The counts of a run: steps by kind, lines taken, and reads and writes by register.
 #![tactic(auto)]
+
 ghost use Rattle.std.specs.Prelude.{◌≡◌, ◌<◌, ◌≤◌, eqb, length, get_or};
 ghost use Rattle.kinds.specs.Kinds.{kind_count};
 ghost use Rattle.isa.specs.Masks.{masks_of};

@@ -1,5 +1,6 @@
 // Arithmetic on 16-bit words: what both engines and the instruction reader share.
 #![tactic(auto)]
+
 ghost use Rattle.std.specs.Prelude.{◌≡◌, ◌*◌, ◌<◌, int_le, int_lt};
 ghost use Rattle.word.specs.Fields.{N6, N8};
 ghost use Rattle.word.specs.Codes.{below6_but};

@@ -1,0 +1,72 @@
+-- Line after line: what stands at each beginning is `Scanning`, and `Writing` where no line is turned away.
+use mathlib.Core.Bool.{Bool, false}
+use mathlib.Core.Path.{refl, subst, sym, ◌∙◌}
+use native.Mathlib.Omega.{arith}
+use borrow.Author.Rules.{rules}
+use Rattle.assembler.specs.declared.passes.Progress.{Progress}
+use Rattle.assembler.specs.Passes.{LineRead}
+use Rattle.assembler.proofs.Scanning.{Scanning, scanning, ready, scanned_on, scanned_last}
+use Rattle.assembler.proofs.Writing.{all_fine, writing, word_room, written_on, written_last}
+use Rattle.assembler.proofs.passes.write.Goals as goal
+
+pub loop-p-init : goal.loop-p-init
+loop-p-init c =
+    let a = c.args in (
+      subst (λ (p : Progress). Scanning a.long a.text.now a.names.now 0 p a.table.now) (sym c.start-p.ensures)
+          (scanning a.long a.text.now a.names.now a.table.now c.requires.0),
+      λ e f. writing a.text.now a.names.now a.program.now (all_fine 1 0 f.count _ f.fine),
+      refl,
+      omega arith,
+    )
+
+pub line_end-end-requires : goal.line_end-end-requires
+line_end-end-requires c = c.loop-p.invariant.0.inside
+
+pub take_line-p-requires : goal.take_line-p-requires
+take_line-p-requires c =
+    ready c.args.long c.args.text.now c.args.names.now c.loop-p.at c.line_end-end.result c.loop-p.p c.loop-p.table
+    c.loop-p.invariant.0 c.read_line-l.result c.read_line-l.ensures c.requires.1
+
+pub write_line-address-requires : goal.write_line-address-requires
+write_line-address-requires c = (c.loop-p.invariant.3, c.loop-p.invariant.2 ∙ c.requires.2)
+
+pub shape_of-table-then-end-text : goal.shape_of-table-then-end-text
+shape_of-table-then-end-text c = c.take_line-p.ensures.room ∙ sym c.requires.0
+
+pub returns-then-end-text : goal.returns-then-end-text
+returns-then-end-text c =
+    let a = c.args in (
+      scanned_last a.long a.text.now a.names.now c.loop-p.at c.line_end-end.result c.loop-p.p c.loop-p.table
+          c.loop-p.invariant.0 c.read_line-l.result c.read_line-l.ensures c.line_end-end.ensures _ _ c.take_line-p.ensures c.if-end-text.true,
+      λ e f.
+          let v = c.loop-p.invariant.1 e f in
+          let q = subst (λ (b : Bool). LineRead b a.text.now a.names.now c.loop-p.at c.line_end-end.result c.read_line-l.result) e c.read_line-l.ensures in
+          written_last a.text.now a.names.now a.program.now c.loop-p.at c.loop-p.address c.loop-p.program v
+          c.line_end-end.result c.line_end-end.ensures _ _
+          (c.write_line-address.ensures.0 _ _ _ _ q
+          (word_room a.text.now a.names.now a.program.now c.loop-p.at c.loop-p.address c.loop-p.program v c.line_end-end.result c.line_end-end.ensures c.requires.1 c.requires.2 c.loop-p.invariant.2))
+          c.if-end-text.true,
+    )
+
+pub overflow_add-at : goal.overflow_add-at
+overflow_add-at c = omega (arith, c.line_end-end.ensures.inside, c.requires.1)
+
+pub loop-p-smaller : goal.loop-p-smaller
+loop-p-smaller c = omega (arith, c.line_end-end.ensures.inside, c.line_end-end.ensures.after, c.if-end-text.false)
+
+pub loop-p-preserved : goal.loop-p-preserved
+loop-p-preserved c =
+    let a = c.args in (
+      scanned_on a.long a.text.now a.names.now c.loop-p.at c.line_end-end.result c.loop-p.p c.loop-p.table
+          c.loop-p.invariant.0 c.read_line-l.result c.read_line-l.ensures c.line_end-end.ensures _ _ c.take_line-p.ensures c.if-end-text.false,
+      λ e f.
+          let v = c.loop-p.invariant.1 e f in
+          let q = subst (λ (b : Bool). LineRead b a.text.now a.names.now c.loop-p.at c.line_end-end.result c.read_line-l.result) e c.read_line-l.ensures in
+          written_on a.text.now a.names.now a.program.now c.loop-p.at c.loop-p.address c.loop-p.program v
+          c.line_end-end.result c.line_end-end.ensures _ _
+          (c.write_line-address.ensures.0 _ _ _ _ q
+          (word_room a.text.now a.names.now a.program.now c.loop-p.at c.loop-p.address c.loop-p.program v c.line_end-end.result c.line_end-end.ensures c.requires.1 c.requires.2 c.loop-p.invariant.2))
+          c.if-end-text.false,
+      search rules,
+      c.write_line-address.ensures.1,
+    )

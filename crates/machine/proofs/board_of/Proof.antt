@@ -1,8 +1,0 @@
--- By the test.
--- Assumes nothing.
-use borrow.Author.Tests.{eq-eqb, ne_eqb}
-use Rattle.machine.proofs.board_of.Statement.{statement}
-use Rattle.machine.proofs.board_of.Tie as tie
-
-pub board_of_spec : {M : Type 1} → statement M
-board_of_spec = tie.close (tie.spec (λ c. rw (eq-eqb _ _ c.if1.true)) (λ c. rw (ne_eqb _ _ c.if1.false)))

@@ -1,0 +1,13 @@
+-- `muldiv::high_product` meets its contract: a product of two words fits 32 bits, and so its high half fits 16.
+use native.Mathlib.Omega.{arith}
+use Rattle.muldiv.proofs.Products.{product_fits}
+use Rattle.muldiv.proofs.high_product.Goals as goal
+
+pub overflow_mul-result : goal.overflow_mul-result
+overflow_mul-result c = product_fits _ _ c.ranges.x c.ranges.y
+
+pub overflow_cast-result-3 : goal.overflow_cast-result-3
+overflow_cast-result-3 c = omega (arith, mul-result c)
+
+pub returns : goal.returns
+returns c = omega (arith, mul-result c)

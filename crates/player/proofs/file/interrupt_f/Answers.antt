@@ -1,0 +1,12 @@
+-- By the number.
+use Rattle.std.proofs.Common.{rules, ne_eqb}
+use Rattle.player.proofs.file.interrupt_f.Goals as goal
+
+pub returns-in-2 : goal.returns-in-2
+returns-in-2 c = (rw c.in-2.is, search rules)
+
+pub returns-in-3 : goal.returns-in-3
+returns-in-3 c = (rw c.in-3.is, search rules)
+
+pub returns-in_default : goal.returns-in_default
+returns-in_default c = (rw (ne_eqb _ _ c.in_default.0.1, ne_eqb _ _ c.in_default.1), search rules)

@@ -1,0 +1,15 @@
+-- Part after part of the line; there are eight registers.
+use native.Mathlib.Omega.{arith}
+use lib.ListN.{length}
+use mathlib.Core.Path.{◌≡◌}
+use borrow.Author.Rules.{rules}
+use Rattle.report.specs.Printed.{registers_line}
+use Rattle.printing.proofs.Writing.{◌then◌, at_most}
+use Rattle.report.proofs.lines.with_registers.Goals as goal
+
+pub returns : goal.returns
+unfolding registers_line
+returns c =
+    let eight : length c.args.state.r ≡ 8 = search rules in
+    at_most (omega (arith, eight))
+    (c.with_byte.ensures then c.with_each_register.ensures then c.with_byte-2.ensures)

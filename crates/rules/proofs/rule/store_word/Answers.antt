@@ -1,0 +1,13 @@
+-- `rules::rule::store_word` meets its contract, by the equations of what it calls.
+use mathlib.Core.Path.{◌∙◌}
+use Rattle.word.specs.Word.{clear0}
+use Rattle.machine.specs.Machine.{put_word}
+use Rattle.rules.proofs.Values.{sum_is}
+use Rattle.rules.proofs.rule.store_word.Goals as goal
+
+pub returns : goal.returns
+returns c =
+    let p = c.sources-p.ensures in
+    let start = c.args in
+    let at = sum_is start.w start.state c.sum.ensures p.0 in
+    c.store_word.ensures ∙ (λ i. put_word (clear0 (at i)) (p.1 i) start.memory.now)

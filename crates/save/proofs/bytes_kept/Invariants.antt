@@ -1,0 +1,10 @@
+-- The loop drops blocks of zeros (`Narrowed`); the measure is the number of bytes left.
+use lib.ListN.{length, get_or}
+use Rattle.save.proofs.Kept.{Narrowed}
+use Rattle.save.proofs.bytes_kept.Given as goal
+
+abbrev pub invariant-loop-end : goal.invariant-loop-end
+invariant-loop-end l = Narrowed (λ k. get_or l.bytes k 0) (length l.bytes) l.end
+
+abbrev pub decreases-loop-end : goal.decreases-loop-end
+decreases-loop-end l = l.end
