@@ -2,4 +2,4 @@ use Rattle.assembler.proofs.Replying.{the_third}
 use Rattle.assembler.proofs.refusal_of.Goals as goal
 
 pub returns-in_default : goal.returns-in_default
-returns-in_default c = the_third _ c.requires c.in_default.0.1 c.in_default.1
+returns-in_default c = the_third _ c.requires c.in_default.in_default-own.rest.0.1 c.in_default.in_default-own.rest.1

@@ -41,6 +41,6 @@ returns-in-12 c = entry_at _ _ _ _ _ c.ranges.w.fits 12 c.in-12.is (λ P L. c.of
 
 pub returns-in_default : goal.returns-in_default
 returns-in_default c =
-    let others = c.in_default in
+    let others = c.in_default.in_default-own.rest in
     let upper = past 8 _ others.0.0.0.0 in
     entry_of_none _ _ _ _ _ c.ranges.w.fits (over_12 _ upper others.0.0.0.1 others.0.0.1 others.0.1 others.1) c.coded.ensures

@@ -67,5 +67,5 @@ returns-in-7 c =
 pub returns-in_default : goal.returns-in_default
 returns-in_default c =
     let a = c.args in
-    undo_of_none _ _ _ _ _ _ _ _ _ (over_to 7 _ c.in_default)
+    undo_of_none _ _ _ _ _ _ _ _ _ (over_to 7 _ c.in_default.in_default-own.rest)
     (λ P L. ap (λ t. machine_with t a.memory.now a.inputs.now a.outputs.now P L) (sym c.retreated-back.ensures))

@@ -7,4 +7,4 @@ pub overflow_mul-result : goal.overflow_mul-result
 overflow_mul-result c = product_fits _ _ c.ranges.x c.ranges.y
 
 pub overflow_cast-result-3 : goal.overflow_cast-result-3
-overflow_cast-result-3 c = omega (arith, mul-result c)
+overflow_cast-result-3 c = omega (arith, overflow_mul-result c)

@@ -9,10 +9,10 @@ pub slice_bounds-file-end : goal.slice_bounds-file-end
 slice_bounds-file-end c = omega (arith, (fits _ _ c.from_text-trim.ensures).file)
 
 pub slice_bounds-write_all-end : goal.slice_bounds-write_all-end
-slice_bounds-write_all-end c = sym (length-take-le _ _ (array-share-prefix-file c))
+slice_bounds-write_all-end c = sym (length-take-le _ _ (slice_bounds-file-end c))
 
 pub slice_bounds-bytes-end : goal.slice_bounds-bytes-end
 slice_bounds-bytes-end c = (fits _ _ c.from_text-trim.ensures).diagnostic
 
 pub slice_bounds-write_all-end-2 : goal.slice_bounds-write_all-end-2
-slice_bounds-write_all-end-2 c = sym (length-take-le _ _ (array-share-prefix-bytes c))
+slice_bounds-write_all-end-2 c = sym (length-take-le _ _ (slice_bounds-bytes-end c))

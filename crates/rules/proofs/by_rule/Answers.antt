@@ -72,4 +72,4 @@ returns-in-12 c = c.interrupt.ensures _
 pub returns-in_default : goal.returns-in_default
 returns-in_default c =
     let w = c.args.w in
-    stopped (past_12 _ w c.ranges.w.fits c.requires.0.opcode (omega (arith, past_from 2 8 c.args.op c.requires.1.0.0 c.in_default.0.0, c.in_default.0.1, c.in_default.1, c.requires.1.0.1))) c.stopped.ensures
+    stopped (past_12 _ w c.ranges.w.fits c.requires.0.opcode (omega (arith, past_from 2 8 c.args.op c.requires.1.0.0 c.in_default.in_default-own.rest.0.0, c.in_default.in_default-own.rest.0.1, c.in_default.in_default-own.rest.1, c.requires.1.0.1))) c.stopped.ensures

@@ -98,4 +98,4 @@ pub returns-else-f-eq3-2 : goal.returns-else-f-eq3-2
 returns-else-f-eq3-2 c = interrupt _ _ (omega arith) (rw (le-ltb _ 3 c.if-f-lt3.false, ne_eqb _ 3 c.if-f-eq3-2.false))
 
 pub returns-in_default : goal.returns-in_default
-returns-in_default c = past_12 _ _ (omega (arith, past 13 _ c.in_default))
+returns-in_default c = past_12 _ _ (omega (arith, past 13 _ c.in_default.in_default-own.rest))

@@ -25,4 +25,4 @@ returns-in-3 c = rw (div-one, c.in-3.is) c.write_destination.ensures
 pub returns-in_default : goal.returns-in_default
 returns-in_default c =
     let a = c.args in
-    rw div-one (sym (get_or-eq_default (interrupt_rules (written a.control a.w) a.next) a.next (past 4 _ c.in_default)))
+    rw div-one (sym (get_or-eq_default (interrupt_rules (written a.control a.w) a.next) a.next (past 4 _ c.in_default.in_default-own.rest)))

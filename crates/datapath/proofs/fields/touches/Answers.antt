@@ -14,4 +14,4 @@ returns-in-2 c =
     rw c.in-2.is (c.locks_byte.ensures ∙ sym (or-false (is_locked a.u a.state)))
 
 pub returns-in_default : goal.returns-in_default
-returns-in_default c = let a = c.args in none_touched a.k a.u a.state c.in_default.0.1 c.in_default.1
+returns-in_default c = let a = c.args in none_touched a.k a.u a.state c.in_default.in_default-own.rest.0.1 c.in_default.in_default-own.rest.1

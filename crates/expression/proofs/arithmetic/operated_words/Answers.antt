@@ -27,4 +27,4 @@ returns-in-38 c = rw c.in-38.is
 
 pub returns-in_default : goal.returns-in_default
 unfolding operated_of operator_by
-returns-in_default c = let a = c.args in sym (ap (λ o. operated_of o a.x a.y) (last_operator c.in_default))
+returns-in_default c = let a = c.args in sym (ap (λ o. operated_of o a.x a.y) (last_operator c.in_default.in_default-own.rest))

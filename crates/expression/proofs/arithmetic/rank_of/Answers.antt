@@ -30,4 +30,4 @@ returns-in-124 c = rw c.in-124.is
 
 pub returns-in_default : goal.returns-in_default
 unfolding rank_by
-returns-in_default c = sym (no_rank c.in_default)
+returns-in_default c = sym (no_rank c.in_default.in_default-own.rest)

@@ -36,6 +36,6 @@ returns-in-44 c = rw c.in-44.is (at_most (omega arith) c.with_word.ensures)
 pub returns-in_default : goal.returns-in_default
 unfolding item_of
 returns-in_default c =
-    let r = c.in_default in
+    let r = c.in_default.in_default-own.rest in
     rw (ne_eqb _ _ r.0.0.0.0.1, ne_eqb _ _ r.0.0.0.1, ne_eqb _ _ r.0.0.1, ne_eqb _ _ r.0.1, ne_eqb _ _ r.1)
     (at_most (omega arith) c.with_byte.ensures)

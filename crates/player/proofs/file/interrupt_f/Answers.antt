@@ -9,4 +9,4 @@ pub returns-in-3 : goal.returns-in-3
 returns-in-3 c = (rw c.in-3.is, search rules)
 
 pub returns-in_default : goal.returns-in_default
-returns-in_default c = (rw (ne_eqb _ _ c.in_default.0.1, ne_eqb _ _ c.in_default.1), search rules)
+returns-in_default c = (rw (ne_eqb _ _ c.in_default.in_default-own.rest.0.1, ne_eqb _ _ c.in_default.in_default-own.rest.1), search rules)

@@ -17,4 +17,4 @@ returns-in-135 c = rw c.in-135.is
 
 pub returns-in_default : goal.returns-in_default
 unfolding knob_word
-returns-in_default c = rw (ne_eqb _ _ c.in_default.0.0.1, ne_eqb _ _ c.in_default.0.1, ne_eqb _ _ c.in_default.1) c.enabling_word.ensures
+returns-in_default c = rw (ne_eqb _ _ c.in_default.in_default-own.rest.0.0.1, ne_eqb _ _ c.in_default.in_default-own.rest.0.1, ne_eqb _ _ c.in_default.in_default-own.rest.1) c.enabling_word.ensures

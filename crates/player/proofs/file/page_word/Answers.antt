@@ -21,4 +21,4 @@ returns-in-1 c = rw (lt-ltb _ _ c.if-j-ge30.false, ← c.number.ensures, c.in-1.
 
 pub returns-in_default : goal.returns-in_default
 unfolding page_word
-returns-in_default c = rw (lt-ltb _ _ c.if-j-ge30.false, ← c.number.ensures, ne_eqb _ _ c.in_default.0.1, ne_eqb _ _ c.in_default.1, ← c.number-in_default.ensures) c.addi_word.ensures
+returns-in_default c = rw (lt-ltb _ _ c.if-j-ge30.false, ← c.number.ensures, ne_eqb _ _ c.in_default.in_default-own.rest.0.1, ne_eqb _ _ c.in_default.in_default-own.rest.1, ← c.number-in_default.ensures) c.addi_word.ensures

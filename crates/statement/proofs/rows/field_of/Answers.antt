@@ -19,5 +19,5 @@ returns-in-21 c = rw c.in-21.is
 pub returns-in_default : goal.returns-in_default
 unfolding field_of
 returns-in_default c =
-    let r = c.in_default in
+    let r = c.in_default.in_default-own.rest in
     rw (ne_eqb _ _ r.0.0.1, ne_eqb _ _ r.0.1, ne_eqb _ _ r.1) at (field_row _ c.requires)
