@@ -239,7 +239,7 @@ loop-steps-2-preserved c =
     turned_on n
     (turns a.through_table a.table.now v (in_budget n c.loop-steps-2-test.true) (takes c) (clear c).fetch c.fetch-w.ensures c.step-done.ensures c.if-done-ne0.false
     (⊎_elim
-    (λ w. counts_by_place _ v.counting c.fetch-w.type-inv w.1.ensures.0 w.1.ensures.1 w.0.taken w.3 (λ i. usage_with c.loop-steps-2.taken (w.4 i) (w.5 i) (w.6 i)))
+    (λ w. counts_by_place _ v.counting c.fetch-w.type_inv w.1.ensures.0 w.1.ensures.1 w.0.taken w.3 (λ i. usage_with c.loop-steps-2.taken (w.4 i) (w.5 i) (w.6 i)))
     (λ w. counts_at_once _ v.counting w.0.left w.5 ((λ i. usage_with c.loop-steps-2.taken (w.6 i) (w.7 i) (w.8 i)) ∙ ap (with_taken c.loop-steps-2.taken) w.4.ensures))
     c.if-counts-ge-PLACES.branch)
     (⊎_elim (λ w c P L. w.5 ∙ w.4.ensures P L) (λ w c. never (sym w.0.left ∙ c)) c.if-keeps-2.branch)

@@ -16,7 +16,7 @@ written_is c =
     let n = c.before in
     let t = n.before.before.before in
     let even = sym t.is_odd.ensures ∙ n.before.before.if2.false in
-    let number = handed_on n.number_of.type-inv n.number_of.ensures in
+    let number = handed_on n.number_of.type_inv n.number_of.ensures in
     written_row _ _ _ t.before.before.if1.false t.before.field_of.ensures even n.before.kind_at.ensures number c.write.ensures
 
 pub returns-then-row-eq-WORD : goal.returns-then-row-eq-WORD

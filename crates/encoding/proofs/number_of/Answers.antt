@@ -13,7 +13,7 @@ other c e l u = ⊎_elim (λ w. omega arith) (⊎_elim (λ w. omega arith) (λ w
 pub returns-then-field-eq2 : goal.returns-then-field-eq2
 returns-then-field-eq2 c =
     handed_on
-    c.signed_in.type-inv
+    c.signed_in.type_inv
     (c.signed_in.ensures
     ∙ ap (λ d. signed_in 16384 (d / 2)) c.distance.ensures
     ∙ number_target _ _ c.if-field-eq2.true)
@@ -21,11 +21,11 @@ returns-then-field-eq2 c =
 pub returns-then-v-le255 : goal.returns-then-v-le255
 returns-then-v-le255 c =
     handed_on
-    c.signed_in-then-v-le255.type-inv
+    c.signed_in-then-v-le255.type_inv
     (c.signed_in-then-v-le255.ensures ∙ number_eight_bits _ _ c.if-field-eq1.true c.if-v-ge128.true c.if-v-le255.true)
 
 pub returns : goal.returns
 returns c =
     handed_on
-    c.signed_in-2.type-inv
+    c.signed_in-2.type_inv
     (c.signed_in-2.ensures ∙ number_signed _ _ (omega arith) c.if-field-eq2.false (other c))

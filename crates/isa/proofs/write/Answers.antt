@@ -11,5 +11,5 @@ pub returns : goal.returns
 unfolding write_of
 returns c =
     let i = c.args.i in
-    ap (λ (r : Writing). shown_writing r) (c.word_of.ensures ∙ ap (λ (m : Layout). write_in m i) c.layout_of-m.ensures.0)
+    ap (λ (r : Writing). shown_writing r) (c.word_of.ensures ∙ ap (λ (m : Layout). write_in m i) c.layout_of-m.ensures.is)
     ∙ write_is i

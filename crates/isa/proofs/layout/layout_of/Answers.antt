@@ -16,4 +16,4 @@ pub returns : goal.returns
 returns c =
     let k = c.args.kind in
     let e : c.in_numbers.result ≡ layout_of (form_of k) = c.in_numbers.ensures ∙ ap layout_of (c.form_at.ensures ∙ ap (λ (n : ℕ). get_or forms n (Abd 0)) c.kind_number.ensures) in
-    (e, rw e (sound k))
+    record { is = e; sound = rw e (sound k) }

@@ -6,6 +6,6 @@ pub returns : goal.returns
 returns c =
     let start = c.args in
     let m = c.layout_of-m in
-    touched start.kind start.w m.result m.ensures.0
+    touched start.kind start.w m.result m.ensures.is
     c.register_mask-a.ensures c.register_mask-b.ensures c.register_mask-d.ensures
     c.reads_destination.ensures c.chosen.ensures

@@ -8,27 +8,17 @@ use mir.Val.{to_z, of_z}
 use Rattle.isa.specs.Layouts.{bits_of, write_bits, write_in}
 use Rattle.isa.specs.declared.Writing.TheVariants.{Word}
 use Rattle.isa.proofs.Numbers.{back}
+use Rattle.isa.specs.declared.layout.Layout.{Layout}
+use Rattle.isa.specs.declared.Instruction.{Instruction}
+use Rattle.isa.specs.declared.parts.Low.{Low}
 use Rattle.isa.proofs.parts.word_of.Goals as goal
 
--- the parameters, as they are past the tests
-abbrev at_start : tie.After-low-bits → tie.Start
-at_start c = c.before.before.before.before.before.before.before.before.before.before.before
-
-same_n : (c : tie.After-low-bits) → to_z w16 (of_z w16 (at_start c).args.i.n) ≡ (at_start c).args.i.n
-same_n c = search rules
-
-accepted : (c : tie.After-low-bits) → write_in (at_start c).args.m (at_start c).args.i ≡ write_bits (at_start c).args.m (at_start c).args.i c.low-bits.result
-accepted c =
-    simp
-    (lt-ltb _ _ c.before.before.before.before.before.if1.false, lt-ltb _ _ c.before.before.before.if2.false, lt-ltb _ _ c.before.if3.false)
-    (ap (write_bits (at_start c).args.m (at_start c).args.i) (sym (c.low-bits.ensures ∙ ap (bits_of (at_start c).args.m.size (at_start c).args.m.negatives) (same_n c))))
-
-low_small : (c : tie.After-x) → c.x.given.0.0 < (at_start c.before.before).args.m.size
-low_small c =
-    let n = (at_start c.before.before).args.i.n in
-    let l = c.before.before.low-bits in
-    let a = at_start c.before.before in
-    (back a.args.m.size a.args.m.negatives (to_z w16 (of_z w16 n)) _ a.pre.negatives_few (sym l.ensures ∙ c.x.given.1)).0
+-- past the tests of a, b and d the answer is by the bits of n, which a word holds
+accepted :
+    (m : Layout) (i : Instruction) (l : Low) → i.a < m.a → i.b < m.b → i.d < m.d → to_z w16 (of_z w16 i.n) ≡ i.n
+    → l ≡ bits_of m.size m.negatives (to_z w16 (of_z w16 i.n)) → write_in m i ≡ write_bits m i l
+accepted m i l a b d s e =
+    simp (lt-ltb _ _ a, lt-ltb _ _ b, lt-ltb _ _ d) (ap (write_bits m i) (sym (e ∙ ap (bits_of m.size m.negatives) s)))
 
 pub returns-then-m-a : goal.returns-then-m-a
 returns-then-m-a c = simp (le-ltb _ _ c.if-m-a.true)
@@ -42,14 +32,16 @@ returns-then-m-d c =
     (lt-ltb _ _ c.if-m-a.false, lt-ltb _ _ c.if-m-b.false, le-ltb _ _ c.if-m-d.true)
 
 pub sum-requires : goal.sum-requires
-sum-requires c = (at_start c).requires.room _ _ _ _ c.if-m-a.false c.if-m-b.false c.if-m-d.false (low_small c)
+sum-requires c =
+    let small = (back c.args.m.size c.args.m.negatives (to_z w16 (of_z w16 c.args.i.n)) _ c.requires.negatives_few (sym c.low_bits.ensures ∙ c.in-Bits.is)).0 in
+    c.requires.room _ _ _ _ c.if-m-a.false c.if-m-b.false c.if-m-d.false small
 
 pub returns-in-Nothing : goal.returns-in-Nothing
-returns-in-Nothing c = sym (accepted c ∙ ap (write_bits _ _) c.in-Nothing.is)
+returns-in-Nothing c =
+    let same : to_z w16 (of_z w16 c.args.i.n) ≡ c.args.i.n = search rules in
+    sym (accepted c.args.m c.args.i c.low_bits.result c.if-m-a.false c.if-m-b.false c.if-m-d.false same c.low_bits.ensures ∙ ap (write_bits c.args.m c.args.i) c.in-Nothing.is)
 
 pub returns-in-Bits : goal.returns-in-Bits
 returns-in-Bits c =
-    sym
-    (accepted c
-    ∙ ap (write_bits _ _) c.in-Bits.is
-    ∙ ap Word (sym c.sum.ensures))
+    let same : to_z w16 (of_z w16 c.args.i.n) ≡ c.args.i.n = search rules in
+    sym (accepted c.args.m c.args.i c.low_bits.result c.if-m-a.false c.if-m-b.false c.if-m-d.false same c.low_bits.ensures ∙ ap (write_bits c.args.m c.args.i) c.in-Bits.is ∙ ap Word (sym c.sum.ensures))

@@ -1,7 +1,7 @@
 -- The tables' rule is one computed test.
 use mathlib.Core.List.{◌++◌, map}
 use mathlib.Core.Path.{◌≡◌, refl, ◌∙◌, ap}
-use Prim.Native.Nat.{ℕ, ◌+◌, ◌-◌, ◌*◌, ◌/◌, ◌%◌, ◌<◌}
+use Prim.Native.Nat.{ℕ, ◌+◌, ◌-◌, ◌*◌, ◌/◌, ◌%◌, ◌<◌, ◌≤◌}
 use native.Mathlib.Omega.{arith}
 use borrow.Author.Tests.{lt-ltb, le-ltb, eq-eqb, ne_eqb}
 use lib.Dec.{T, eqb, ltb, eqb→eq}
@@ -36,11 +36,11 @@ number_is w e h p =
     ∙ ap entry_number (kind_same w h)
 
 -- past the tests of the opcode, where e is this
-by_e : (c : tie.Else4) (e : ℕ) → let w = c.before.before.before.before.args.w in e ≡ w / 256 % 2
+by_e :
+    (w e : ℕ) → w < 65536 → 2 ≤ w / 4096 → (w / 4096 ≡ 11 → ⊥) → (w / 4096 ≡ 12 → ⊥) → w / 4096 ≤ 12 → e ≡ w / 256 % 2
     → get_or (map (λ (r : KindRow). entry_number (kind_in_row r e 0)) (take 9 (drop 2 kind_rows))) (w / 4096 - 2) 0 ≡ entry_number (kind_at (opcode w) (e_of w) (f_of w))
-by_e c e p =
-    let t = c.before.before.before in
-    rw (le-ltb _ _ t.if1.false, ne_eqb _ _ c.before.before.if2.false, ne_eqb _ _ c.before.if3.false, le-ltb _ _ c.if4.false) at (number_is t.before.args.w e (omega arith) p)
+by_e w e few below n11 n12 above p =
+    rw (le-ltb _ _ below, ne_eqb _ _ n11, ne_eqb _ _ n12, le-ltb _ _ above) at (number_is w e few p)
 
 pub returns-then-op-lt2 : goal.returns-then-op-lt2
 returns-then-op-lt2 c = rw (lt-ltb _ _ c.if-op-lt2.true) at (number_is c.args.w _ (omega arith) refl)
@@ -55,7 +55,7 @@ pub returns-then-op-gt12 : goal.returns-then-op-gt12
 returns-then-op-gt12 c = rw (le-ltb _ _ c.if-op-lt2.false, ne_eqb _ _ c.if-op-eq11.false, ne_eqb _ _ c.if-op-eq12.false, lt-ltb _ _ c.if-op-gt12.true) at (number_is c.args.w _ (omega arith) refl)
 
 pub returns-then-w-eq0 : goal.returns-then-w-eq0
-returns-then-w-eq0 c = by_e c 0 (omega arith)
+returns-then-w-eq0 c = by_e c.args.w 0 (omega arith) c.if-op-lt2.false c.if-op-eq11.false c.if-op-eq12.false c.if-op-gt12.false (omega arith)
 
 pub returns-else-w-eq0 : goal.returns-else-w-eq0
-returns-else-w-eq0 c = by_e c 1 (omega arith)
+returns-else-w-eq0 c = by_e c.args.w 1 (omega arith) c.if-op-lt2.false c.if-op-eq11.false c.if-op-eq12.false c.if-op-gt12.false (omega arith)
