@@ -6,6 +6,8 @@ use player::lent::{Log, Memory, Ports, least};
 use player::print;
 use player::runs::{Request, request_by};
 use replies::SisaBack;
+use std::io;
+use std::io::Write;
 use std::num::wrapping_add_u64;
 
 // How many calls a case makes, below which choice a call is a set, and which bits of a port's number are kept.
@@ -22,7 +24,8 @@ pub const GOING_BACK: Calls = Calls {
     port_bits: 255,
 };
 
-fn set(
+fn set<W: Write>(
+    out: &mut W,
     calls: Calls,
     c: u16,
     j: u16,
@@ -32,11 +35,11 @@ fn set(
     inputs: &mut Ports,
     outputs: &Ports,
     log: &Log,
-) {
+) -> io::Result<()> {
     let port = of_call(c, j, 1) & calls.port_bits;
     let value = of_call(c, j, 2);
-    set_port(c, j, port, value, State::PORTS, inputs);
-    print::left(kept, program, memory, inputs, outputs, log);
+    set_port(out, c, j, port, value, State::PORTS, inputs)?;
+    print::left(out, kept, program, memory, inputs, outputs, log)
 }
 
 // How many steps to go back. (A count is at most the journal's length: the sum does not wrap.)
@@ -79,16 +82,15 @@ fn step_back(
     )
 }
 
-fn print_back(c: u16, j: u16, gone: SisaBack) {
+fn print_back<W: Write>(out: &mut W, c: u16, j: u16, gone: SisaBack) -> io::Result<()> {
     let state = gone.state;
-    start_line(b"back", c, j);
-    print::field(gone.refusal as u64);
-    print::field(gone.entries);
-    print::field(state.journaled);
+    start_line(out, b"back", c, j)?;
+    print::fields(out, &[gone.refusal as u64, gone.entries, state.journaled])
 }
 
 // Going back and its line. Answers what the call returned.
-pub fn back(
+pub fn back<W: Write>(
+    out: &mut W,
     c: u16,
     j: u16,
     kept: State,
@@ -98,11 +100,11 @@ pub fn back(
     outputs: &mut Ports,
     log: &Log,
     journal: &Journal,
-) -> SisaBack {
+) -> io::Result<SisaBack> {
     let gone = step_back(c, j, kept, program, memory, inputs, outputs, journal);
-    print_back(c, j, gone);
-    print::left(gone.state, program, memory, inputs, outputs, log);
-    gone
+    print_back(out, c, j, gone)?;
+    print::left(out, gone.state, program, memory, inputs, outputs, log)?;
+    Ok(gone)
 }
 
 // The state that the host keeps after going back.
@@ -111,7 +113,8 @@ pub fn kept_after_back(kept: State, gone: SisaBack) -> State {
 }
 
 // Call j. Answers the state that the host keeps.
-fn call(
+fn call<W: Write>(
+    out: &mut W,
     calls: Calls,
     c: u16,
     j: u16,
@@ -122,19 +125,23 @@ fn call(
     outputs: &mut Ports,
     log: &mut Log,
     journal: &mut Journal,
-) -> State {
+) -> io::Result<State> {
     let choice = of_call(c, j, 0) % 8;
     if choice < calls.sets {
-        set(calls, c, j, kept, program, memory, inputs, outputs, log);
-        return kept;
+        set(
+            out, calls, c, j, kept, program, memory, inputs, outputs, log,
+        )?;
+        return Ok(kept);
     }
     match choice {
         6 | 7 => {
-            let gone = back(c, j, kept, program, memory, inputs, outputs, log, journal);
-            kept_after_back(kept, gone)
+            let gone = back(
+                out, c, j, kept, program, memory, inputs, outputs, log, journal,
+            )?;
+            Ok(kept_after_back(kept, gone))
         }
         _ => run_on(
-            choice, c, j, kept, program, memory, inputs, outputs, log, journal,
+            out, choice, c, j, kept, program, memory, inputs, outputs, log, journal,
         ),
     }
 }
@@ -145,7 +152,8 @@ pub fn fill(journal: &mut Journal) {
     }
 }
 
-pub fn play(
+pub fn play<W: Write>(
+    out: &mut W,
     calls: Calls,
     c: u16,
     loaded: State,
@@ -154,12 +162,13 @@ pub fn play(
     inputs: &mut Ports,
     outputs: &mut Ports,
     log: &mut Log,
-) {
+) -> io::Result<()> {
     let mut journal = [0u64; JOURNAL_PLACES];
     fill(&mut journal);
     let mut kept = loaded;
     for j in 0..calls.count {
         kept = call(
+            out,
             calls,
             c,
             j,
@@ -170,6 +179,7 @@ pub fn play(
             outputs,
             log,
             &mut journal,
-        );
+        )?;
     }
+    Ok(())
 }

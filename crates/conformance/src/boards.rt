@@ -7,12 +7,15 @@ use numbers::number;
 use player::file::Sort;
 use player::lent::{Log, Memory, Ports};
 use replies::SisaLoad;
+use std::io;
+use std::io::Write;
 
 const LARGE_BYTES: usize = 64016;
 
 type LargeFile = [u8; LARGE_BYTES];
 
-fn play(
+fn play<W: Write>(
+    out: &mut W,
     sort: Sort,
     c: u16,
     program: &mut Memory,
@@ -20,9 +23,9 @@ fn play(
     inputs: &mut Ports,
     outputs: &mut Ports,
     log: &mut Log,
-) {
+) -> io::Result<()> {
     let load = load_whole(sort, c, program, memory, inputs, outputs);
-    play_loaded(c, load, program, memory, inputs, outputs, log);
+    play_loaded(out, c, load, program, memory, inputs, outputs, log)
 }
 
 // The header is 32,000, 16, C, 16.
@@ -53,20 +56,22 @@ fn load_large(
     loads::load(c, &file, program, memory, inputs, outputs)
 }
 
-fn play_large(
+fn play_large<W: Write>(
+    out: &mut W,
     c: u16,
     program: &mut Memory,
     memory: &mut Memory,
     inputs: &mut Ports,
     outputs: &mut Ports,
     log: &Log,
-) {
+) -> io::Result<()> {
     let load = load_large(c, program, memory, inputs, outputs);
-    print_load(b"load", c, load, program, memory, inputs, outputs, log);
+    print_load(out, b"load", c, load, program, memory, inputs, outputs, log)
 }
 
 // A section: cases from `first` on, and from `large` on, up to `end`, files.
-pub fn all(
+pub fn all<W: Write>(
+    out: &mut W,
     sort: Sort,
     first: u16,
     large: u16,
@@ -76,11 +81,12 @@ pub fn all(
     inputs: &mut Ports,
     outputs: &mut Ports,
     log: &mut Log,
-) {
+) -> io::Result<()> {
     for c in first..large {
-        play(sort, c, program, memory, inputs, outputs, log);
+        play(out, sort, c, program, memory, inputs, outputs, log)?;
     }
     for c in large..end {
-        play_large(c, program, memory, inputs, outputs, log);
+        play_large(out, c, program, memory, inputs, outputs, log)?;
     }
+    Ok(())
 }

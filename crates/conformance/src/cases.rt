@@ -9,6 +9,8 @@ use player::file;
 use player::file::{NO_DAMAGE, Sort};
 use player::lent::{Log, Memory, Ports, all_but};
 use replies::SisaLoad;
+use std::io;
+use std::io::Write;
 
 // The memory lent is short where the page says so.
 fn load(
@@ -51,7 +53,8 @@ pub fn load_whole(
 }
 
 // Answers the state that the host keeps.
-fn play_calls(
+fn play_calls<W: Write>(
+    out: &mut W,
     c: u16,
     loaded: State,
     program: &Memory,
@@ -59,19 +62,20 @@ fn play_calls(
     inputs: &mut Ports,
     outputs: &mut Ports,
     log: &mut Log,
-) -> State {
+) -> io::Result<State> {
     let mut kept = Kept {
         state: loaded,
         sheet: sheets::first(c),
     };
     for i in 0..16 {
-        kept = calls::call(c, i, kept, program, memory, inputs, outputs, log);
+        kept = calls::call(out, c, i, kept, program, memory, inputs, outputs, log)?;
     }
-    kept.state
+    Ok(kept.state)
 }
 
 // A case from its load on.
-pub fn play_loaded(
+pub fn play_loaded<W: Write>(
+    out: &mut W,
     c: u16,
     load: SisaLoad,
     program: &mut Memory,
@@ -79,13 +83,14 @@ pub fn play_loaded(
     inputs: &mut Ports,
     outputs: &mut Ports,
     log: &mut Log,
-) {
-    print_load(b"load", c, load, program, memory, inputs, outputs, log);
+) -> io::Result<()> {
+    print_load(out, b"load", c, load, program, memory, inputs, outputs, log)?;
     if load.refusal == 0 {
-        let kept = play_calls(c, load.state, program, memory, inputs, outputs, log);
-        let again = saves::play(c, kept, program, memory, inputs, outputs, log);
+        let kept = play_calls(out, c, load.state, program, memory, inputs, outputs, log)?;
+        let again = saves::play(out, c, kept, program, memory, inputs, outputs, log)?;
         if again.refusal == 0 {
             backs::play(
+                out,
                 GOING_BACK,
                 c,
                 again.state,
@@ -94,19 +99,21 @@ pub fn play_loaded(
                 inputs,
                 outputs,
                 log,
-            );
+            )?;
         }
     }
+    Ok(())
 }
 
-pub fn play(
+pub fn play<W: Write>(
+    out: &mut W,
     c: u16,
     program: &mut Memory,
     memory: &mut Memory,
     inputs: &mut Ports,
     outputs: &mut Ports,
     log: &mut Log,
-) {
+) -> io::Result<()> {
     let load = load_file(c, program, memory, inputs, outputs);
-    play_loaded(c, load, program, memory, inputs, outputs, log);
+    play_loaded(out, c, load, program, memory, inputs, outputs, log)
 }

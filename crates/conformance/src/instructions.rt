@@ -3,6 +3,8 @@ use crate::calls::start_line;
 use player::print;
 use player::runs::of_call;
 use replies::{SisaInstruction, SisaWord};
+use std::io;
+use std::io::Write;
 use std::num::{wrapping_add_u8, wrapping_add_u16};
 
 // n modulo 65,536.
@@ -15,20 +17,23 @@ fn number_of(x: u16) -> i16 {
     if x < 32768 { x as i16 } else { !((!x) as i16) }
 }
 
-fn print_read(read: SisaInstruction) {
-    print::field(read.assigned as u64);
-    print::field(read.kind as u64);
-    print::field(read.a as u64);
-    print::field(read.b as u64);
-    print::field(read.d as u64);
-    print::field(word_of(read.n) as u64);
-    print::field(read.reads as u64);
-    print::field(read.writes as u64);
+fn print_read<W: Write>(out: &mut W, read: SisaInstruction) -> io::Result<()> {
+    let numbers = [
+        read.assigned as u64,
+        read.kind as u64,
+        read.a as u64,
+        read.b as u64,
+        read.d as u64,
+        word_of(read.n) as u64,
+        read.reads as u64,
+        read.writes as u64,
+    ];
+    print::fields(out, &numbers)
 }
 
-fn print_written(written: SisaWord) {
-    print::field(written.refusal as u64);
-    print::last_field(written.word as u64);
+fn print_written<W: Write>(out: &mut W, written: SisaWord) -> io::Result<()> {
+    print::field(out, written.refusal as u64)?;
+    print::last_field(out, written.word as u64)
 }
 
 // What is written after an assigned word was read.
@@ -49,14 +54,14 @@ fn write_changed(read: SisaInstruction, change: u16) -> SisaWord {
     sisa::sisa_write(i.kind, i.a, i.b, i.d, i.n)
 }
 
-pub fn read_and_write(c: u16, i: u16) {
+pub fn read_and_write<W: Write>(out: &mut W, c: u16, i: u16) -> io::Result<()> {
     let read = sisa::sisa_read(of_call(c, i, 1));
-    start_line(b"instruction", c, i);
-    print_read(read);
+    start_line(out, b"instruction", c, i)?;
+    print_read(out, read)?;
     if read.assigned == 1 {
-        print_written(write_changed(read, of_call(c, i, 2) % 8));
+        print_written(out, write_changed(read, of_call(c, i, 2) % 8))
     } else {
         let kind = (of_call(c, i, 3) % 40) as u8;
-        print_written(sisa::sisa_write(kind, 0, 0, 0, 0));
+        print_written(out, sisa::sisa_write(kind, 0, 0, 0, 0))
     }
 }

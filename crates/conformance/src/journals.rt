@@ -7,6 +7,8 @@ use player::lent::{Log, Memory, Ports, least};
 use player::print;
 use player::runs::{LATE, Request, kept_after, request_by};
 use replies::SisaRun;
+use std::io;
+use std::io::Write;
 
 pub const JOURNAL_PLACES: usize = 256;
 
@@ -83,7 +85,8 @@ fn run_by(
 }
 
 // The run and its line. Answers what the run returned.
-pub fn run(
+pub fn run<W: Write>(
+    out: &mut W,
     choice: u16,
     c: u16,
     j: u16,
@@ -94,20 +97,21 @@ pub fn run(
     outputs: &mut Ports,
     log: &mut Log,
     journal: &mut Journal,
-) -> SisaRun {
+) -> io::Result<SisaRun> {
     let engine = engine_of(choice, change_of(c, j));
     let ran = run_by(
         engine, c, j, kept, program, memory, inputs, outputs, log, journal,
     );
     let state = ran.state;
-    runs::print_run(b"journal", engine, c, j, ran);
-    print::field(state.journaled);
-    print::left(state, program, memory, inputs, outputs, log);
-    ran
+    runs::print_run(out, b"journal", engine, c, j, ran)?;
+    print::field(out, state.journaled)?;
+    print::left(out, state, program, memory, inputs, outputs, log)?;
+    Ok(ran)
 }
 
 // The same. Answers the state that the host keeps.
-pub fn run_on(
+pub fn run_on<W: Write>(
+    out: &mut W,
     choice: u16,
     c: u16,
     j: u16,
@@ -118,9 +122,9 @@ pub fn run_on(
     outputs: &mut Ports,
     log: &mut Log,
     journal: &mut Journal,
-) -> State {
+) -> io::Result<State> {
     let ran = run(
-        choice, c, j, kept, program, memory, inputs, outputs, log, journal,
-    );
-    kept_after(kept, runs::reply_of(ran))
+        out, choice, c, j, kept, program, memory, inputs, outputs, log, journal,
+    )?;
+    Ok(kept_after(kept, runs::reply_of(ran)))
 }

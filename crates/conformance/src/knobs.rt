@@ -12,16 +12,18 @@ use player::lent::{Log, Memory, Ports};
 use player::print;
 use player::runs::kept_after;
 use sheet::Sheet;
+use std::io;
+use std::io::Write;
 use std::num::wrapping_add_u16;
 
-fn raise(c: u16, j: u16, kept: Kept) -> Kept {
+fn raise<W: Write>(out: &mut W, c: u16, j: u16, kept: Kept) -> io::Result<Kept> {
     let raised = sisa::sisa_raise(kept.state, (of_call(c, j, 1) % 10) as u8);
-    start_line(b"raise", c, j);
-    print::last_field(raised.refusal as u64);
-    print::lines(c, j, raised.state);
+    start_line(out, b"raise", c, j)?;
+    print::last_field(out, raised.refusal as u64)?;
+    print::lines(out, c, j, raised.state)?;
     let state = raised.state;
     let sheet = kept.sheet;
-    Kept { state, sheet }
+    Ok(Kept { state, sheet })
 }
 
 // The state kept, with the change that is this section's own.
@@ -34,7 +36,8 @@ fn handed(c: u16, j: u16, kept: State) -> State {
 }
 
 // A run with the journal, and what it returned fed to the sheet.
-fn run(
+fn run<W: Write>(
+    out: &mut W,
     choice: u16,
     c: u16,
     j: u16,
@@ -45,8 +48,9 @@ fn run(
     outputs: &mut Ports,
     log: &mut Log,
     journal: &mut Journal,
-) -> Kept {
+) -> io::Result<Kept> {
     let ran = journals::run(
+        out,
         choice,
         c,
         j,
@@ -57,16 +61,17 @@ fn run(
         outputs,
         log,
         journal,
-    );
-    let sheet = sheets::feed(c, j, kept.sheet, ran.refusal, ran.usage);
-    print::lines(c, j, ran.state);
-    Kept {
+    )?;
+    let sheet = sheets::feed(out, c, j, kept.sheet, ran.refusal, ran.usage)?;
+    print::lines(out, c, j, ran.state)?;
+    Ok(Kept {
         state: kept_after(kept.state, reply_of(ran)),
         sheet,
-    }
+    })
 }
 
-fn go_back(
+fn go_back<W: Write>(
+    out: &mut W,
     c: u16,
     j: u16,
     kept: Kept,
@@ -76,19 +81,22 @@ fn go_back(
     outputs: &mut Ports,
     log: &Log,
     journal: &Journal,
-) -> Kept {
+) -> io::Result<Kept> {
     let start = handed(c, j, kept.state);
-    let gone = back(c, j, start, program, memory, inputs, outputs, log, journal);
-    print::lines(c, j, gone.state);
+    let gone = back(
+        out, c, j, start, program, memory, inputs, outputs, log, journal,
+    )?;
+    print::lines(out, c, j, gone.state)?;
     let sheet = kept.sheet;
-    Kept {
+    Ok(Kept {
         state: kept_after_back(kept.state, gone),
         sheet,
-    }
+    })
 }
 
 // Call j. Answers what the host keeps, as each of the three does.
-fn call(
+fn call<W: Write>(
+    out: &mut W,
     c: u16,
     j: u16,
     kept: Kept,
@@ -98,17 +106,20 @@ fn call(
     outputs: &mut Ports,
     log: &mut Log,
     journal: &mut Journal,
-) -> Kept {
+) -> io::Result<Kept> {
     match of_call(c, j, 0) % 8 {
-        0 | 1 => raise(c, j, kept),
-        6 | 7 => go_back(c, j, kept, program, memory, inputs, outputs, log, journal),
+        0 | 1 => raise(out, c, j, kept),
+        6 | 7 => go_back(
+            out, c, j, kept, program, memory, inputs, outputs, log, journal,
+        ),
         choice => run(
-            choice, c, j, kept, program, memory, inputs, outputs, log, journal,
+            out, choice, c, j, kept, program, memory, inputs, outputs, log, journal,
         ),
     }
 }
 
-fn play_calls(
+fn play_calls<W: Write>(
+    out: &mut W,
     c: u16,
     loaded: State,
     program: &Memory,
@@ -116,7 +127,7 @@ fn play_calls(
     inputs: &mut Ports,
     outputs: &mut Ports,
     log: &mut Log,
-) {
+) -> io::Result<()> {
     let mut journal = [0u64; JOURNAL_PLACES];
     fill(&mut journal);
     let mut kept = Kept {
@@ -125,6 +136,7 @@ fn play_calls(
     };
     for j in 0..24 {
         kept = call(
+            out,
             c,
             j,
             kept,
@@ -134,19 +146,21 @@ fn play_calls(
             outputs,
             log,
             &mut journal,
-        );
+        )?;
     }
+    Ok(())
 }
 
-pub fn play(
+pub fn play<W: Write>(
+    out: &mut W,
     c: u16,
     program: &mut Memory,
     memory: &mut Memory,
     inputs: &mut Ports,
     outputs: &mut Ports,
     log: &mut Log,
-) {
+) -> io::Result<()> {
     let load = load_whole(Sort::Knobs, c, program, memory, inputs, outputs);
-    print_load(b"load", c, load, program, memory, inputs, outputs, log);
-    play_calls(c, load.state, program, memory, inputs, outputs, log);
+    print_load(out, b"load", c, load, program, memory, inputs, outputs, log)?;
+    play_calls(out, c, load.state, program, memory, inputs, outputs, log)
 }

@@ -5,6 +5,8 @@ use machine::State;
 use player::lent::{Log, Memory, Ports};
 use player::print;
 use replies::SisaLoad;
+use std::io;
+use std::io::Write;
 
 // The board that case c is loaded for.
 fn board_of(c: u16) -> u8 {
@@ -38,20 +40,21 @@ pub fn load(
 }
 
 // The line of a state's board, or of its board and range, which the cases of two sections have.
-pub fn print_named(c: u16, state: State) {
+pub fn print_named<W: Write>(out: &mut W, c: u16, state: State) -> io::Result<()> {
     match c {
         80..=88 => {
-            print::text(b"board");
-            print::field(c as u64);
-            print::last_field(state.board as u64);
+            print::text(out, b"board")?;
+            print::field(out, c as u64)?;
+            print::last_field(out, state.board as u64)
         }
-        103..=111 => locks::print_locked(c, state),
-        _ => {}
+        103..=111 => locks::print_locked(out, c, state),
+        _ => Ok(()),
     }
 }
 
 // The line of a load, and the one of what it names.
-pub fn print_load(
+pub fn print_load<W: Write>(
+    out: &mut W,
     what: &[u8],
     c: u16,
     load: SisaLoad,
@@ -60,10 +63,10 @@ pub fn print_load(
     inputs: &Ports,
     outputs: &Ports,
     log: &Log,
-) {
-    print::text(what);
-    print::field(c as u64);
-    print::field(load.refusal as u64);
-    print::left(load.state, program, memory, inputs, outputs, log);
-    print_named(c, load.state);
+) -> io::Result<()> {
+    print::text(out, what)?;
+    print::field(out, c as u64)?;
+    print::field(out, load.refusal as u64)?;
+    print::left(out, load.state, program, memory, inputs, outputs, log)?;
+    print_named(out, c, load.state)
 }

@@ -3,6 +3,8 @@ use machine::State;
 use player::file::{first_locked, last_locked};
 use player::print;
 use player::runs::of_call;
+use std::io;
+use std::io::Write;
 use std::num::wrapping_add_u16;
 
 // The range that a load names: none where `locked` is 0.
@@ -40,13 +42,16 @@ pub fn range_of(c: u16) -> Range {
 }
 
 // The line of a state's board and range.
-pub fn print_locked(c: u16, state: State) {
-    print::text(b"locked");
-    print::field(c as u64);
-    print::field(state.board as u64);
-    print::field(state.locked as u64);
-    print::field(state.first_locked as u64);
-    print::last_field(state.last_locked as u64);
+pub fn print_locked<W: Write>(out: &mut W, c: u16, state: State) -> io::Result<()> {
+    print::text(out, b"locked")?;
+    let numbers = [
+        c as u64,
+        state.board as u64,
+        state.locked as u64,
+        state.first_locked as u64,
+    ];
+    print::fields(out, &numbers)?;
+    print::last_field(out, state.last_locked as u64)
 }
 
 // Where a window starts: in this section's cases near the range.

@@ -3,6 +3,8 @@
 
 use machine::State;
 use player::file::Sort;
+use std::io;
+use std::io::{BufWriter, Write};
 
 mod backs;
 mod boards;
@@ -21,7 +23,8 @@ mod runs;
 mod saves;
 mod sheets;
 
-fn main() {
+fn main(rt: HostRuntime) -> io::Result<()> {
+    let mut out = BufWriter::new(rt.alloc(), io::writer(&rt))?;
     let mut program = [0u8; State::MEMORY_BYTES];
     let mut memory = [0u8; State::MEMORY_BYTES];
     let mut inputs = [0u16; State::PORTS];
@@ -30,26 +33,29 @@ fn main() {
     player::lent::fill(&mut program, &mut inputs, &mut log);
     for c in 0..64 {
         cases::play(
+            &mut out,
             c,
             &mut program,
             &mut memory,
             &mut inputs,
             &mut outputs,
             &mut log,
-        );
+        )?;
     }
-    printed::all();
+    printed::all(&mut out)?;
     for c in 64..80 {
         keys::play(
+            &mut out,
             c,
             &mut program,
             &mut memory,
             &mut inputs,
             &mut outputs,
             &mut log,
-        );
+        )?;
     }
     boards::all(
+        &mut out,
         Sort::Stores,
         80,
         86,
@@ -59,21 +65,23 @@ fn main() {
         &mut inputs,
         &mut outputs,
         &mut log,
-    );
+    )?;
     for c in 89..97 {
         knobs::play(
+            &mut out,
             c,
             &mut program,
             &mut memory,
             &mut inputs,
             &mut outputs,
             &mut log,
-        );
+        )?;
     }
     for c in 97..103 {
-        pages::play(c, &mut log);
+        pages::play(&mut out, c, &mut log)?;
     }
     boards::all(
+        &mut out,
         Sort::Locks,
         103,
         109,
@@ -83,5 +91,6 @@ fn main() {
         &mut inputs,
         &mut outputs,
         &mut log,
-    );
+    )?;
+    out.flush()
 }

@@ -12,6 +12,8 @@ use player::lent::{Log, all_but, least};
 use player::runs::{Reply, kept_after};
 use player::{digest, file, print};
 use replies::{SisaAnswer, SisaPage};
+use std::io;
+use std::io::Write;
 use std::num::wrapping_add_u16;
 
 // What three trims are lent.
@@ -238,7 +240,8 @@ fn states_digest(c: u16, trims: Trims) -> u32 {
     after
 }
 
-fn print_page(
+fn print_page<W: Write>(
+    out: &mut W,
     c: u16,
     j: u16,
     paged: SisaPage,
@@ -247,32 +250,43 @@ fn print_page(
     inputs: &[u16],
     outputs: &[u16],
     log: &[u64],
-) {
-    if is_by_rules(c, j) {
-        start_line(b"page rules", c, j);
+) -> io::Result<()> {
+    let what: &[u8] = if is_by_rules(c, j) {
+        b"page rules"
     } else {
-        start_line(b"page table", c, j);
-    }
-    print::field(paged.refusal as u64);
+        b"page table"
+    };
+    start_line(out, what, c, j)?;
+    print::field(out, paged.refusal as u64)?;
     let states = states_digest(c, paged.trims);
     let digest = digest::lent(states, programs, memories, inputs, outputs, log);
-    print::last_field(digest as u64);
+    print::last_field(out, digest as u64)
 }
 
-fn print_trim(c: u16, j: u16, i: usize, state: State, answer: SisaAnswer) {
-    start_line(b"trim", c, j);
-    print::field(i as u64);
-    print::field(answer.stop as u64);
-    print::field(answer.steps as u64);
-    print::field(answer.entries);
-    print::field(answer.ticks);
-    print::field(usage_digest(answer.usage) as u64);
-    print::field(state.journaled);
-    print::field(state.board as u64);
-    print::field(state.enabled as u64);
-    print::field(state.pending as u64);
-    print::field(state.line as u64);
-    print::last_field(state.return_address as u64);
+fn print_trim<W: Write>(
+    out: &mut W,
+    c: u16,
+    j: u16,
+    i: usize,
+    state: State,
+    answer: SisaAnswer,
+) -> io::Result<()> {
+    start_line(out, b"trim", c, j)?;
+    let numbers = [
+        i as u64,
+        answer.stop as u64,
+        answer.steps as u64,
+        answer.entries,
+        answer.ticks,
+        usage_digest(answer.usage) as u64,
+        state.journaled,
+        state.board as u64,
+        state.enabled as u64,
+        state.pending as u64,
+        state.line as u64,
+    ];
+    print::fields(out, &numbers)?;
+    print::last_field(out, state.return_address as u64)
 }
 
 // What a page replies of a trim.
@@ -287,7 +301,13 @@ fn reply_of(refusal: u8, state: State, answer: SisaAnswer) -> Reply {
 }
 
 // The trims' lines. Answers the states that the host keeps; those past the trims came back as they were kept.
-fn finish(c: u16, j: u16, kept: Trims, paged: SisaPage) -> Trims {
+fn finish<W: Write>(
+    out: &mut W,
+    c: u16,
+    j: u16,
+    kept: Trims,
+    paged: SisaPage,
+) -> io::Result<Trims> {
     let before = kept.states;
     let after = paged.trims;
     let answers = paged.answers;
@@ -296,15 +316,16 @@ fn finish(c: u16, j: u16, kept: Trims, paged: SisaPage) -> Trims {
     for i in 0..trims_of(c) {
         let state = states[i];
         let answer = answers[i];
-        print_trim(c, j, i, state, answer);
+        print_trim(out, c, j, i, state, answer)?;
         let kept = kept_after(before[i], reply_of(refusal, state, answer));
         states[i] = kept;
     }
-    Trims { states }
+    Ok(Trims { states })
 }
 
 // Page j and its lines. Answers the states that the host keeps.
-fn play_page(
+fn play_page<W: Write>(
+    out: &mut W,
     c: u16,
     j: u16,
     kept: Trims,
@@ -313,14 +334,15 @@ fn play_page(
     inputs: &mut [u16],
     outputs: &mut [u16],
     log: &mut [u64],
-) -> Trims {
+) -> io::Result<Trims> {
     let paged = page(c, j, kept, programs, memories, inputs, outputs, log);
-    print_page(c, j, paged, programs, memories, inputs, outputs, log);
-    finish(c, j, kept, paged)
+    print_page(out, c, j, paged, programs, memories, inputs, outputs, log)?;
+    finish(out, c, j, kept, paged)
 }
 
 // The same, lent the parts of the trims that the case has.
-fn play_parts(
+fn play_parts<W: Write>(
+    out: &mut W,
     c: u16,
     j: u16,
     kept: Trims,
@@ -329,13 +351,14 @@ fn play_parts(
     inputs: &mut [u16],
     outputs: &mut [u16],
     log: &mut [u64],
-) -> Trims
+) -> io::Result<Trims>
     requires programs_len { (length programs.now ≡ 196608) × (length memories.old ≡ 196608) }
     requires inputs_len { (length inputs.old ≡ 768) × (length outputs.old ≡ 768) }
 {
     let bytes = trims_of(c) * State::MEMORY_BYTES;
     let ports = trims_of(c) * State::PORTS;
     play_page(
+        out,
         c,
         j,
         kept,
@@ -347,7 +370,8 @@ fn play_parts(
     )
 }
 
-fn play_pages(
+fn play_pages<W: Write>(
+    out: &mut W,
     c: u16,
     loaded: Trims,
     programs: &Memories,
@@ -355,20 +379,22 @@ fn play_pages(
     inputs: &mut JoinedPorts,
     outputs: &mut JoinedPorts,
     log: &mut Log,
-) {
+) -> io::Result<()> {
     let mut kept = loaded;
     for j in 0..10 {
-        kept = play_parts(c, j, kept, programs, memories, inputs, outputs, log);
+        kept = play_parts(out, c, j, kept, programs, memories, inputs, outputs, log)?;
     }
+    Ok(())
 }
 
-pub fn play(c: u16, log: &mut Log) {
+pub fn play<W: Write>(out: &mut W, c: u16, log: &mut Log) -> io::Result<()> {
     let mut programs = [0u8; MEMORIES_BYTES];
     let mut memories = [0u8; MEMORIES_BYTES];
     let mut inputs = [0u16; PORTS];
     let mut outputs = [0u16; PORTS];
     let loaded = load_trims(c, &mut programs, &mut memories, &mut inputs, &mut outputs);
     play_pages(
+        out,
         c,
         loaded,
         &programs,
@@ -376,5 +402,5 @@ pub fn play(c: u16, log: &mut Log) {
         &mut inputs,
         &mut outputs,
         log,
-    );
+    )
 }

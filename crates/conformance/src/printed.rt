@@ -2,35 +2,37 @@
 use player::file::{NO_DAMAGE, Sort};
 use player::lent::least;
 use player::{file, print};
+use std::io;
+use std::io::Write;
 
-fn print_first(count: usize, bytes: &[u8]) {
+fn print_first<W: Write>(out: &mut W, count: usize, bytes: &[u8]) -> io::Result<()> {
     let most = least(count, bytes.len());
-    print::text(&bytes[0..most]);
+    print::text(out, &bytes[0..most])
 }
 
 // What panelrun prints for a file.
-fn print_run(file: &[u8]) {
+fn print_run<W: Write>(out: &mut W, file: &[u8]) -> io::Result<()> {
     let printed = report::report(file);
-    print_first(printed.count, &printed.bytes);
+    print_first(out, printed.count, &printed.bytes)
 }
 
 // The file of case c with this length.
-fn of_file(c: u16, damage: u16, length: usize) {
+fn of_file<W: Write>(out: &mut W, c: u16, damage: u16, length: usize) -> io::Result<()> {
     let file = file::make(Sort::Any, c, damage);
     let most = least(length, 65537);
-    print_run(&file[0..most]);
+    print_run(out, &file[0..most])
 }
 
-fn of_case(c: u16) {
+fn of_case<W: Write>(out: &mut W, c: u16) -> io::Result<()> {
     let damage = file::damage(c);
-    of_file(c, damage, file::length(Sort::Any, c, damage) as usize);
+    of_file(out, c, damage, file::length(Sort::Any, c, damage) as usize)
 }
 
-pub fn all() {
+pub fn all<W: Write>(out: &mut W) -> io::Result<()> {
     for c in 0..64 {
-        of_case(c);
+        of_case(out, c)?;
     }
-    of_file(4, NO_DAMAGE, 0);
-    of_file(4, NO_DAMAGE, 65536);
-    of_file(4, NO_DAMAGE, 65537);
+    of_file(out, 4, NO_DAMAGE, 0)?;
+    of_file(out, 4, NO_DAMAGE, 65536)?;
+    of_file(out, 4, NO_DAMAGE, 65537)
 }

@@ -10,6 +10,8 @@ use sisa::{
     sisa_run_by_rules, sisa_run_by_rules_with_journal, sisa_run_by_table,
     sisa_run_by_table_with_journal,
 };
+use std::io;
+use std::io::Write;
 
 #[derive(Clone, Copy)]
 pub enum Engine {
@@ -100,25 +102,34 @@ pub fn run_request(
     )
 }
 
-fn print_engine(engine: Engine) {
-    match engine {
-        Engine::Rules | Engine::RulesWithJournal => print::text(b" rules"),
-        Engine::Table | Engine::TableWithJournal => print::text(b" table"),
-        Engine::Host => print::text(b" host"),
-    }
+fn print_engine<W: Write>(out: &mut W, engine: Engine) -> io::Result<()> {
+    let name: &[u8] = match engine {
+        Engine::Rules | Engine::RulesWithJournal => b" rules",
+        Engine::Table | Engine::TableWithJournal => b" table",
+        Engine::Host => b" host",
+    };
+    print::text(out, name)
 }
 
 // The line of a run, up to its usage.
-pub fn print_run(what: &[u8], engine: Engine, c: u16, i: u16, ran: SisaRun) {
-    print::text(what);
-    print_engine(engine);
-    print_reply(c, i, reply_of(ran));
-    print::field(ran.ticks);
-    print::field(sheets::usage_digest(ran.usage) as u64);
+pub fn print_run<W: Write>(
+    out: &mut W,
+    what: &[u8],
+    engine: Engine,
+    c: u16,
+    i: u16,
+    ran: SisaRun,
+) -> io::Result<()> {
+    print::text(out, what)?;
+    print_engine(out, engine)?;
+    print_reply(out, c, i, reply_of(ran))?;
+    print::field(out, ran.ticks)?;
+    print::field(out, sheets::usage_digest(ran.usage) as u64)
 }
 
 // The run, and what it returned fed to the sheet. Answers what the host keeps.
-pub fn run(
+pub fn run<W: Write>(
+    out: &mut W,
     engine: Engine,
     c: u16,
     i: u16,
@@ -128,17 +139,17 @@ pub fn run(
     inputs: &mut Ports,
     outputs: &mut Ports,
     log: &mut Log,
-) -> Kept {
+) -> io::Result<Kept> {
     let request = request_of(engine, c, i, kept.state);
     let mut none = [0u64; 0];
     let ran = run_request(
         engine, request, program, memory, inputs, outputs, log, &mut none,
     );
-    print_run(b"run", engine, c, i, ran);
-    print::left(ran.state, program, memory, inputs, outputs, log);
-    let sheet = sheets::feed(c, i, kept.sheet, ran.refusal, ran.usage);
-    Kept {
+    print_run(out, b"run", engine, c, i, ran)?;
+    print::left(out, ran.state, program, memory, inputs, outputs, log)?;
+    let sheet = sheets::feed(out, c, i, kept.sheet, ran.refusal, ran.usage)?;
+    Ok(Kept {
         state: kept_after(kept.state, reply_of(ran)),
         sheet,
-    }
+    })
 }

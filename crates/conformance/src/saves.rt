@@ -4,6 +4,8 @@ use machine::State;
 use player::lent::{Log, Memory, Ports, all_but, least};
 use player::{digest, print};
 use replies::{SisaLoad, SisaSaved};
+use std::io;
+use std::io::Write;
 
 const DESTINATION_BYTES: usize = 131088;
 
@@ -38,16 +40,23 @@ fn save_memories(
     sisa::sisa_save(state, program, &memory[0..bytes], &mut destination[0..most])
 }
 
-fn print_save(c: u16, s: u16, saved: SisaSaved, destination: &[u8]) {
-    calls::start_line(b"save", c, s);
-    print::field(saved.refusal as u64);
-    print::field(saved.length as u64);
-    print::last_field(digest::bytes(0, destination) as u64);
-    loads::print_named(c, saved.state);
+fn print_save<W: Write>(
+    out: &mut W,
+    c: u16,
+    s: u16,
+    saved: SisaSaved,
+    destination: &[u8],
+) -> io::Result<()> {
+    calls::start_line(out, b"save", c, s)?;
+    print::field(out, saved.refusal as u64)?;
+    print::field(out, saved.length as u64)?;
+    print::last_field(out, digest::bytes(0, destination) as u64)?;
+    loads::print_named(out, c, saved.state)
 }
 
 // Save s. Answers the length of its file.
-fn save(
+fn save<W: Write>(
+    out: &mut W,
     c: u16,
     s: u16,
     length: usize,
@@ -55,11 +64,11 @@ fn save(
     program: &Memory,
     memory: &Memory,
     destination: &mut Destination,
-) -> usize {
+) -> io::Result<usize> {
     fill(s, destination);
     let saved = save_memories(s, length, state, program, memory, destination);
-    print_save(c, s, saved, destination);
-    saved.length
+    print_save(out, c, s, saved, destination)?;
+    Ok(saved.length)
 }
 
 fn load(
@@ -76,7 +85,8 @@ fn load(
 }
 
 // The file of this length, at the front of the destination, is loaded.
-fn load_again(
+fn load_again<W: Write>(
+    out: &mut W,
     c: u16,
     length: usize,
     destination: &Destination,
@@ -85,14 +95,17 @@ fn load_again(
     inputs: &mut Ports,
     outputs: &mut Ports,
     log: &Log,
-) -> SisaLoad {
+) -> io::Result<SisaLoad> {
     let load = load(c, length, destination, program, memory, inputs, outputs);
-    loads::print_load(b"again", c, load, program, memory, inputs, outputs, log);
-    load
+    loads::print_load(
+        out, b"again", c, load, program, memory, inputs, outputs, log,
+    )?;
+    Ok(load)
 }
 
 // From the state that the host keeps. Answers what the load of the saved file replied.
-pub fn play(
+pub fn play<W: Write>(
+    out: &mut W,
     c: u16,
     kept: State,
     program: &mut Memory,
@@ -100,11 +113,12 @@ pub fn play(
     inputs: &mut Ports,
     outputs: &mut Ports,
     log: &Log,
-) -> SisaLoad {
+) -> io::Result<SisaLoad> {
     let mut destination = [0u8; DESTINATION_BYTES];
-    let length = save(c, 0, 0, kept, program, memory, &mut destination);
-    save(c, 1, length, kept, program, memory, &mut destination);
+    let length = save(out, c, 0, 0, kept, program, memory, &mut destination)?;
+    save(out, c, 1, length, kept, program, memory, &mut destination)?;
     let again = load_again(
+        out,
         c,
         length,
         &destination,
@@ -113,9 +127,9 @@ pub fn play(
         inputs,
         outputs,
         log,
-    );
+    )?;
     let state = again.state;
-    save(c, 2, length, state, program, memory, &mut destination);
-    save(c, 3, length, state, program, memory, &mut destination);
-    again
+    save(out, c, 2, length, state, program, memory, &mut destination)?;
+    save(out, c, 3, length, state, program, memory, &mut destination)?;
+    Ok(again)
 }

@@ -4,6 +4,8 @@ use numbers::number;
 use player::digest::places;
 use player::print;
 use sheet::Sheet;
+use std::io;
+use std::io::Write;
 use usage::Usage;
 
 fn digest_of(kinds: [u64; kinds::COUNT], taken: u64, reads: [u64; 8], writes: [u64; 8]) -> u32 {
@@ -57,15 +59,22 @@ pub fn first(c: u16) -> Sheet {
 }
 
 // Feeds the sheet what a run returned, and prints what comes of it.
-pub fn feed(c: u16, i: u16, sheet: Sheet, refusal: u8, usage: Usage) -> Sheet {
+pub fn feed<W: Write>(
+    out: &mut W,
+    c: u16,
+    i: u16,
+    sheet: Sheet,
+    refusal: u8,
+    usage: Usage,
+) -> io::Result<Sheet> {
     let fed = sisa::sisa_feed(sheet, refusal, usage);
     let after = fed.sheet;
-    start_line(b"fed", c, i);
-    print::field(fed.refusal as u64);
-    print::field(after.runs as u64);
+    start_line(out, b"fed", c, i)?;
+    print::field(out, fed.refusal as u64)?;
+    print::field(out, after.runs as u64)?;
     let kinds = after.kinds;
     let reads = after.reads;
     let writes = after.writes;
-    print::last_field(digest_of(kinds, after.taken, reads, writes) as u64);
-    after
+    print::last_field(out, digest_of(kinds, after.taken, reads, writes) as u64)?;
+    Ok(after)
 }

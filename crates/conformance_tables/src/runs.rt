@@ -9,6 +9,8 @@ use player::lent::{Log, Memory, Ports, least};
 use player::runs::{LATE, Reply, Request, finish, of_call, request_of};
 use player::{file, print};
 use run::{Answer, Ran};
+use std::io;
+use std::io::Write;
 
 fn reply_of(ran: Ran) -> Reply {
     let state = ran.state;
@@ -57,7 +59,8 @@ fn run_request(
 }
 
 // Run i. Answers the state that the host keeps.
-fn run(
+fn run<W: Write>(
+    out: &mut W,
     words: &Table,
     t: u16,
     c: u16,
@@ -68,19 +71,22 @@ fn run(
     inputs: &mut Ports,
     outputs: &mut Ports,
     log: &mut Log,
-) -> State {
+) -> io::Result<State> {
     let places = (of_call(c, i, 2) % 8) as usize;
     let request = request_of(c, i, kept, LATE, places);
     let reply = run_request(words, request, program, memory, inputs, outputs, log);
-    print::text(b"run control");
-    let kept = finish(t, i, kept, reply, program, memory, inputs, outputs, log);
+    print::text(out, b"run control")?;
+    let kept = finish(
+        out, t, i, kept, reply, program, memory, inputs, outputs, log,
+    )?;
     if t >= INTERRUPTS {
-        print::lines(t, i, reply.state);
+        print::lines(out, t, i, reply.state)?;
     }
-    kept
+    Ok(kept)
 }
 
-fn run_all(
+fn run_all<W: Write>(
+    out: &mut W,
     t: u16,
     c: u16,
     start: State,
@@ -89,12 +95,15 @@ fn run_all(
     inputs: &mut Ports,
     outputs: &mut Ports,
     log: &mut Log,
-) {
+) -> io::Result<()> {
     let words = tables::table_of(t, c);
     let mut kept = start;
     for i in 0..4 {
-        kept = run(&words, t, c, i, kept, program, memory, inputs, outputs, log);
+        kept = run(
+            out, &words, t, c, i, kept, program, memory, inputs, outputs, log,
+        )?;
     }
+    Ok(())
 }
 
 fn registers(c: u16) -> [u16; 8] {
@@ -185,15 +194,16 @@ fn load(
 }
 
 // The runs by table t. (The remainder changes nothing.)
-pub fn play(
+pub fn play<W: Write>(
+    out: &mut W,
     t: u16,
     program: &mut Memory,
     memory: &mut Memory,
     inputs: &mut Ports,
     outputs: &mut Ports,
     log: &mut Log,
-) {
+) -> io::Result<()> {
     let c = 1000 + t % 192;
     let start = load(t, c, program, memory, inputs, outputs);
-    run_all(t, c, start, program, memory, inputs, outputs, log);
+    run_all(out, t, c, start, program, memory, inputs, outputs, log)
 }

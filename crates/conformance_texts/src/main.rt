@@ -3,8 +3,13 @@
 
 ghost use Rattle.std.specs.Prelude.{◌≤◌, length};
 
-use libc::STDIN_FILENO;
 use machine::State;
+use player::{digest, print};
+use std::io;
+use std::io::{BufWriter, Read, Write};
+
+// Of standard input as many bytes are read.
+const INPUT_BYTES: u64 = 65536;
 
 // Where the text from a position ends; the input's length, where no byte 0 follows.
 fn text_end(input: &[u8], at: usize) -> usize
@@ -21,29 +26,33 @@ fn text_end(input: &[u8], at: usize) -> usize
     i
 }
 
-fn play(text: &[u8], number: u64, program: &mut [u8]) {
+fn play<W: Write>(out: &mut W, text: &[u8], number: u64, program: &mut [u8]) -> io::Result<()> {
     let reply = sisa::sisa_assemble(text, program);
-    player::print::text(b"text");
-    player::print::field(number);
-    player::print::field(reply.refusal as u64);
-    player::print::field(reply.line as u64);
-    player::print::field(reply.words as u64);
-    player::print::last_field(player::digest::bytes(0, program) as u64);
+    print::text(out, b"text")?;
+    let numbers = [
+        number,
+        reply.refusal as u64,
+        reply.line as u64,
+        reply.words as u64,
+    ];
+    print::fields(out, &numbers)?;
+    print::last_field(out, digest::bytes(0, program) as u64)
 }
 
 // The texts from the first one on. Bytes after the last 0 are no text.
-fn play_all(input: &[u8], program: &mut [u8]) {
+fn play_all<W: Write>(out: &mut W, input: &[u8], program: &mut [u8]) -> io::Result<()> {
     let mut at = 0;
     let mut number = 0;
     while at < input.len() {
         let end = text_end(input, at);
         if end == input.len() {
-            return;
+            return Ok(());
         }
-        play(&input[at..end], number, program);
+        play(out, &input[at..end], number, program)?;
         number += 1;
         at = end + 1;
     }
+    Ok(())
 }
 
 fn fill(program: &mut [u8]) {
@@ -52,10 +61,12 @@ fn fill(program: &mut [u8]) {
     }
 }
 
-fn main() {
-    let mut input = [0u8; 65536];
-    let n = io::read_full(STDIN_FILENO, &mut input);
+fn main(rt: HostRuntime) -> io::Result<()> {
+    let mut input = Vec::new(rt.alloc());
+    rt.reader().take(INPUT_BYTES).read_to_end(&mut input)?;
     let mut program = [0u8; State::MEMORY_BYTES];
     fill(&mut program);
-    play_all(&input[..n], &mut program);
+    let mut out = BufWriter::new(rt.alloc(), io::writer(&rt))?;
+    play_all(&mut out, &input, &mut program)?;
+    out.flush()
 }

@@ -3,20 +3,19 @@
 #![tactic(auto)]
 
 use assembler::TEXT_BYTES;
-use libc::{STDERR_FILENO, STDIN_FILENO, STDOUT_FILENO};
+use std::io;
+use std::io::Read;
 use trimfile::FILE_BYTES;
 
-fn main() {
-    // One byte more than a text may have, so that a longer one is seen. Where a read fails, what was read until then is taken
-    // as the text.
-    let mut text = [0u8; TEXT_BYTES + 1];
-    let n = io::read_full(STDIN_FILENO, &mut text);
+fn main(rt: HostRuntime) -> io::Result<()> {
+    // One byte more than a text may have, so that a longer one is seen.
+    let mut text = Vec::new(rt.alloc());
+    rt.reader()
+        .take(TEXT_BYTES as u64 + 1)
+        .read_to_end(&mut text)?;
     let mut file = [0u8; FILE_BYTES];
-    let trim = trimfile::from_text(&text[..n], &mut file);
-    let length = trim.length;
-    io::write_all(STDOUT_FILENO, &file[..length]);
+    let trim = trimfile::from_text(&text, &mut file);
+    rt.write_all(&file[..trim.length])?;
     let diagnostic = trim.diagnostic;
-    let bytes = diagnostic.bytes;
-    let count = diagnostic.count;
-    io::write_all(STDERR_FILENO, &bytes[..count]);
+    rt.stderr().write_all(&diagnostic.bytes[..diagnostic.count])
 }

@@ -1,23 +1,31 @@
 // Reads a trim file on standard input, and writes its listing.
 #![tactic(auto)]
+<<<<<<< HEAD
 
 use libc::{STDIN_FILENO, STDOUT_FILENO};
 use report::FILE_BYTES;
+=======
+>>>>>>> a23b91be3d403239d0391920f4615c6fceb92346
 
-fn main() {
+use report::FILE_BYTES;
+use std::io;
+use std::io::{BufWriter, Read, Write};
+
+fn main(rt: HostRuntime) -> io::Result<()> {
     // As `panelrun` reads it: one byte more than a file may have.
-    let mut file = [0u8; FILE_BYTES + 1];
-    let n = io::read_full(STDIN_FILENO, &mut file);
+    let mut file = Vec::new(rt.alloc());
+    rt.reader()
+        .take(FILE_BYTES as u64 + 1)
+        .read_to_end(&mut file)?;
+    let mut out = BufWriter::new(rt.alloc(), io::writer(&rt))?;
     let mut k = 0;
     loop {
-        let line = listing::line_at(&file[..n], k);
+        let line = listing::line_at(&file, k);
         if !line.there {
-            return;
+            return out.flush();
         }
         let text = line.text;
-        let bytes = text.bytes;
-        let count = text.count;
-        io::write_all(STDOUT_FILENO, &bytes[..count]);
+        out.write_all(&text.bytes[..text.count])?;
         k += 1;
     }
 }

@@ -1,16 +1,16 @@
 // Reads a trim file on standard input, and writes what its run reports.
 #![tactic(auto)]
 
-use libc::{STDIN_FILENO, STDOUT_FILENO};
 use report::FILE_BYTES;
+use std::io;
+use std::io::Read;
 
-fn main() {
-    // One byte more than a file may have, so that a longer one is seen. Where a read fails, what was read until then is
-    // taken as the file.
-    let mut file = [0u8; FILE_BYTES + 1];
-    let n = io::read_full(STDIN_FILENO, &mut file);
-    let printed = report::report(&file[..n]);
-    let bytes = printed.bytes;
-    let count = printed.count;
-    io::write_all(STDOUT_FILENO, &bytes[..count]);
+fn main(rt: HostRuntime) -> io::Result<()> {
+    // One byte more than a file may have, so that a longer one is seen.
+    let mut file = Vec::new(rt.alloc());
+    rt.reader()
+        .take(FILE_BYTES as u64 + 1)
+        .read_to_end(&mut file)?;
+    let printed = report::report(&file);
+    rt.write_all(&printed.bytes[..printed.count])
 }

@@ -1,11 +1,13 @@
 // The runs of both programs: what is handed and lent, what is printed, and what the host keeps.
-ghost use Rattle.std.specs.Prelude.{◌≡◌};
+ghost use Rattle.std.specs.Prelude.{◌≡◌, IfOk};
 ghost use Rattle.player.specs.Runs.{of_call, handed_of, request_by, request_of, kept_after};
 
 use crate::lent::{Log, Memory, Ports, all_but};
 use crate::print;
 use machine::State;
 use numbers::number;
+use std::io;
+use std::io::Write;
 use std::num::wrapping_add_u16;
 
 // What n becomes where a run is handed another.
@@ -92,17 +94,21 @@ pub fn kept_after(kept: State, reply: Reply) -> State
 }
 
 // What follows the engine's name on the line of a run, but for its digests.
-pub fn print_reply(c: u16, i: u16, reply: Reply) {
-    print::field(c as u64);
-    print::field(i as u64);
-    print::field(reply.refusal as u64);
-    print::field(reply.stop as u64);
-    print::field(reply.steps as u64);
-    print::field(reply.entries);
+pub fn print_reply<W: Write>(out: &mut W, c: u16, i: u16, reply: Reply) -> io::Result<()> {
+    let numbers = [
+        c as u64,
+        i as u64,
+        reply.refusal as u64,
+        reply.stop as u64,
+        reply.steps as u64,
+        reply.entries,
+    ];
+    print::fields(out, &numbers)
 }
 
 // Prints what follows the engine's name on the line of a run. Answers the state that the host keeps.
-pub fn finish(
+pub fn finish<W: Write>(
+    out: &mut W,
     c: u16,
     i: u16,
     kept: State,
@@ -112,10 +118,10 @@ pub fn finish(
     inputs: &Ports,
     outputs: &Ports,
     log: &Log,
-) -> State
-    ensures { result ≡ kept_after kept reply }
+) -> io::Result<State>
+    ensures { IfOk result (λ state. state ≡ kept_after kept reply) }
 {
-    print_reply(c, i, reply);
-    print::left(reply.state, program, memory, inputs, outputs, log);
-    kept_after(kept, reply)
+    print_reply(out, c, i, reply)?;
+    print::left(out, reply.state, program, memory, inputs, outputs, log)?;
+    Ok(kept_after(kept, reply))
 }
