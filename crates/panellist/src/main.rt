@@ -1,11 +1,5 @@
 // Reads a trim file on standard input, and writes its listing.
 #![tactic(auto)]
-<<<<<<< HEAD
-
-use libc::{STDIN_FILENO, STDOUT_FILENO};
-use report::FILE_BYTES;
-=======
->>>>>>> a23b91be3d403239d0391920f4615c6fceb92346
 
 use report::FILE_BYTES;
 use std::io;
