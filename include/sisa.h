@@ -1,5 +1,5 @@
 /* The SISA trim processor: loading a trim, running it by the rules or by the control table, running several of them as a page,
-   stepping back, saving it, writing it as text, and reading and writing one instruction. Link libsisa.a (rt staticlib sisa).
+   stepping back, saving it, writing it as text, and reading and writing one instruction. Link libsisa.a (tools/staticlib).
 
    There are two boards, and a load names one of them. The board with two memories fetches instructions from the program. The
    single-memory board fetches them from data memory, each just before its step: a store may change the instruction that

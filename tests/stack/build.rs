@@ -1,4 +1,4 @@
-//! Where libsisa.a is; `rt staticlib sisa` builds it.
+//! Where libsisa.a is; `tools/staticlib` builds it.
 
 fn main() {
     let package = std::env::var("CARGO_MANIFEST_DIR").unwrap_or_default();

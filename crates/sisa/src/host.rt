@@ -1,13 +1,11 @@
-// The host step, the one function that takes the register state by reference. The borrow checker does not cover such a
-// function, and its proof walks the code by hand: so it only calls the run, puts its reply in numbers, stores the state and
-// hands on the rest. It does not call sisa_run_by_table, which with a second caller would not be inlined in its export.
+// The host step, the one function that takes the register state by reference: it calls the run, puts its reply in numbers, stores the
+// state and hands on the rest. It does not call sisa_run_by_table, which with a second caller would not be inlined in its export.
 ghost use Rattle.replies.specs.Sisa.{HostSteps};
 
 use machine::State;
 use replies::SisaAnswer;
 
-#[unsafe(no_mangle)]
-pub extern "C" fn sisa_host_step(
+pub fn sisa_host_step(
     state: &mut State,
     program: &[u8],
     memory: &mut [u8],

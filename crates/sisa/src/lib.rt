@@ -1,5 +1,5 @@
-// The C interface, include/sisa.h, which says what each function and field is. A function calls the crate that does the work
-// and hands on its reply in numbers.
+// The functions of the C interface, include/sisa.h, which says what each function and field is. A function calls the crate that does
+// the work and hands on its reply in numbers. `sisa_c` exports them.
 #![tactic(auto)]
 
 ghost use Rattle.std.specs.Prelude.{◌≡◌};
@@ -20,8 +20,7 @@ use usage::Usage;
 
 pub mod host;
 
-#[unsafe(no_mangle)]
-pub extern "C" fn sisa_load(
+pub fn sisa_load(
     file: &[u8],
     board: u8,
     locked: u8,
@@ -50,37 +49,28 @@ pub extern "C" fn sisa_load(
     replies::load(loaded)
 }
 
-#[unsafe(no_mangle)]
-pub extern "C" fn sisa_save(
-    state: State,
-    program: &[u8],
-    memory: &[u8],
-    destination: &mut [u8],
-) -> SisaSaved
+pub fn sisa_save(state: State, program: &[u8], memory: &[u8], destination: &mut [u8]) -> SisaSaved
     ensures { SisaSaves state program memory destination result }
 {
     let saved = save::save(state, program, memory, destination);
     replies::save(saved)
 }
 
-#[unsafe(no_mangle)]
-pub extern "C" fn sisa_assemble(text: &[u8], program: &mut [u8]) -> SisaAssembly
+pub fn sisa_assemble(text: &[u8], program: &mut [u8]) -> SisaAssembly
     ensures { SisaAssembles text program result }
 {
     let assembly = assembler::assemble(text, program);
     replies::assembly(assembly)
 }
 
-#[unsafe(no_mangle)]
-pub extern "C" fn sisa_set_input(inputs: &mut [u16], port: u8, value: u16) -> u8
+pub fn sisa_set_input(inputs: &mut [u16], port: u8, value: u16) -> u8
     ensures { SisaSets inputs port value result }
 {
     let setting = panel::set_input(inputs, Port(port), value);
     replies::set(setting)
 }
 
-#[unsafe(no_mangle)]
-pub extern "C" fn sisa_run_by_rules(
+pub fn sisa_run_by_rules(
     state: State,
     program: &[u8],
     memory: &mut [u8],
@@ -95,8 +85,7 @@ pub extern "C" fn sisa_run_by_rules(
     replies::run(ran)
 }
 
-#[unsafe(no_mangle)]
-pub extern "C" fn sisa_run_by_table(
+pub fn sisa_run_by_table(
     state: State,
     program: &[u8],
     memory: &mut [u8],
@@ -111,8 +100,7 @@ pub extern "C" fn sisa_run_by_table(
     replies::run(ran)
 }
 
-#[unsafe(no_mangle)]
-pub extern "C" fn sisa_run_by_rules_with_journal(
+pub fn sisa_run_by_rules_with_journal(
     state: State,
     program: &[u8],
     memory: &mut [u8],
@@ -130,8 +118,7 @@ pub extern "C" fn sisa_run_by_rules_with_journal(
     replies::run(ran)
 }
 
-#[unsafe(no_mangle)]
-pub extern "C" fn sisa_run_by_table_with_journal(
+pub fn sisa_run_by_table_with_journal(
     state: State,
     program: &[u8],
     memory: &mut [u8],
@@ -149,8 +136,7 @@ pub extern "C" fn sisa_run_by_table_with_journal(
     replies::run(ran)
 }
 
-#[unsafe(no_mangle)]
-pub extern "C" fn sisa_page_by_rules(
+pub fn sisa_page_by_rules(
     trims: Trims,
     count: u8,
     programs: &[u8],
@@ -168,8 +154,7 @@ pub extern "C" fn sisa_page_by_rules(
     replies::page(paged)
 }
 
-#[unsafe(no_mangle)]
-pub extern "C" fn sisa_page_by_table(
+pub fn sisa_page_by_table(
     trims: Trims,
     count: u8,
     programs: &[u8],
@@ -187,8 +172,7 @@ pub extern "C" fn sisa_page_by_table(
     replies::page(paged)
 }
 
-#[unsafe(no_mangle)]
-pub extern "C" fn sisa_step_back(
+pub fn sisa_step_back(
     state: State,
     program: &[u8],
     memory: &mut [u8],
@@ -203,8 +187,7 @@ pub extern "C" fn sisa_step_back(
     replies::back(backed)
 }
 
-#[unsafe(no_mangle)]
-pub extern "C" fn sisa_raise(state: State, line: u8) -> SisaRaised
+pub fn sisa_raise(state: State, line: u8) -> SisaRaised
     ensures { result ≡ sisa_raise state line }
 {
     let raised = panel::raise(state, line);
@@ -212,30 +195,26 @@ pub extern "C" fn sisa_raise(state: State, line: u8) -> SisaRaised
 }
 
 // A run_refusal that is not 0: a refused run.
-#[unsafe(no_mangle)]
-pub extern "C" fn sisa_feed(sheet: Sheet, run_refusal: u8, usage: Usage) -> SisaFed
+pub fn sisa_feed(sheet: Sheet, run_refusal: u8, usage: Usage) -> SisaFed
     ensures { result ≡ sisa_feed sheet run_refusal usage }
 {
     replies::fed(sheet::feed_by(sheet, run_refusal == 0, usage))
 }
 
-#[unsafe(no_mangle)]
-pub extern "C" fn sisa_read(word: u16) -> SisaInstruction
+pub fn sisa_read(word: u16) -> SisaInstruction
     ensures { result ≡ sisa_instruction (decoding_of word) }
 {
     replies::instruction(isa::read(word))
 }
 
-#[unsafe(no_mangle)]
-pub extern "C" fn sisa_write(kind: u8, a: u8, b: u8, d: u8, n: i16) -> SisaWord
+pub fn sisa_write(kind: u8, a: u8, b: u8, d: u8, n: i16) -> SisaWord
     ensures { result ≡ sisa_write kind a b d n }
 {
     replies::write(kind, a, b, d, n)
 }
 
 // of_data is 0 for the program; any other number is the data memory.
-#[unsafe(no_mangle)]
-pub extern "C" fn sisa_window<'a>(
+pub fn sisa_window<'a>(
     state: State,
     program: &'a [u8],
     memory: &'a [u8],
