@@ -5,7 +5,7 @@ use Rattle.word.specs.Word.{pick, flag}
 use Rattle.machine.specs.declared.State.{State}
 use Rattle.machine.specs.Machine.{Machine, even_places, put_journaled, on_state}
 use Rattle.machine.specs.Lengths.{lengths_fit}
-use Rattle.machine.specs.Slices.{Slice, before, after}
+use Rattle.machine.specs.Slices.{MutSlice, Slice, before, after, read_before, read_after}
 use Rattle.journal.specs.Journal.{undo, is_output}
 use Rattle.back.specs.declared.Backed.{Backed}
 use Rattle.back.specs.declared.Going.{Going}
@@ -96,11 +96,11 @@ unfoldable pub back_left : BackGiven → BackLeft
 back_left g = back_left_by (back_verdict g) g
 
 -- the contract, of the call's parameters in their order and what it replies
-abbrev pub lent_back : State → Slice → Slice → Slice → Slice → Slice → ℕ → BackGiven
+abbrev pub lent_back : State → Slice → MutSlice → MutSlice → MutSlice → MutSlice → ℕ → BackGiven
 lent_back state program memory inputs outputs journal k =
     record {
       state = state;
-      P = before program;
+      P = read_before program;
       D = before memory;
       I = before inputs;
       O = before outputs;
@@ -108,13 +108,13 @@ lent_back state program memory inputs outputs journal k =
       k = k;
     }
 
-abbrev pub GoesBack : State → Slice → Slice → Slice → Slice → Slice → ℕ → Backed → Type 0
+abbrev pub GoesBack : State → Slice → MutSlice → MutSlice → MutSlice → MutSlice → ℕ → Backed → Type 0
 GoesBack state program memory inputs outputs journal k r =
     ◌≡◌ {A = BackLeft}
     (record {
       reply = shown_going r.reply;
       state = r.state;
-      P = after program;
+      P = read_after program;
       D = after memory;
       I = after inputs;
       O = after outputs;

@@ -6,7 +6,7 @@ use Rattle.machine.specs.Run.{Stepper, is_out, by_rules}
 use Rattle.machine.specs.Held.{is_lock_stop}
 use Rattle.control.specs.Control.{control_in, control_step, writes_port, by_control}
 use Rattle.machine.specs.declared.State.{State}
-use Rattle.machine.specs.Slices.{Slice, before, after}
+use Rattle.machine.specs.Slices.{MutSlice, Slice, before, after}
 use Rattle.places.specs.Places.{tallied}
 use Rattle.usage.specs.declared.Usage.{Usage}
 use Rattle.run.specs.declared.Tallied.{Tallied}
@@ -50,24 +50,24 @@ abbrev pub left_timed : Left → Usage → CountedLeft
 left_timed l u = record { left = l; usage = u; ticks = ticks_by l.reply u }
 
 -- what a run leaves with its reply, where its counts are those replied or, where places are lent, what is counted there
-abbrev pub left_tallied : Slice → Slice → Slice → Slice → Slice → Journal → Slice → Tallied → CountedLeft
+abbrev pub left_tallied : Slice → MutSlice → MutSlice → MutSlice → MutSlice → Journal → MutSlice → Tallied → CountedLeft
 left_tallied program memory inputs outputs log journal counts r =
     left_timed (left_with program memory inputs outputs log journal r.answer r.state) (tallied (after counts) r.usage)
 
 -- the contract of the loop of an accepted run, with a journal where it keeps one
-abbrev pub RunsAccepted : Stepper → State → Slice → Slice → Slice → Slice → ℕ → Slice → Bool → Slice → Slice → Tallied → Type 0
+abbrev pub RunsAccepted : Stepper → State → Slice → MutSlice → MutSlice → MutSlice → ℕ → MutSlice → Bool → MutSlice → MutSlice → Tallied → Type 0
 RunsAccepted v start program memory inputs outputs budget log keeps journal counts r =
     left_tallied program memory inputs outputs log (journal_if keeps (after journal)) counts r
     ≡ accepted_counted v (lent_to start program memory inputs outputs budget log (journal_if keeps (before journal)))
 
 -- that of a run with its refusals
-abbrev pub RunsTallied : Stepper → State → Slice → Slice → Slice → Slice → ℕ → Slice → Bool → Slice → Slice → Tallied → Type 0
+abbrev pub RunsTallied : Stepper → State → Slice → MutSlice → MutSlice → MutSlice → ℕ → MutSlice → Bool → MutSlice → MutSlice → Tallied → Type 0
 RunsTallied v state program memory inputs outputs budget log keeps journal counts r =
     CountedMeets v (lent_to state program memory inputs outputs budget log (journal_if keeps (before journal)))
     (left_tallied program memory inputs outputs log (journal_if keeps (after journal)) counts r)
 
 -- that of a run that lends no places
-abbrev pub RunsIf : Stepper → State → Slice → Slice → Slice → Slice → ℕ → Slice → Bool → Slice → Tallied → Type 0
+abbrev pub RunsIf : Stepper → State → Slice → MutSlice → MutSlice → MutSlice → ℕ → MutSlice → Bool → MutSlice → Tallied → Type 0
 RunsIf v state program memory inputs outputs budget log keeps journal r =
     CountedMeets v (lent_to state program memory inputs outputs budget log (journal_if keeps (before journal)))
     (left_timed (left_with program memory inputs outputs log (journal_if keeps (after journal)) r.answer r.state) r.usage)

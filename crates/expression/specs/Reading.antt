@@ -85,7 +85,7 @@ module _ {A : Type 0} where
   -- the closing parenthesis after what stands in parentheses
   unfoldable pub closed : A → List Token → Out A
   closed v [] = refused
-  closed v (t ∷ r) = pick ((symbol_of t == (byte "))")) (read v r) refused
+  closed v (t ∷ r) = pick (symbol_of t == byte ")") (read v r) refused
 
   unfoldable pub opening : Start → Out A → Out A → Out A
   opening Nothing x y = refused

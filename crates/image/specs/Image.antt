@@ -7,7 +7,7 @@ use Rattle.machine.specs.declared.Board.{Board}
 use Rattle.machine.specs.declared.Board.TheVariants.{TwoMemories, SingleMemory}
 use Rattle.machine.specs.Machine.{Machine, put_locked, reset, reset_on}
 use Rattle.machine.specs.Lengths.{lengths_fit}
-use Rattle.machine.specs.Slices.{Slice, before, after}
+use Rattle.machine.specs.Slices.{MutSlice, Slice, before, after, read_before}
 use Rattle.image.specs.declared.Range.{Range}
 use Rattle.image.specs.declared.Loaded.{Loaded}
 use Rattle.image.specs.declared.Loading.{Loading}
@@ -145,14 +145,14 @@ load_left g = load_left_by (load_reply g) g
 
 -- ---- The contract, of load's parameters in their order and what it replies
 
-abbrev pub file_lent : Slice → Board → Range → Slice → Slice → Slice → Slice → LoadGiven
+abbrev pub file_lent : Slice → Board → Range → MutSlice → MutSlice → MutSlice → MutSlice → LoadGiven
 file_lent file board range program memory inputs outputs =
-    record { file = before file; board = board; range = range; P = before program; D = before memory; I = before inputs; O = before outputs }
+    record { file = read_before file; board = board; range = range; P = before program; D = before memory; I = before inputs; O = before outputs }
 
-abbrev pub loaded_with : Slice → Slice → Slice → Slice → Loaded → LoadLeft
+abbrev pub loaded_with : MutSlice → MutSlice → MutSlice → MutSlice → Loaded → LoadLeft
 loaded_with program memory inputs outputs r =
     record { reply = shown_loading r.reply; state = r.state; P = after program; D = after memory; I = after inputs; O = after outputs }
 
-abbrev pub Loads : Slice → Board → Range → Slice → Slice → Slice → Slice → Loaded → Type 0
+abbrev pub Loads : Slice → Board → Range → MutSlice → MutSlice → MutSlice → MutSlice → Loaded → Type 0
 Loads file board range program memory inputs outputs r =
     loaded_with program memory inputs outputs r ≡ load_left (file_lent file board range program memory inputs outputs)

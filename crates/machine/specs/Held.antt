@@ -5,7 +5,7 @@ use Rattle.machine.specs.declared.Stepped.{Stepped}
 use Rattle.machine.specs.Machine.{Machine}
 use Rattle.machine.specs.Step.{fetched, Next, cannot, to}
 use Rattle.machine.specs.Run.{Outcome, unless}
-use Rattle.machine.specs.Slices.{Slice, before, after}
+use Rattle.machine.specs.Slices.{MutSlice, before, after}
 
 -- w is the word that a machine of this state, program and data memory fetches
 abbrev pub Fetches : State → List ℕ → List ℕ → ℕ → Type 0
@@ -62,7 +62,7 @@ abbrev pub TestsLock : (Machine → Next) → State → Bool → Type 0
 TestsLock next s r = (m : Machine) → m.state ≡ s → is_lock_stop (next m) ≡ r
 
 -- the contract of a step function, of its parameters and what it hands back
-abbrev pub StepsAs : (Machine → Next) → Bool → State → Slice → Slice → Slice → Slice → ℕ → Stepped → Type 0
+abbrev pub StepsAs : (Machine → Next) → Bool → State → MutSlice → MutSlice → MutSlice → MutSlice → ℕ → Stepped → Type 0
 StepsAs next writes state memory inputs outputs log entries r =
     StepMeets next writes (held state (before memory) (before inputs) (before outputs) (before log) entries) r.stop
     (held r.state (after memory) (after inputs) (after outputs) (after log) r.entries)

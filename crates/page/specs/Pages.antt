@@ -4,7 +4,7 @@ use Rattle.refusal.specs.Refusals.{Verdict, accepted, refused}
 use Rattle.word.specs.Word.{pick}
 use Rattle.machine.specs.declared.State.{State}
 use Rattle.machine.specs.Machine.{reset}
-use Rattle.machine.specs.Slices.{Slice, before, after}
+use Rattle.machine.specs.Slices.{MutSlice, Slice, before, after, read_before, read_after}
 use Rattle.machine.specs.Run.{Stepper}
 use Rattle.usage.specs.Usage.{unused, plus_usage}
 use Rattle.run.specs.declared.Report.{Report}
@@ -202,23 +202,23 @@ abbrev pub PageMeets : Stepper → PageGiven → PageLeft → Type 0
 PageMeets v g l = l ≡ page_left v g
 
 -- the same of its parameters in their order and what it replies
-abbrev pub lent_page : Trims → ℕ → Slice → Slice → Slice → Slice → ℕ → Slice → PageGiven
+abbrev pub lent_page : Trims → ℕ → Slice → MutSlice → MutSlice → MutSlice → ℕ → MutSlice → PageGiven
 lent_page trims count programs memories inputs outputs budget log =
-    page_of trims.states count (before programs) (before memories) (before inputs) (before outputs) budget (before log)
+    page_of trims.states count (read_before programs) (before memories) (before inputs) (before outputs) budget (before log)
 
-abbrev pub left_page : Slice → Slice → Slice → Slice → Slice → Paged → PageLeft
+abbrev pub left_page : Slice → MutSlice → MutSlice → MutSlice → MutSlice → Paged → PageLeft
 left_page programs memories inputs outputs log r =
     record {
       reply = shown_verdict r.check;
       states = r.trims.states;
       answers = r.answers;
-      P = after programs;
+      P = read_after programs;
       D = after memories;
       I = after inputs;
       O = after outputs;
       log = after log;
     }
 
-abbrev pub RunsPage : Stepper → Trims → ℕ → Slice → Slice → Slice → Slice → ℕ → Slice → Paged → Type 0
+abbrev pub RunsPage : Stepper → Trims → ℕ → Slice → MutSlice → MutSlice → MutSlice → ℕ → MutSlice → Paged → Type 0
 RunsPage v trims count programs memories inputs outputs budget log r =
     PageMeets v (lent_page trims count programs memories inputs outputs budget log) (left_page programs memories inputs outputs log r)

@@ -4,7 +4,7 @@ use Rattle.std.specs.Prelude.{◌≡◌, Bool, true, false, ◌&&◌, List, [], 
 use Rattle.refusal.specs.Refusals.{Verdict}
 use Rattle.word.specs.Word.{pick}
 use Rattle.machine.specs.declared.State.{State}
-use Rattle.machine.specs.Slices.{Slice, before, after}
+use Rattle.machine.specs.Slices.{MutSlice, Slice, before, after, read_before, read_after}
 use Rattle.machine.specs.Run.{Stepper, by_rules}
 use Rattle.control.specs.Control.{by_the_table}
 use Rattle.usage.specs.declared.Usage.{Usage}
@@ -126,10 +126,10 @@ pub record TurnedTo (v : Stepper) (again : Bool) (budget places : ℕ) (past : L
   pub steps : (report (turn_by v again budget c)).steps ≡ (report c).steps + r.steps
   pub few : r.steps ≤ budget
 
-abbrev pub TakesTurn : Stepper → Bool → ℕ → ℕ → State → TrimAnswer → Slice → Slice → Slice → Slice → ℕ → Slice → Turned → Type 0
+abbrev pub TakesTurn : Stepper → Bool → ℕ → ℕ → State → TrimAnswer → Slice → MutSlice → MutSlice → MutSlice → ℕ → MutSlice → Turned → Type 0
 TakesTurn v again at places s a programs memories inputs outputs budget log r =
-    (x : CanTurn at places s a (before programs) (before memories) (before inputs) (before outputs) budget (before log))
-    → TurnedTo v again budget places x.past x.done x.c x.todo r (after programs) (after memories) (after inputs) (after outputs) (after log)
+    (x : CanTurn at places s a (read_before programs) (before memories) (before inputs) (before outputs) budget (before log))
+    → TurnedTo v again budget places x.past x.done x.c x.todo r (read_after programs) (after memories) (after inputs) (after outputs) (after log)
 
 -- all trims can run on with what is unused
 pub record CanRound (count places : ℕ) (p : Progress) (P D I O log : List ℕ) : Type 0 where
@@ -145,10 +145,10 @@ pub record RoundedTo (v : Stepper) (again : Bool) (most rest places : ℕ) (past
   pub stands : Stands places past (round_by v again most rest cs) p.states p.answers P D I O log
   pub total : p.rest + total_steps (round_by v again most rest cs) ≡ rest + total_steps cs
 
-abbrev pub TakesRound : Stepper → Bool → ℕ → ℕ → ℕ → Progress → Slice → Slice → Slice → Slice → Slice → Progress → Type 0
+abbrev pub TakesRound : Stepper → Bool → ℕ → ℕ → ℕ → Progress → Slice → MutSlice → MutSlice → MutSlice → MutSlice → Progress → Type 0
 TakesRound v again most count places p programs memories inputs outputs log r =
-    (x : CanRound count places p (before programs) (before memories) (before inputs) (before outputs) (before log))
-    → RoundedTo v again most p.rest places x.past x.trims r (after programs) (after memories) (after inputs) (after outputs) (after log)
+    (x : CanRound count places p (read_before programs) (before memories) (before inputs) (before outputs) (before log))
+    → RoundedTo v again most p.rest places x.past x.trims r (read_after programs) (after memories) (after inputs) (after outputs) (after log)
 
 -- ---- A page
 

@@ -2,7 +2,7 @@
 -- (`load_left`, `save_left`, `assemble_left`, `set_left`, `raise_left`, `counted_left`, `page_left`, `back_left`, `decoding_of`, `write_of`, `window_of`); here their replies become the
 -- numbers of the header's structs. A refusal of 0 is an accepted call; a field that a case does not speak of is 0.
 use Rattle.std.specs.Prelude.{ℕ, ◌+◌, Bool, ◌&&◌, not, List, map, ◌≡◌, eqb, leb, ℤ, pos, length, get_or, take, drop}
-use Rattle.std.specs.Borrow.{Bor}
+use Rattle.std.specs.Borrow.{MutBor}
 use denote.Triple.Both.{Both}
 use Rattle.refusal.specs.Refusals.{Verdict, accepted, refused}
 use Rattle.word.specs.Word.{pick}
@@ -13,7 +13,7 @@ use Rattle.isa.specs.Masks.{Masks, Decoding}
 use Rattle.machine.specs.declared.State.{State}
 use Rattle.machine.specs.Machine.{board_of}
 use Rattle.machine.specs.Run.{Stepper}
-use Rattle.machine.specs.Slices.{Slice, before, after}
+use Rattle.machine.specs.Slices.{MutSlice, Slice, before, after, read_before, read_after}
 use Rattle.panel.specs.Calls.{SetGiven, SetLeft, set_left, raise_left, holds_locked, window_of}
 use Rattle.image.specs.Image.{LoadGiven, LoadLeft, load_left, file_lent}
 use Rattle.save.specs.Saved.{SaveReply, saved, save_refused, SaveGiven, SaveLeft, save_left, lent_to_save}
@@ -64,7 +64,7 @@ unfoldable pub sisa_load_left : LoadGiven → SisaLoadLeft
 sisa_load_left g = load_in_numbers (load_left g)
 
 -- the board is the one that the number names, the range is in numbers
-abbrev pub SisaLoads : Slice → ℕ → ℕ → ℕ → ℕ → Slice → Slice → Slice → Slice → SisaLoad → Type 0
+abbrev pub SisaLoads : Slice → ℕ → ℕ → ℕ → ℕ → MutSlice → MutSlice → MutSlice → MutSlice → SisaLoad → Type 0
 SisaLoads file board locked first last program memory inputs outputs r =
     ◌≡◌ {A = SisaLoadLeft} (record { reply = r; P = after program; D = after memory; I = after inputs; O = after outputs })
     (sisa_load_left (file_lent file (board_of board) (record { locked = locked; first = first; last = last }) program memory inputs outputs))
@@ -87,9 +87,9 @@ save_in_numbers l = record { reply = sisa_saved l.reply l.state; P = l.P; D = l.
 unfoldable pub sisa_save_left : SaveGiven → SisaSaveLeft
 sisa_save_left g = save_in_numbers (save_left g)
 
-abbrev pub SisaSaves : State → Slice → Slice → Slice → SisaSaved → Type 0
+abbrev pub SisaSaves : State → Slice → Slice → MutSlice → SisaSaved → Type 0
 SisaSaves state program memory destination r =
-    ◌≡◌ {A = SisaSaveLeft} (record { reply = r; P = after program; D = after memory; destination = after destination })
+    ◌≡◌ {A = SisaSaveLeft} (record { reply = r; P = read_after program; D = read_after memory; destination = after destination })
     (sisa_save_left (lent_to_save state program memory destination))
 
 -- ---- sisa_assemble
@@ -108,9 +108,9 @@ assembly_in_numbers l = record { reply = sisa_assembly l.reply; program = l.prog
 unfoldable pub sisa_assemble_left : List ℕ → List ℕ → SisaAssembleLeft
 sisa_assemble_left text program = assembly_in_numbers (assemble_left text program)
 
-abbrev pub SisaAssembles : Slice → Slice → SisaAssembly → Type 0
+abbrev pub SisaAssembles : Slice → MutSlice → SisaAssembly → Type 0
 SisaAssembles text program r =
-    ◌≡◌ {A = SisaAssembleLeft} (record { reply = r; program = after program }) (sisa_assemble_left (before text) (before program))
+    ◌≡◌ {A = SisaAssembleLeft} (record { reply = r; program = after program }) (sisa_assemble_left (read_before text) (before program))
 
 -- ---- sisa_set_input
 
@@ -124,7 +124,7 @@ set_in_numbers l = record { refusal = verdict_number l.reply; I = l.I }
 unfoldable pub sisa_set_left : SetGiven → SisaSetLeft
 sisa_set_left g = set_in_numbers (set_left g)
 
-abbrev pub SisaSets : Slice → ℕ → ℕ → ℕ → Type 0
+abbrev pub SisaSets : MutSlice → ℕ → ℕ → ℕ → Type 0
 SisaSets inputs port value r =
     ◌≡◌ {A = SisaSetLeft} (record { refusal = r; I = after inputs }) (sisa_set_left (record { I = before inputs; port = port; value = value }))
 
@@ -167,15 +167,15 @@ sisa_run_left v g = run_in_numbers (counted_left v g)
 abbrev pub SisaRunMeets : Stepper → Given → SisaRunLeft → Type 0
 SisaRunMeets v g l = l ≡ sisa_run_left v g
 
-abbrev pub SisaRuns : Stepper → State → Slice → Slice → Slice → Slice → ℕ → Slice → SisaRun → Type 0
+abbrev pub SisaRuns : Stepper → State → Slice → MutSlice → MutSlice → MutSlice → ℕ → MutSlice → SisaRun → Type 0
 SisaRuns v state program memory inputs outputs budget log r =
     SisaRunMeets v (lent_to state program memory inputs outputs budget log no_journal_lem)
-    (sisa_left r (after program) (after memory) (after inputs) (after outputs) (after log) no_journal_lem)
+    (sisa_left r (read_after program) (after memory) (after inputs) (after outputs) (after log) no_journal_lem)
 
-abbrev pub SisaRunsJournaled : Stepper → State → Slice → Slice → Slice → Slice → ℕ → Slice → Slice → SisaRun → Type 0
+abbrev pub SisaRunsJournaled : Stepper → State → Slice → MutSlice → MutSlice → MutSlice → ℕ → MutSlice → MutSlice → SisaRun → Type 0
 SisaRunsJournaled v state program memory inputs outputs budget log journal r =
     SisaRunMeets v (lent_to state program memory inputs outputs budget log (lent_journal (before journal)))
-    (sisa_left r (after program) (after memory) (after inputs) (after outputs) (after log) (lent_journal (after journal)))
+    (sisa_left r (read_after program) (after memory) (after inputs) (after outputs) (after log) (lent_journal (after journal)))
 
 -- what the host holds and lends to a host step, before or after it
 pub record HostLent : Type 0 where
@@ -201,10 +201,10 @@ HostStepMeets h answer kept =
     (sisa_left (with_state kept.state answer) kept.P kept.D kept.I kept.O kept.log no_journal_lem)
 
 -- the same of its parameters, the state by reference
-abbrev pub HostSteps : Both (Bor State) (Bor State) → Slice → Slice → Slice → Slice → Slice → SisaAnswer → Type 0
+abbrev pub HostSteps : Both (MutBor State) (MutBor State) → Slice → MutSlice → MutSlice → MutSlice → MutSlice → SisaAnswer → Type 0
 HostSteps state program memory inputs outputs log r =
-    HostStepMeets (host_lent state.entry.now (before program) (before memory) (before inputs) (before outputs) (before log)) r
-    (host_lent state.exit.now (after program) (after memory) (after inputs) (after outputs) (after log))
+    HostStepMeets (host_lent state.entry.now (read_before program) (before memory) (before inputs) (before outputs) (before log)) r
+    (host_lent state.exit.now (read_after program) (after memory) (after inputs) (after outputs) (after log))
 
 -- ---- sisa_page_by_rules, sisa_page_by_table
 
@@ -237,10 +237,10 @@ sisa_page_left v g = page_in_numbers (page_left v g)
 abbrev pub SisaPageMeets : Stepper → PageGiven → SisaPageLeft → Type 0
 SisaPageMeets v g l = l ≡ sisa_page_left v g
 
-abbrev pub SisaPages : Stepper → Trims → ℕ → Slice → Slice → Slice → Slice → ℕ → Slice → SisaPage → Type 0
+abbrev pub SisaPages : Stepper → Trims → ℕ → Slice → MutSlice → MutSlice → MutSlice → ℕ → MutSlice → SisaPage → Type 0
 SisaPages v trims count programs memories inputs outputs budget log r =
     SisaPageMeets v (lent_page trims count programs memories inputs outputs budget log)
-    (record { reply = r; P = after programs; D = after memories; I = after inputs; O = after outputs; log = after log })
+    (record { reply = r; P = read_after programs; D = after memories; I = after inputs; O = after outputs; log = after log })
 
 -- ---- sisa_step_back
 
@@ -263,10 +263,10 @@ back_in_numbers l =
 unfoldable pub sisa_back_left : BackGiven → SisaBackLeft
 sisa_back_left g = back_in_numbers (back_left g)
 
-abbrev pub SisaGoesBack : State → Slice → Slice → Slice → Slice → Slice → ℕ → SisaBack → Type 0
+abbrev pub SisaGoesBack : State → Slice → MutSlice → MutSlice → MutSlice → MutSlice → ℕ → SisaBack → Type 0
 SisaGoesBack state program memory inputs outputs journal k r =
     ◌≡◌ {A = SisaBackLeft}
-    (record { reply = r; P = after program; D = after memory; I = after inputs; O = after outputs; journal = after journal })
+    (record { reply = r; P = read_after program; D = after memory; I = after inputs; O = after outputs; journal = after journal })
     (sisa_back_left (lent_back state program memory inputs outputs journal k))
 
 -- ---- sisa_read
@@ -322,5 +322,5 @@ bytes_of w M = take w.count (drop w.start M)
 
 abbrev pub SisaShows : State → Slice → Slice → ℕ → ℕ → ℕ → SisaWindow → Type 0
 SisaShows s program memory ofData start count r =
-    let M = chosen ofData (before program) (before memory) in
-    (r ≡ sisa_window (is_hidden s ofData start count) M start count) × (bytes_of r M ≡ window_of s (before program) (before memory) (not (eqb ofData 0)) start count)
+    let M = chosen ofData (read_before program) (read_before memory) in
+    (r ≡ sisa_window (is_hidden s ofData start count) M start count) × (bytes_of r M ≡ window_of s (read_before program) (read_before memory) (not (eqb ofData 0)) start count)

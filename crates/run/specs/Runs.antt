@@ -5,7 +5,7 @@ use Rattle.word.specs.Word.{pick}
 use Rattle.machine.specs.declared.State.{State}
 use Rattle.machine.specs.Machine.{Machine, even_places, put_journaled}
 use Rattle.machine.specs.Lengths.{lengths_fit}
-use Rattle.machine.specs.Slices.{Slice, before, after}
+use Rattle.machine.specs.Slices.{MutSlice, Slice, before, after, read_before, read_after}
 use Rattle.machine.specs.Run.{Stepper, Outcome, run, trace}
 use Rattle.journal.specs.Journal.{entry_of}
 use Rattle.usage.specs.declared.Usage.{Usage}
@@ -180,32 +180,32 @@ abbrev pub journal_if : Bool → List ℕ → Journal
 journal_if true xs = lent_journal xs
 journal_if false xs = no_journal_lem
 
-abbrev pub lent_to : State → Slice → Slice → Slice → Slice → ℕ → Slice → Journal → Given
+abbrev pub lent_to : State → Slice → MutSlice → MutSlice → MutSlice → ℕ → MutSlice → Journal → Given
 lent_to state program memory inputs outputs budget log journal =
-    given state (before program) (before memory) (before inputs) (before outputs) budget (before log) journal
+    given state (read_before program) (before memory) (before inputs) (before outputs) budget (before log) journal
 
-abbrev pub left_with : Slice → Slice → Slice → Slice → Slice → Journal → Answer → State → Left
+abbrev pub left_with : Slice → MutSlice → MutSlice → MutSlice → MutSlice → Journal → Answer → State → Left
 left_with program memory inputs outputs log journal answer state =
-    left (shown_answer answer) state (after program) (after memory) (after inputs) (after outputs) (after log) journal
+    left (shown_answer answer) state (read_after program) (after memory) (after inputs) (after outputs) (after log) journal
 
 -- a run that counts, with the journal as lent and as returned
-abbrev pub RunsWith : Stepper → State → Slice → Slice → Slice → Slice → ℕ → Slice → Journal → Journal → Counted → Type 0
+abbrev pub RunsWith : Stepper → State → Slice → MutSlice → MutSlice → MutSlice → ℕ → MutSlice → Journal → Journal → Counted → Type 0
 RunsWith v state program memory inputs outputs budget log lent returned r =
     CountedMeets v (lent_to state program memory inputs outputs budget log lent)
     (record { left = left_with program memory inputs outputs log returned r.answer r.state; usage = r.usage; ticks = r.ticks })
 
 -- without one
-abbrev pub RunsCounted : Stepper → State → Slice → Slice → Slice → Slice → ℕ → Slice → Counted → Type 0
+abbrev pub RunsCounted : Stepper → State → Slice → MutSlice → MutSlice → MutSlice → ℕ → MutSlice → Counted → Type 0
 RunsCounted v state program memory inputs outputs budget log r =
     RunsWith v state program memory inputs outputs budget log no_journal_lem no_journal_lem r
 
 -- with one
-abbrev pub RunsJournaled : Stepper → State → Slice → Slice → Slice → Slice → ℕ → Slice → Slice → Counted → Type 0
+abbrev pub RunsJournaled : Stepper → State → Slice → MutSlice → MutSlice → MutSlice → ℕ → MutSlice → MutSlice → Counted → Type 0
 RunsJournaled v state program memory inputs outputs budget log journal r =
     RunsWith v state program memory inputs outputs budget log (lent_journal (before journal)) (lent_journal (after journal)) r
 
 -- a run without journal and without counts
-abbrev pub RunsOnly : Stepper → State → Slice → Slice → Slice → Slice → ℕ → Slice → Ran → Type 0
+abbrev pub RunsOnly : Stepper → State → Slice → MutSlice → MutSlice → MutSlice → ℕ → MutSlice → Ran → Type 0
 RunsOnly v state program memory inputs outputs budget log r =
     RunMeets v (lent_to state program memory inputs outputs budget log no_journal_lem)
     (left_with program memory inputs outputs log no_journal_lem r.answer r.state)

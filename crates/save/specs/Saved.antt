@@ -4,7 +4,7 @@ use Rattle.refusal.specs.Refusals.{refusal_number}
 use Rattle.word.specs.Word.{pick}
 use Rattle.machine.specs.declared.State.{State}
 use Rattle.machine.specs.Machine.{is_single, is_locked, word_at}
-use Rattle.machine.specs.Slices.{Slice, before, after}
+use Rattle.machine.specs.Slices.{MutSlice, Slice, before, after, read_before, read_after}
 use Rattle.save.specs.declared.Saved.{Saved}
 use Rattle.save.specs.declared.Saving.{Saving}
 use Rattle.save.specs.declared.Saving.TheVariants.{Written, Refused}
@@ -105,14 +105,14 @@ save_left g = save_left_by (save_reply g) g
 
 -- ---- The contract, of save's parameters in their order and what it replies
 
-abbrev pub lent_to_save : State → Slice → Slice → Slice → SaveGiven
+abbrev pub lent_to_save : State → Slice → Slice → MutSlice → SaveGiven
 lent_to_save state program memory destination =
-    record { state = state; P = before program; D = before memory; destination = before destination }
+    record { state = state; P = read_before program; D = read_before memory; destination = before destination }
 
-abbrev pub saved_with : SaveReply → State → Slice → Slice → Slice → SaveLeft
+abbrev pub saved_with : SaveReply → State → Slice → Slice → MutSlice → SaveLeft
 saved_with reply state program memory destination =
-    record { reply = reply; state = state; P = after program; D = after memory; destination = after destination }
+    record { reply = reply; state = state; P = read_after program; D = read_after memory; destination = after destination }
 
-abbrev pub Saves : State → Slice → Slice → Slice → Saved → Type 0
+abbrev pub Saves : State → Slice → Slice → MutSlice → Saved → Type 0
 Saves state program memory destination r =
     saved_with (shown_saving r.reply) r.state program memory destination ≡ save_left (lent_to_save state program memory destination)
