@@ -31,12 +31,19 @@ CHOSEN = {
     "labelInside": "LabelInside",
     "bit-or": "bit_or_lem",
     "by-kind": "by_kind_lem",
-    "in-range": "in_range_lem",
+    "in-range": "stays_in_range",
     "put-back": "put_back_lem",
     "unit-of": "unit_of_lem",
     "word-at": "word_at_lem",
     "getD-within": "get_or_within",
-    "host-step": "host_step_lem",
+    "host-step": "host_step",
+    "aRegister": "one_register",
+    "a-register": "a_register",
+    "no-journal": "no_journal",
+    "zero-divisor": "by_zero_divisor",
+    "by-control": "through_control",
+    "data-part": "the_data_part",
+    "program-part": "the_program_part",
 }
 DECLARED = re.compile(r"(?m)^(\s*)((?:pub|abbrev|unfoldable|record|data|opaque) )*([^\s(){}\[\]:.,;@\"]+)((?: [^\s(){}\[\]:.,;@\"→=]+)*) :(?= |$)([^\n]*)")
 CASES = re.compile(r"(?m)^\s*(?:pub )?data [^\n]*where\n((?:[ \t]+[^\n]*\n|\s*\n)*)")

@@ -17,7 +17,7 @@ use Rattle.kinds.specs.declared.Kind.TheVariants.{Ld, St, Ldb, Stb}
 use Rattle.kinds.specs.Kinds.{kind_number}
 use Rattle.usage.specs.declared.Usage.{Usage}
 use Rattle.usage.specs.Usage.{word_is, counted, took_lines, step_counted, usage_of, ticks_at, ticks_of}
-use Rattle.run.specs.Runs.{Journal, no_journal_lem, lent_journal, placed, kept_in}
+use Rattle.run.specs.Runs.{Journal, no_journal, lent_journal, placed, kept_in}
 
 abbrev pub map_next : (Machine → Machine) → Next → Next
 map_next f (cannot q) = cannot q
@@ -127,7 +127,7 @@ module _ (f : Machine → Machine) where
   entries_alike (m ∷ ms) s = λ i. s.0.entry i ∷ entries_alike ms s.1 i
 
   pub kept_alike : (x : Journal) (count : ℕ) (ms : List Machine) → Each (Seen f) ms → kept_in x count (map f ms) ≡ kept_in x count ms
-  kept_alike no_journal_lem count ms s = refl
+  kept_alike no_journal count ms s = refl
   kept_alike (lent_journal xs) count ms s = ap (λ es. lent_journal (placed count es xs)) (entries_alike ms s)
 
 -- ---- What each step keeps

@@ -82,8 +82,8 @@ single_load file range f h l e =
     f.program.inside_file f.bytes.inside_file in
     record {
       long = ap length D ∙ (loaded_lengths file SingleMemory f h).1;
-      program_part_lem = λ k u. ap (λ M. get_or M k 0) D ∙ row.first k u;
-      data_part_lem = λ k u v. ap (λ M. get_or M k 0) D ∙ row.second k u v;
+      the_program_part = λ k u. ap (λ M. get_or M k 0) D ∙ row.first k u;
+      the_data_part = λ k u v. ap (λ M. get_or M k 0) D ∙ row.second k u v;
       zero_after = λ k u. ap (λ M. get_or M k 0) D ∙ row.rest k u;
       program = ap (λ (m : Machine). m.P) e;
       inputs = ap (λ (m : Machine). m.I) e;
@@ -196,7 +196,7 @@ boards =
     record {
       load = load;
       through_rules = never_reads by_rules by_the_rules;
-      by_control_lem = λ words. never_reads (by_control words) (λ P. by_any_table P words);
+      through_control = λ words. never_reads (by_control words) (λ P. by_any_table P words);
       back = back;
       back_stays = λ g. ap (λ (l : BackLeft). l.P) (back g g.P refl);
       save = save;

@@ -144,8 +144,8 @@ module _ (v : Stepper) (g : Given) where
       let b = run_back (verdict_on g) (run_not_0 g) in
       record { gives_back = b.0; refusal_0 = b.1; others_0 = b.2 }
 
-pub host_step_lem : (h after : HostLent) (a : SisaAnswer) → HostStepMeets h a after → RunReplies by_the_table (step_given h) (step_left a after)
-host_step_lem h after a e = subst (RunReplies by_the_table (step_given h)) (sym e) (run by_the_table (step_given h))
+pub host_step : (h after : HostLent) (a : SisaAnswer) → HostStepMeets h a after → RunReplies by_the_table (step_given h) (step_left a after)
+host_step h after a e = subst (RunReplies by_the_table (step_given h)) (sym e) (run by_the_table (step_given h))
 
 -- ---- Pages
 
@@ -332,12 +332,12 @@ c_replies =
       setting = setting;
       raise = raise;
       run = run;
-      host_step_lem = host_step_lem;
+      host_step = host_step;
       page = page;
       back = back;
       feed = feed;
       feed_run = λ v g s. fed_run v g s (sisa_run_left v g) (run v g);
-      feed_host_step = λ h after a s e. fed_run by_the_table (step_given h) s (step_left a after) (host_step_lem h after a e);
+      feed_host_step = λ h after a s e. fed_run by_the_table (step_given h) s (step_left a after) (host_step h after a e);
       read = read;
       write = write;
       write_no_kind = no_kind;

@@ -13,37 +13,37 @@ use lib.ListN.{length, get_or, drop, length-append, length-take, length-drop, ge
 use lib.Seq.{get_or-append-add, get_or-drop}
 use Rattle.machine.specs.declared.State.{State}
 use Rattle.machine.specs.Machine.{put_journaled}
-use Rattle.run.specs.Runs.{Journal, no_journal_lem, lent_journal, allowed_in, start_in, counted_in, placed}
+use Rattle.run.specs.Runs.{Journal, no_journal, lent_journal, allowed_in, start_in, counted_in, placed}
 use Rattle.claims.specs.Runs.{Full, count_after}
 
 -- ---- The state
 
 pub start_is : (x : Journal) (s : State) → start_in x s ≡ put_journaled (start_in x s).journaled s
-start_is no_journal_lem s = refl
+start_is no_journal s = refl
 start_is (lent_journal xs) s = refl
 
 pub counted_is : (x : Journal) (k : ℕ) (s : State) → counted_in x k s ≡ put_journaled (counted_in x k s).journaled s
-counted_is no_journal_lem k s = refl
+counted_is no_journal k s = refl
 counted_is (lent_journal xs) k s = refl
 
 -- where steps leave the count that the run starts from
 pub count_after_lem : (x : Journal) (k : ℕ) (s last : State) → last.journaled ≡ (start_in x s).journaled → counted_in x k last ≡ put_journaled (count_after x s.journaled k) last
-count_after_lem no_journal_lem k s last e = ap (λ j. put_journaled j last) e
+count_after_lem no_journal k s last e = ap (λ j. put_journaled j last) e
 count_after_lem (lent_journal xs) k s last e = ap (λ j. put_journaled (j + k) last) e
 
 -- ---- The steps allowed
 
 pub allowed_few : (x : Journal) (count budget : ℕ) → allowed_in x count budget ≤ budget
-allowed_few no_journal_lem count budget = omega arith
+allowed_few no_journal count budget = omega arith
 allowed_few (lent_journal xs) count budget = omega arith
 
 -- before they are used up neither the budget is nor the journal full, and then one of them is
 pub may_go_on : (x : Journal) (count budget j : ℕ) → j < allowed_in x count budget → (j ≡ budget → ⊥) × (Full x (count + j) → ⊥)
-may_go_on no_journal_lem count budget j h = (λ e. omega arith, λ f. f)
+may_go_on no_journal count budget j h = (λ e. omega arith, λ f. f)
 may_go_on (lent_journal xs) count budget j h = (λ e. omega arith, λ f. omega arith)
 
 pub used_up : (x : Journal) (count budget j : ℕ) → allowed_in x count budget ≡ j → (j ≡ budget) ⊎ Full x (count + j)
-used_up no_journal_lem count budget j e = inl (omega arith)
+used_up no_journal count budget j e = inl (omega arith)
 used_up (lent_journal xs) count budget j e = go (leb budget (length xs - count)) refl
   where
     go : (t : Bool) → leb budget (length xs - count) ≡ t → (j ≡ budget) ⊎ Full (lent_journal xs) (count + j)

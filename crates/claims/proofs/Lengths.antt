@@ -16,7 +16,7 @@ use Rattle.machine.specs.Run.{by_rules}
 use Rattle.machine.proofs.Runs.{Even}
 use Rattle.panel.specs.Calls.{SetLeft, set_left, RaiseLeft, raise_left}
 use Rattle.control.proofs.Laws.{lawful_rules, local_rules}
-use Rattle.run.specs.Runs.{Journal, no_journal_lem, lent_journal, start_in, counted_in, verdict, verdict_on, allowed, machine_at, CountedLeft, counted_by, counted_left}
+use Rattle.run.specs.Runs.{Journal, no_journal, lent_journal, start_in, counted_in, verdict, verdict_on, allowed, machine_at, CountedLeft, counted_by, counted_left}
 use Rattle.claims.specs.Session.{Call, Reply, of_raise, Host, Lent, given_to, after_one_run, after_set, after_raise, CallMeets, a_run, a_setting, a_raise, Calls, none, more, machine_on, Only6, All, nil, cons}
 use Rattle.claims.proofs.Shift.{run_keeps}
 use Rattle.claims.proofs.Together.{both, told}
@@ -33,11 +33,11 @@ step_fits m next s f = (ap (λ k. (length k.0, k.1, k.2, k.3)) (local_rules.keep
 
 -- counting steps leaves PC and the return address
 start_even : (x : Journal) (s : State) → Even s → Even (start_in x s)
-start_even no_journal_lem s e = e
+start_even no_journal s e = e
 start_even (lent_journal xs) s e = e
 
 counted_even : (x : Journal) (k : ℕ) (s : State) → Even s → Even (counted_in x k s)
-counted_even no_journal_lem k s e = e
+counted_even no_journal k s e = e
 counted_even (lent_journal xs) k s e = e
 
 module _ (h : Host) (f : Fit (machine_on h [])) where

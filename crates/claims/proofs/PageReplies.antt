@@ -20,7 +20,7 @@ use Rattle.machine.specs.Run.{Stepper, by_rules}
 use Rattle.machine.proofs.Runs.{Lawful}
 use Rattle.control.specs.Control.{table}
 use Rattle.control.proofs.Laws.{lawful_control, lawful_rules}
-use Rattle.run.specs.Runs.{no_journal_lem, Given, given, verdict_on, machine_at, run_left_by, run_left, CountedLeft, counted_by, counted_left}
+use Rattle.run.specs.Runs.{no_journal, Given, given, verdict_on, machine_at, run_left_by, run_left, CountedLeft, counted_by, counted_left}
 use Rattle.page.specs.Pages.{PageGiven, PageLeft, up_from, trim, joined_fit, first_refusal, page_verdict, go_on_with, share, first_round, second_round, trims_end, answer_of, no_answer, accepted_page, page_left_by, page_left}
 use Rattle.page.specs.Parts.{Each}
 use Rattle.page.proofs.Verdicts.{accepts, accepted_less}
@@ -76,7 +76,7 @@ module _ (v : Stepper) (law : Lawful v) where
   -- from 0 at an accepted run without a journal, as handed by a refused one
   module _ (s : State) (P D I O : List ℕ) (budget : ℕ) (log : List ℕ) where
     abbrev g : Given
-    g = given s P D I O budget log no_journal_lem
+    g = given s P D I O budget log no_journal
 
     counted_0 : (x : Verdict) → (x ≡ accepted) ⊎ (s.journaled ≡ 0) → Is0 (counted_by v x g)
     counted_0 accepted h =

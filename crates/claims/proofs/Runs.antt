@@ -16,9 +16,9 @@ use Rattle.machine.proofs.Runs.{Lawful, run_none, run_cannot, run_full, run_on, 
 use Rattle.journal.specs.Journal.{entry_of}
 use Rattle.control.specs.Control.{by_control}
 use Rattle.control.proofs.Laws.{lawful_control, lawful_rules, Reason, cannot_rules, cannot_control}
-use Rattle.run.specs.Runs.{Journal, no_journal_lem, lent_journal, Given, left, stopped, allowed_in, placed, kept_in, allowed, machine_at, left_of, run_left_by, run_left, verdict_on}
+use Rattle.run.specs.Runs.{Journal, no_journal, lent_journal, Given, left, stopped, allowed_in, placed, kept_in, allowed, machine_at, left_of, run_left_by, run_left, verdict_on}
 use Rattle.run.proofs.Uncounted.{uncounted}
-use Rattle.claims.specs.Runs.{Takes, none, more, MayGoOn, First, budget_used, journal_full, word_unassigned, zero_divisor_lem, locked_byte, no_place, Kept, none_kept, kept, Reported, Runs}
+use Rattle.claims.specs.Runs.{Takes, none, more, MayGoOn, First, budget_used, journal_full, word_unassigned, by_zero_divisor, locked_byte, no_place, Kept, none_kept, kept, Reported, Runs}
 use Rattle.claims.proofs.Journaled.{start_is, count_after_lem, may_go_on, used_up, length_placed, placed_at, placed_other}
 
 -- the number of steps, said in another way
@@ -66,7 +66,7 @@ module _ (v : Stepper) (known : Known v) (g : Given) where
   none_here j m next h s f p (budget_used e) = h.0 e
   none_here j m next h s f p (journal_full e) = h.1 e
   none_here j m next h s f p (word_unassigned n e) = clash (cc)
-  none_here j m next h s f p (zero_divisor_lem n e) = clash (cc)
+  none_here j m next h s f p (by_zero_divisor n e) = clash (cc)
   none_here j m next h s f p (locked_byte n e) = clash (cc)
   none_here j m next h s f p (no_place n e t) = never (sym f ∙ t)
 
@@ -107,7 +107,7 @@ module _ (v : Stepper) (known : Known v) (g : Given) where
           (⊎_elim
           (λ e. subst (First v g j m) (sym e) (word_unassigned may (s ∙ ap cannot e)))
           (⊎_elim
-          (λ e. subst (First v g j m) (sym e) (zero_divisor_lem may (s ∙ ap cannot e)))
+          (λ e. subst (First v g j m) (sym e) (by_zero_divisor may (s ∙ ap cannot e)))
           (λ e. subst (First v g j m) (sym e) (locked_byte may (s ∙ ap cannot e))))
           (known.reasons m q s)))
       turn may go (to next) s true f =
@@ -119,7 +119,7 @@ module _ (v : Stepper) (known : Known v) (g : Given) where
 keeping :
     (v : Stepper) (start : Machine) (count budget : ℕ) (ms : List Machine) → ((i : ℕ) → i < length ms → (x : Machine) → Takes v i start x → get_or (map entry_of ms) i 0 ≡ entry_of x)
     → (x : Journal) → length ms ≤ allowed_in x count budget → Kept v start count (length ms) x (kept_in x count ms)
-keeping v start count budget ms at no_journal_lem few = none_kept
+keeping v start count budget ms at no_journal few = none_kept
 keeping v start count budget ms at (lent_journal xs) few =
     let es = map entry_of ms in
     let n : length es ≡ length ms = length-map ms entry_of in
@@ -170,6 +170,6 @@ pub runs : Runs
 runs =
     record {
       through_rules = reported by_rules (record { lawful = lawful_rules; reasons = cannot_rules });
-      by_control_lem = λ words. reported (by_control words) (record { lawful = lawful_control words; reasons = cannot_control words });
+      through_control = λ words. reported (by_control words) (record { lawful = lawful_control words; reasons = cannot_control words });
       without_counts = λ v g. uncounted v g refl;
     }

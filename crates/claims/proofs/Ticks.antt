@@ -22,7 +22,7 @@ use Rattle.machine.specs.Step.{addi, ld, choice, fetched, step}
 use Rattle.machine.specs.Run.{by_rules, no_place_at, run_from, trace_from}
 use Rattle.usage.specs.Usage.{is_kind, does, ticks_at, ticks_of}
 use Rattle.control.proofs.Laws.{lawful_rules}
-use Rattle.run.specs.Runs.{no_journal_lem, Given, given, stopped, run_refused, verdict, verdict_on, trace_on, CountedLeft, counted_by, counted_left}
+use Rattle.run.specs.Runs.{no_journal, Given, given, stopped, run_refused, verdict, verdict_on, trace_on, CountedLeft, counted_by, counted_left}
 use Rattle.run.proofs.Ticks.{steps_traced}
 use Rattle.claims_sheet.proofs.Rules.{unstopped}
 use Rattle.claims.specs.Session.{Engine, stepper_of}
@@ -95,7 +95,7 @@ none_refused g (refused n) k e = refl
 
 -- a run of one step, of the word with this high byte and a low byte 0
 abbrev one_step : ℕ → Given
-one_step high = given reset (0 ∷ high ∷ replicate 65534 0) (replicate 65536 0) (replicate 256 0) (replicate 256 0) 1 [] no_journal_lem
+one_step high = given reset (0 ∷ high ∷ replicate 65534 0) (replicate 65536 0) (replicate 256 0) (replicate 256 0) 1 [] no_journal
 
 -- by either engine, where the rules do it
 taken : (e : Engine) (g : Given) (times q s k : ℕ) → 1 ≤ s → (counted_left by_rules g).left.reply ≡ stopped q s k → (counted_left by_rules g).ticks ≡ times * s → Takes e times

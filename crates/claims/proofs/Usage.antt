@@ -24,7 +24,7 @@ use Rattle.claims.specs.CReplies.{run_of, step_left}
 use Rattle.claims.specs.Usage.{Run, step_run, Fed, Returned, none, more, more_step, Reordered, counts_by, one_by, counts_of, accepted_of, Feeds, steps_in, steps_of, sheet_of, Sheets}
 use Rattle.claims.proofs.Counts.{at_total, Counts, counts_none, counts_plus, traced}
 use Rattle.claims.proofs.Feeding.{next_by, turned, next, into, taken_of, feeds, fed_into, fed_few, any_into, any_taken, any_steps, first_last}
-use Rattle.claims.proofs.CReplies.{host_step_lem}
+use Rattle.claims.proofs.CReplies.{host_step}
 use Rattle.claims.proofs.Journaled.{start_is, allowed_few}
 use Rattle.claims.proofs.Refusals.{refusals}
 
@@ -127,7 +127,7 @@ summed none = record { taken = refl; counts = counts_none; few = omega arith; sh
 summed (more {rs} {fs} r l h p) = one_more r l rs fs (ran r l h) (summed p)
 summed (more_step {rs} {fs} h after a e p) =
     let l = run_of (step_left a after) in
-    one_more (step_run h) l rs fs (ran (step_run h) l (host_step_lem h after a e).gives_back) (summed p)
+    one_more (step_run h) l rs fs (ran (step_run h) l (host_step h after a e).gives_back) (summed p)
 
 -- the counts of a sheet that was fed
 fed_counts : {rs : List Run} {fs order : List Fed} {s : Sheet} → Returned rs fs → Reordered fs order → Feeds empty order s

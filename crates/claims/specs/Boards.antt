@@ -17,9 +17,9 @@ use Rattle.back.specs.Backs.{BackGiven, BackLeft, back_left}
 pub record SingleLoad (file : List ℕ) (range : Range) (l : LoadLeft) : Type 0 where
   pub long : length l.D ≡ 65536
   -- Byte k of data memory is the program part's for k below 2W,
-  pub program_part_lem : (k : ℕ) → k < 2 * W file → get_or l.D k 0 ≡ get_or file (program_offset file + k) 0
+  pub the_program_part : (k : ℕ) → k < 2 * W file → get_or l.D k 0 ≡ get_or file (program_offset file + k) 0
   -- the data part's byte k - 2W for k below 2W + C,
-  pub data_part_lem : (k : ℕ) → 2 * W file ≤ k → k < 2 * W file + C file → get_or l.D k 0 ≡ get_or file (data_offset file + (k - 2 * W file)) 0
+  pub the_data_part : (k : ℕ) → 2 * W file ≤ k → k < 2 * W file + C file → get_or l.D k 0 ≡ get_or file (data_offset file + (k - 2 * W file)) 0
   -- and else 0.
   pub zero_after : (k : ℕ) → 2 * W file + C file ≤ k → get_or l.D k 0 ≡ 0
   -- The lent program memory is zeroed, and so are both ports; the state is a reset one of that board, with the range named.
@@ -66,7 +66,7 @@ pub record Boards : Type 0 where
   -- On the single-memory board P is never read: by a run by the rules, with a journal or without,
   pub through_rules : (g : Given) → is_single g.state ≡ true → RunNeverReads by_rules g
   -- by a run by any table, of which a run by the paper's and a host step are one,
-  pub by_control_lem : (words : List ℕ) (g : Given) → is_single g.state ≡ true → RunNeverReads (by_control words) g
+  pub through_control : (words : List ℕ) (g : Given) → is_single g.state ≡ true → RunNeverReads (by_control words) g
   -- by going back (on either board),
   pub back : (g : BackGiven) (P : List ℕ) → length P ≡ length g.P → back_left (back_given_p P g) ≡ back_left_p P (back_left g)
   pub back_stays : (g : BackGiven) → (back_left g).P ≡ g.P

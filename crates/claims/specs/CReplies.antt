@@ -19,7 +19,7 @@ use Rattle.assembler.specs.Text.{Reply, words, text_refused, AssembleLeft, assem
 use Rattle.control.specs.Control.{by_the_table}
 use Rattle.usage.specs.declared.Usage.{Usage}
 use Rattle.usage.specs.Usage.{unused}
-use Rattle.run.specs.Runs.{no_journal_lem, Given, left, RunReply, CountedLeft, counted_left}
+use Rattle.run.specs.Runs.{no_journal, Given, left, RunReply, CountedLeft, counted_left}
 use Rattle.page.specs.declared.TrimAnswer.{TrimAnswer}
 use Rattle.page.specs.Pages.{PageGiven, PageLeft, page_left}
 use Rattle.back.specs.Backs.{BackReply, gone_back, back_refused, BackGiven, BackLeft, back_left}
@@ -122,7 +122,7 @@ pub record RunReplies (v : Stepper) (g : Given) (l : SisaRunLeft) : Type 0 where
 
 -- a host step's answer, and what it left in the host's registers and in what was lent
 abbrev pub step_left : SisaAnswer → HostLent → SisaRunLeft
-step_left a after = sisa_left (with_state after.state a) after.P after.D after.I after.O after.log no_journal_lem
+step_left a after = sisa_left (with_state after.state a) after.P after.D after.I after.O after.log no_journal
 
 -- ---- sisa_page_by_rules, sisa_page_by_table
 
@@ -241,7 +241,7 @@ pub record CReplies : Type 0 where
   pub raise : (s : State) (line : ℕ) → RaiseReplies s line
   pub run : (v : Stepper) (g : Given) → RunReplies v g (sisa_run_left v g)
   -- a host step, known by its contract
-  pub host_step_lem :
+  pub host_step :
       (h after : HostLent) (a : SisaAnswer) → HostStepMeets h a after → RunReplies by_the_table (step_given h) (step_left a after)
   pub page : (e : Engine) (g : PageGiven) → PageReplies (stepper_of e) g (sisa_page_left (stepper_of e) g)
   pub back : (g : BackGiven) → BackReplies g

@@ -17,7 +17,7 @@ use Rattle.assembler.specs.Passes.{shown_assembly}
 use Rattle.control.specs.Control.{by_control, by_the_table}
 use Rattle.run.specs.declared.Answer.{Answer}
 use Rattle.run.specs.declared.Counted.{Counted}
-use Rattle.run.specs.Runs.{Journal, no_journal_lem, lent_journal, Given, given, Left, left, shown_answer, shown_verdict, RunMeets, CountedMeets}
+use Rattle.run.specs.Runs.{Journal, no_journal, lent_journal, Given, given, Left, left, shown_answer, shown_verdict, RunMeets, CountedMeets}
 use Rattle.page.specs.declared.Trims.{Trims}
 use Rattle.page.specs.declared.Paged.{Paged}
 use Rattle.page.specs.Pages.{PageGiven, page_of, PageMeets}
@@ -63,7 +63,7 @@ RunArguments X = State × (LentSlice × (LentSlice × (LentSlice × (LentSlice �
 
 -- the journal that follows it: none, or one
 abbrev pub no_journal_of : Unit {0} → Journal
-no_journal_of x = no_journal_lem
+no_journal_of x = no_journal
 
 abbrev pub with_journal : LentSlice × Unit {0} → Journal
 with_journal x = lent_journal x.0.now

@@ -3,7 +3,7 @@
 use Rattle.std.specs.Prelude.{◌≡◌, List, [], ◌∷◌, map, ℕ, eqb}
 use Rattle.word.specs.Word.{pick}
 use Rattle.machine.specs.declared.State.{State}
-use Rattle.run.specs.Runs.{no_journal_lem, Given, given, RunReply, stopped, run_refused}
+use Rattle.run.specs.Runs.{no_journal, Given, given, RunReply, stopped, run_refused}
 use Rattle.replies.specs.declared.SisaAnswer.{SisaAnswer}
 use Rattle.replies.specs.Sisa.{HostLent, host_lent, HostStepMeets}
 use Rattle.claims.specs.Session.{through_table, Lent, Call, runs, Reply, of_run, Host, CallMeets, Calls}
@@ -11,19 +11,19 @@ use Rattle.claims.specs.Session.{through_table, Lent, Call, runs, Reply, of_run,
 -- a call of Session.antt, or a host step and the log that it is lent
 pub data HostCall : Type 0 where
   call : Call → HostCall
-  host_step_lem : List ℕ → HostCall
+  host_step : List ℕ → HostCall
 
 abbrev pub budget1 : List ℕ → Lent
-budget1 log = record { budget = 1; log = log; journal = no_journal_lem }
+budget1 log = record { budget = 1; log = log; journal = no_journal }
 
 -- the table run in a host step's place
 abbrev pub as_run : HostCall → Call
 as_run (call c) = c
-as_run (host_step_lem log) = runs through_table (budget1 log)
+as_run (host_step log) = runs through_table (budget1 log)
 
 -- what that run is given, where the host holds and lends h
 abbrev pub step_given : HostLent → Given
-step_given h = given h.state h.P h.D h.I h.O 1 h.log no_journal_lem
+step_given h = given h.state h.P h.D h.I h.O 1 h.log no_journal
 
 -- a host step's answer as a run's reply: refusal 0 is an accepted one
 abbrev pub reply_of : SisaAnswer → RunReply
@@ -36,7 +36,7 @@ pub data HostCallMeets : Host → HostCall → Reply → Host → Type 0 where
   a_step :
       (h : Host) (log : List ℕ) (answer : SisaAnswer) (state : State) (P D I O returned : List ℕ)
       → HostStepMeets (host_lent h.state h.P h.D h.I h.O log) answer (host_lent state P D I O returned)
-      → HostCallMeets h (host_step_lem log) (of_run (reply_of answer) answer.usage answer.ticks returned no_journal_lem)
+      → HostCallMeets h (host_step log) (of_run (reply_of answer) answer.usage answer.ticks returned no_journal)
       (record { state = state; P = P; D = D; I = I; O = O })
 
 -- a list of calls, one after the other

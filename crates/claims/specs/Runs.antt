@@ -6,7 +6,7 @@ use Rattle.machine.specs.Step.{cannot, to}
 use Rattle.machine.specs.Run.{Stepper, by_rules, no_place_at}
 use Rattle.journal.specs.Journal.{entry_of}
 use Rattle.control.specs.Control.{by_control}
-use Rattle.run.specs.Runs.{Journal, no_journal_lem, lent_journal, Given, Left, left, stopped, machine_at, run_left, counted_left}
+use Rattle.run.specs.Runs.{Journal, no_journal, lent_journal, Given, Left, left, stopped, machine_at, run_left, counted_left}
 
 -- so many possible steps lead from one machine to the other, where v is what the run goes by
 pub data Takes (v : Stepper) : ℕ → Machine → Machine → Type 0 where
@@ -15,7 +15,7 @@ pub data Takes (v : Stepper) : ℕ → Machine → Machine → Type 0 where
 
 -- A journal is lent and full (02, L7): it has no place for an entry after so many.
 abbrev pub Full : Journal → ℕ → Type 0
-Full no_journal_lem entries = ⊥
+Full no_journal entries = ⊥
 Full (lent_journal xs) entries = length xs ≤ entries
 
 -- after j steps of a run the budget is not used, and no journal is full
@@ -30,7 +30,7 @@ pub data First (v : Stepper) (g : Given) (j : ℕ) (m : Machine) : ℕ → Type 
   budget_used : j ≡ g.budget → First v g j m 0
   journal_full : Full g.journal (g.state.journaled + j) → First v g j m 0
   word_unassigned : MayGoOn g j → v.steps m ≡ cannot 1 → First v g j m 1
-  zero_divisor_lem : MayGoOn g j → v.steps m ≡ cannot 3 → First v g j m 3
+  by_zero_divisor : MayGoOn g j → v.steps m ≡ cannot 3 → First v g j m 3
   locked_byte : MayGoOn g j → v.steps m ≡ cannot 4 → First v g j m 4
   no_place : MayGoOn g j → {next : Machine} → v.steps m ≡ to next → no_place_at v (length g.log) m ≡ true → First v g j m 2
 
@@ -42,12 +42,12 @@ pub record Entered (v : Stepper) (start : Machine) (count s : ℕ) (xs ys : List
   pub others : (k : ℕ) → (k < count) ⊎ (count + s ≤ k) → get_or ys k 0 ≡ get_or xs k 0
 
 pub data Kept (v : Stepper) (start : Machine) (count s : ℕ) : Journal → Journal → Type 0 where
-  none_kept : Kept v start count s no_journal_lem no_journal_lem
+  none_kept : Kept v start count s no_journal no_journal
   kept : (xs ys : List ℕ) → Entered v start count s xs ys → Kept v start count s (lent_journal xs) (lent_journal ys)
 
 -- what is counted then: from 0 where no journal is lent, and one more a step where one is
 abbrev pub count_after : Journal → ℕ → ℕ → ℕ
-count_after no_journal_lem count s = 0
+count_after no_journal count s = 0
 count_after (lent_journal xs) count s = count + s
 
 -- the report of a run with what it was given and what it left
@@ -72,7 +72,7 @@ pub record Runs : Type 0 where
   -- by the rules, where a step is the plain machine's
   pub through_rules : (g : Given) (q s k : ℕ) → (run_left by_rules g).reply ≡ stopped q s k → Reported by_rules g (run_left by_rules g) q s k
   -- by any table, where it is that of the table's word
-  pub by_control_lem :
+  pub through_control :
       (words : List ℕ) (g : Given) (q s k : ℕ) → (run_left (by_control words) g).reply ≡ stopped q s k
       → Reported (by_control words) g (run_left (by_control words) g) q s k
   -- `run_by_control` promises `run_left`; the other runs, which also count, promise `counted_left`, the same besides the counts.

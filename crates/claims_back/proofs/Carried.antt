@@ -15,7 +15,7 @@ use Rattle.machine.specs.Run.{by_rules}
 use Rattle.machine.proofs.Runs.{Even, places_even}
 use Rattle.journal.specs.Journal.{entry_of}
 use Rattle.journal.specs.Ranges.{InRange}
-use Rattle.run.specs.Runs.{no_journal_lem, lent_journal, Given, stopped, run_refused, verdict, verdict_on, allowed, machine_at, placed, trace_on, outcome_on, accepted_left, CountedLeft, counted_by, counted_left}
+use Rattle.run.specs.Runs.{no_journal, lent_journal, Given, stopped, run_refused, verdict, verdict_on, allowed, machine_at, placed, trace_on, outcome_on, accepted_left, CountedLeft, counted_by, counted_left}
 use Rattle.claims.specs.Session.{Host, Lent, given_to, after_one_run, machine_on}
 use Rattle.claims_back.specs.History.{History, Past, taken_by, taken}
 use Rattle.claims_back.proofs.Pasts.{held_sound, sound_begins, known, unraised}
@@ -44,7 +44,7 @@ module _ (h : Host) (budget : ℕ) (log : List ℕ) where
   -- without a journal
   module _ (r : InRange (machine_on h [])) where
     abbrev without : Given
-    without = given_to h (record { budget = budget; log = log; journal = no_journal_lem })
+    without = given_to h (record { budget = budget; log = log; journal = no_journal })
 
     run_without : verdict_on without ≡ accepted → (xs : List ℕ) → Past (after_one_run (accepted_left by_rules without)) xs []
     run_without e xs =
@@ -52,9 +52,9 @@ module _ (h : Host) (budget : ℕ) (log : List ℕ) where
         let after = (outcome_on by_rules without).after in
         let w = walked walk in
         let found = passes without e in
-        let start = held_sound 0 [] r.pending r.inputs (record { in_range_lem = r; even = found.even }) in
+        let start = held_sound 0 [] r.pending r.inputs (record { stays_in_range = r; even = found.even }) in
         let s = w.sound start in
-        let now = held_sound after.state.journaled [] s.in_range_lem.pending s.in_range_lem.inputs s in
+        let now = held_sound after.state.journaled [] s.stays_in_range.pending s.stays_in_range.inputs s in
         record {
           counted = w.same_count;
           few = omega (arith, few, w.n_is, found.few);
@@ -93,7 +93,7 @@ module _ (h : Host) (budget : ℕ) (log : List ℕ) where
           few = omega (arith, few, w.n_is, (passes with e).few);
           history =
               subst (History _ _) (reverse_aux-eq t ms)
-              (unraised moved (after.state.journaled + length t) after.I [] (w.sound k.sound).in_range_lem.inputs);
+              (unraised moved (after.state.journaled + length t) after.I [] (w.sound k.sound).stays_in_range.inputs);
         }
 
     -- accepted or refused

@@ -24,7 +24,7 @@ use Rattle.panel.specs.Calls.{SetLeft, set_left, RaiseLeft, raise_left}
 use Rattle.image.specs.declared.Range.{Range}
 use Rattle.image.specs.Image.{loaded}
 use Rattle.control.proofs.Laws.{lawful_rules}
-use Rattle.run.specs.Runs.{Journal, no_journal_lem, lent_journal, stopped, CountedLeft, CountedMeets}
+use Rattle.run.specs.Runs.{Journal, no_journal, lent_journal, stopped, CountedLeft, CountedMeets}
 use Rattle.back.specs.Backs.{BackLeft, gone_back, back_refused, back_verdict, back_left_by, back_left}
 use Rattle.back.proofs.Undone.{undone_counts, undone_in_range}
 use Rattle.back.proofs.Left.{accepted_left_lem}
@@ -44,7 +44,7 @@ use Rattle.claims_back.proofs.Returned.{since_below, may_go, went, returned}
 abbrev lending : Lent → Journal → Lent
 lending lent j = record { budget = lent.budget; log = lent.log; journal = j }
 
-run_begins : (h : Host) → InRange (machine_on h []) → (e : Engine) (lent : Lent) → lent.journal ≡ no_journal_lem
+run_begins : (h : Host) → InRange (machine_on h []) → (e : Engine) (lent : Lent) → lent.journal ≡ no_journal
     → (l : CountedLeft) → CountedMeets (stepper_of e) (given_to h lent) l → (q s k : ℕ) → l.left.reply ≡ stopped q s k
     → (xs : List ℕ) → Past (after_one_run l.left) xs []
 run_begins h r e lent j =
@@ -68,7 +68,7 @@ module _ (h : Host) (xs : List ℕ) (ms : List Machine) (p : Past h xs ms) where
   set_keeps : (port value : ℕ) → value < 65536 → (l : SetLeft) → l ≡ set_left (record { I = h.I; port = port; value = value }) → Past (after_set h l) xs ms
   unfolding set_left
   set_keeps port value v l e =
-      let r = (known p.history).sound.in_range_lem.inputs in
+      let r = (known p.history).sound.stays_in_range.inputs in
       let I = set h.I port value in
       let done : l ≡ record { reply = accepted; I = I } = e ∙ rw r.many in
       subst (λ l. Past (after_set h l) xs ms) (sym done)
@@ -93,7 +93,7 @@ module _ (h : Host) (xs : List ℕ) (ms : List Machine) (p : Past h xs ms) where
           record {
             counted = p.counted;
             few = p.few;
-            history = held p.history h.state.journaled (2 ^ line) h.I [] (pow-lt (ltb-true line 8 t)) (known p.history).sound.in_range_lem.inputs;
+            history = held p.history h.state.journaled (2 ^ line) h.I [] (pow-lt (ltb-true line 8 t)) (known p.history).sound.stays_in_range.inputs;
           }
       go false t = p
 
@@ -105,7 +105,7 @@ module _ (h : Host) (xs : List ℕ) (ms : List Machine) (p : Past h xs ms) where
       let few = went h xs ms p k l eq e r in
       let I = keys_back (take k ms) h.I in
       let back = returned h xs ms p k few in
-      let there = undone_in_range xs k h.state.journaled (machine_on h []) (known p.history).sound.in_range_lem in
+      let there = undone_in_range xs k h.state.journaled (machine_on h []) (known p.history).sound.stays_in_range in
       subst (λ l. Past (after_back l) xs (drop k ms)) (accepted_left_lem g (may_go h xs ms p k few) ∙ sym eq)
       (record {
         counted = ap (λ c. c - k) p.counted ∙ sym (length-drop k ms);
@@ -160,7 +160,7 @@ stepped_past m next r even n e =
       record {
         counted = refl;
         few = omega (arith, n, lawful_rules.counts m next e);
-        history = unraised z 1 next.I [] (known z).sound.in_range_lem.inputs;
+        history = unraised z 1 next.I [] (known z).sound.stays_in_range.inputs;
       },
     )
 
@@ -191,7 +191,7 @@ histories =
       last_step = λ h xs m ms p.
           let l = last p.history in
           (l.next, l.lines, l.stepped, l.led ∙ (λ i. held_as (p.counted i) (l.raised i) h.I [] l.next));
-      in_range_lem = λ h xs ms p. (known p.history).sound.in_range_lem;
+      stays_in_range = λ h xs ms p. (known p.history).sound.stays_in_range;
       after_load = λ g l e ok bytes xs.
           let (accepts, m) = accepted_load g l e ok in
           load_begins (host_of l) g.file g.board g.range m (loaded_in_range g accepts bytes) xs;

@@ -20,7 +20,7 @@ use Rattle.journal.specs.Ranges.{InRange}
 use Rattle.journal.proofs.Written.{with_state_lem}
 use Rattle.panel.specs.Calls.{RaiseLeft, raise_left}
 use Rattle.image.specs.Image.{LoadGiven, LoadLeft, load_left, loaded}
-use Rattle.run.specs.Runs.{Journal, no_journal_lem, lent_journal, Given, verdict_on, allowed, machine_at, start_in, counted_in, trace_on, outcome_on, accepted_left, CountedLeft, counted_by, counted_left, CountedMeets}
+use Rattle.run.specs.Runs.{Journal, no_journal, lent_journal, Given, verdict_on, allowed, machine_at, start_in, counted_in, trace_on, outcome_on, accepted_left, CountedLeft, counted_by, counted_left, CountedMeets}
 use Rattle.back.specs.Backs.{BackLeft, gone_back, back_refused, back_verdict, back_left_by, back_left}
 use Rattle.back.proofs.Left.{accepted_left_lem}
 use Rattle.claims.specs.Session.{Engine, stepper_of, Lent, Host, host_of, given_to, after_one_run, after_raise, machine_on}
@@ -164,15 +164,15 @@ module _ (line : ℕ) (eight : line < 8) where
   -- ---- A run
 
   start_pending : (j : Journal) (s : State) → (start_in j s).pending ≡ s.pending
-  start_pending no_journal_lem s = refl
+  start_pending no_journal s = refl
   start_pending (lent_journal xs) s = refl
 
   counted_pending : (j : Journal) (k : ℕ) (s : State) → (counted_in j k s).pending ≡ s.pending
-  counted_pending no_journal_lem k s = refl
+  counted_pending no_journal k s = refl
   counted_pending (lent_journal xs) k s = refl
 
   start_in_range : (j : Journal) (m : Machine) → InRange m → InRange (on_state (start_in j) m)
-  start_in_range no_journal_lem m r =
+  start_in_range no_journal m r =
       with_state_lem r (put_journaled 0 m.state) r.registers r.pc r.enabled r.pending r.line r.address
   start_in_range (lent_journal xs) m r = r
 

@@ -15,7 +15,7 @@ use Rattle.machine.proofs.Runs.{run_cannot, run_full, trace_cannot, trace_full}
 use Rattle.control.proofs.Laws.{shift}
 use Rattle.run.specs.Runs.{Given, stopped, run_refused, verdict_on, machine_at, outcome_on, trace_on, run_left, accepted_counted, counted_by, counted_left}
 use Rattle.claims.specs.Session.{Host, given_to, after_one_run, machine_on}
-use Rattle.claims.specs.Runs.{Takes, none, more, First, budget_used, journal_full, word_unassigned, zero_divisor_lem, locked_byte, no_place}
+use Rattle.claims.specs.Runs.{Takes, none, more, First, budget_used, journal_full, word_unassigned, by_zero_divisor, locked_byte, no_place}
 use Rattle.claims_back.specs.Longer.{lent_only, AcceptedRun, written, machine_left}
 use Rattle.claims.proofs.Runs.{runs}
 use Rattle.claims.proofs.Together.{both, shifted}
@@ -112,7 +112,7 @@ module _ {h : Host} {b : ℕ} {log : List ℕ} (r : AcceptedRun h b log) where
       by_test (budget_used u) e = u
       by_test (journal_full u) e = absurd u
       by_test (word_unassigned may s) e = absurd (omega arith)
-      by_test (zero_divisor_lem may s) e = absurd (omega arith)
+      by_test (by_zero_divisor may s) e = absurd (omega arith)
       by_test (locked_byte may s) e = absurd (omega arith)
       by_test (no_place may s f) e = absurd (omega arith)
 
@@ -128,7 +128,7 @@ module _ {h : Host} {b : ℕ} {log : List ℕ} (r : AcceptedRun h b log) where
       by_test (budget_used u) n = absurd (n refl)
       by_test (journal_full u) n = absurd u
       by_test {m} (word_unassigned may s) n = (run_cannot by_rules c (length log) m 1 s, trace_cannot by_rules c (length log) m 1 s)
-      by_test {m} (zero_divisor_lem may s) n = (run_cannot by_rules c (length log) m 3 s, trace_cannot by_rules c (length log) m 3 s)
+      by_test {m} (by_zero_divisor may s) n = (run_cannot by_rules c (length log) m 3 s, trace_cannot by_rules c (length log) m 3 s)
       by_test {m} (locked_byte may s) n = (run_cannot by_rules c (length log) m 4 s, trace_cannot by_rules c (length log) m 4 s)
       by_test {m} (no_place may {next} s f) n =
           (run_full by_rules c (length log) m next s f, trace_full by_rules c (length log) m next s f)

@@ -21,17 +21,17 @@ use Rattle.claims_back.specs.StepBack.{earlier}
 
 -- what a call's tests ask, and a journal's entries
 pub record Sound (m : Machine) : Type 0 where
-  pub in_range_lem : InRange m
+  pub stays_in_range : InRange m
   pub even : Even m.state
 
 pub lengths_fit_lem : {m : Machine} → Sound m → lengths_fit m.P m.D m.I m.O ≡ true
-lengths_fit_lem s = let r = s.in_range_lem in rw (r.program.many, r.memory.many, r.inputs.many, r.outputs.many)
+lengths_fit_lem s = let r = s.stays_in_range in rw (r.program.many, r.memory.many, r.inputs.many, r.outputs.many)
 
 pub held_sound : {m : Machine} (c : ℕ) {p : ℕ} {I : List ℕ} (L : List ℕ) → p < 256 → Numbers 256 65536 I → Sound m → Sound (held_as c p I L m)
 held_sound c L l h s =
-    let r = s.in_range_lem in
+    let r = s.stays_in_range in
     record {
-      in_range_lem =
+      stays_in_range =
           record {
             registers = r.registers;
             pc = r.pc;
@@ -49,11 +49,11 @@ held_sound c L l h s =
 
 -- a history begins where the tests of a call pass
 pub sound_begins : {xs : List ℕ} {m : Machine} → Sound m → History xs m []
-sound_begins {m = m} s = begins s.in_range_lem (even_places_lem m.state s.even)
+sound_begins {m = m} s = begins s.stays_in_range (even_places_lem m.state s.even)
 
 pub step_sound : {m next : Machine} → step m ≡ to next → Sound m → Sound next
 step_sound {m} {next} e s =
-    record { in_range_lem = (taken_back m next s.in_range_lem e).in_range_lem; even = lawful_rules.even m next e s.even }
+    record { stays_in_range = (taken_back m next s.stays_in_range e).stays_in_range; even = lawful_rules.even m next e s.even }
 
 pub record Known (xs : List ℕ) (m : Machine) (ms : List Machine) : Type 0 where
   pub sound : Sound m
@@ -61,13 +61,13 @@ pub record Known (xs : List ℕ) (m : Machine) (ms : List Machine) : Type 0 wher
   pub done : length ms ≤ m.state.n
 
 pub known : {xs : List ℕ} {m : Machine} {ms : List Machine} → History xs m ms → Known xs m ms
-known (begins {m} r e) = record { sound = record { in_range_lem = r; even = places_even m.state e }; places = omega arith; done = omega arith }
+known (begins {m} r e) = record { sound = record { stays_in_range = r; even = places_even m.state e }; places = omega arith; done = omega arith }
 known (steps {m} {next} h e l x) =
     let k = known h in
     record { sound = step_sound e k.sound; places = l; done = omega (arith, k.done, lawful_rules.counts m next e) }
 known (held {m} h c lines I L l n) =
     let k = known h in
-    let few = or_lt 8 m.state.pending lines k.sound.in_range_lem.pending l in
+    let few = or_lt 8 m.state.pending lines k.sound.stays_in_range.pending l in
     record { sound = held_sound c L few n k.sound; places = k.places; done = k.done }
 
 -- held with no line raised

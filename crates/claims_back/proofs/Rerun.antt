@@ -12,7 +12,7 @@ use Rattle.machine.specs.Machine.{Machine, put_journaled, on_state}
 use Rattle.machine.specs.Run.{by_rules, run_from, trace_from}
 use Rattle.machine.proofs.Runs.{even_places_lem}
 use Rattle.journal.specs.Journal.{entry_of, but_for}
-use Rattle.run.specs.Runs.{Journal, no_journal_lem, lent_journal, Given, Left, stopped, verdict, verdict_on, allowed, machine_at, counted_in, placed, kept_in, outcome_on, trace_on, left_of, accepted_left, CountedLeft, counted_by, counted_left}
+use Rattle.run.specs.Runs.{Journal, no_journal, lent_journal, Given, Left, stopped, verdict, verdict_on, allowed, machine_at, counted_in, placed, kept_in, outcome_on, trace_on, left_of, accepted_left, CountedLeft, counted_by, counted_left}
 use Rattle.claims.specs.Session.{Engine, Lent, Host, given_to, after_one_run, machine_on}
 use Rattle.claims_back.specs.History.{held_as}
 use Rattle.claims_back.specs.StepBack.{gained, from_outside, Unset, RunsAgain, count_in}
@@ -56,7 +56,7 @@ outside_on b = from_outside (machine_on b [])
 
 -- without a journal, or with xs, where the count is p
 pub data Lending (xs : List ℕ) (p count : ℕ) : Journal → Type 0 where
-  without : Lending xs p count no_journal_lem
+  without : Lending xs p count no_journal
   with : count ≡ p → Lending xs p count (lent_journal xs)
 
 pub record Reran (j : Journal) (b : Host) (mid : Machine) (ms : List Machine) (p : ℕ) (log : List ℕ) (l : Left) : Type 0 where
@@ -104,7 +104,7 @@ module _ {b : Host} {mid m : Machine} {ms : List Machine} {xs : List ℕ} {p : �
 
   left_again : {j : Journal} → Unset ms → length (gained ms) ≤ length log → Lending xs p b.state.journaled j → Reran j b mid ms p log (accepted_left by_rules (again j))
   left_again unset room without =
-      left_by (retaken (again no_journal_lem) 0 (outside_on b) r.chain unset (chain_starts i r.chain) (ap (held_with 0 (outside_on b) []) r.here) refl room) refl refl
+      left_by (retaken (again no_journal) 0 (outside_on b) r.chain unset (chain_starts i r.chain) (ap (held_with 0 (outside_on b) []) r.here) refl room) refl refl
   left_again unset room (with e) =
       let g = again (lent_journal xs) in
       let c = b.state.journaled in
@@ -118,7 +118,7 @@ module _ {b : Host} {mid m : Machine} {ms : List Machine} {xs : List ℕ} {p : �
       → Reran j b mid ms p log l.left
   unfolding counted_left
   reran {j} s e l lends again-run =
-      let sound = subst Sound (sym r.here) (held_sound b.state.journaled [] (rw (ap (λ x. x.1) i) s.in_range_lem.pending) (rw (ap (λ x. x.0) i) s.in_range_lem.inputs) s) in
+      let sound = subst Sound (sym r.here) (held_sound b.state.journaled [] (rw (ap (λ x. x.1) i) s.stays_in_range.pending) (rw (ap (λ x. x.0) i) s.stays_in_range.inputs) s) in
       let ok = run_accepted b (record { budget = length ms; log = log; journal = j }) sound (omega (arith, r.few, same_n, chain_n r.chain)) in
       let ran : l ≡ counted_by by_rules accepted (again j) = both e (again j) l again-run.meets ∙ ap (λ v. counted_by by_rules v (again j)) ok in
       subst (λ (x : CountedLeft). Reran j b mid ms p log x.left) (sym ran) (left_again again-run.unset again-run.room lends)

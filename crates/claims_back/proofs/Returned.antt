@@ -46,8 +46,8 @@ since_below zero ms z = omega arith
 since_below (suc k) [] z = omega arith
 since_below {m = m} (suc k) (p ∷ ms) z =
     let l = last z in
-    let r = (known z).sound.in_range_lem.pending in
-    let led = (taken_back p l.next (known l.before).sound.in_range_lem l.stepped).in_range_lem.pending in
+    let r = (known z).sound.stays_in_range.pending in
+    let led = (taken_back p l.next (known l.before).sound.stays_in_range l.stepped).stays_in_range.pending in
     let since : raised_after (step p) m < 256 = subst (λ x. raised_after x m < 256) (sym l.stepped) (xor_lt 8 m.state.pending l.next.state.pending r led) in
     or_lt 8 (raised_since k p ms) (raised_after (step p) m) (since_below k ms l.before) since
 
@@ -75,7 +75,7 @@ undone_with {xs} {m} (suc k) (p ∷ ms) h z c lines I L =
     let since = raised_after (step p) m in
     let then = earlier k p ms in
     ap (λ i. undone k i xs (undo (get_or xs i 0) (held_as c (bit_or m.state.pending lines) I L m))) (one_less (length ms))
-    ∙ ap (undone k (length ms) xs) (undo_last (known l.before).sound.in_range_lem l c lines I L)
+    ∙ ap (undone k (length ms) xs) (undo_last (known l.before).sound.stays_in_range l c lines I L)
     ∙ undone_with k ms (omega arith) l.before c (bit_or since lines) (key_back p I) L
     ∙ ap (λ x. held_as c (bit_or then.state.pending x) (keys_back (take k ms) (key_back p I)) L then) (sym (or_assoc (raised_since k p ms) since lines))
 
@@ -95,7 +95,7 @@ fallen_is zero ms h z = refl
 fallen_is (suc k) [] h z = absurd (omega arith)
 fallen_is {xs} (suc k) (p ∷ ms) h z =
     let l = last z in
-    let here = ap is_output l.entry ∙ (taken_back p l.next (known l.before).sound.in_range_lem l.stepped).output in
+    let here = ap is_output l.entry ∙ (taken_back p l.next (known l.before).sound.stays_in_range l.stepped).output in
     ap (λ i. flag (is_output (get_or xs i 0)) + fallen k i xs) (one_less (length ms))
     ∙ (λ i. flag (here i) + fallen_is k ms (omega arith) l.before i)
 

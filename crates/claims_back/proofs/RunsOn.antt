@@ -12,7 +12,7 @@ use Rattle.machine.specs.Run.{by_rules, run_from, trace_from}
 use Rattle.usage.specs.Usage.{usage_of, ticks_of, plus_usage}
 use Rattle.usage.proofs.Traces.{usage_append, ticks_append}
 use Rattle.control.proofs.Laws.{shift}
-use Rattle.run.specs.Runs.{no_journal_lem, Given, left, stopped, outcome_on, trace_on, left_of, accepted_counted, counted_left}
+use Rattle.run.specs.Runs.{no_journal, Given, left, stopped, outcome_on, trace_on, left_of, accepted_counted, counted_left}
 use Rattle.claims.specs.Session.{Engine, stepper_of, Host, given_to, after_one_run}
 use Rattle.claims.specs.Refusals.{Accepts}
 use Rattle.claims_back.specs.Longer.{lent_only, AcceptedRun, written, free_places, RunOn, both, StopsAgain}
@@ -118,7 +118,7 @@ module _ {h : Host} {b c : ℕ} {log : List ℕ} (first : AcceptedRun h b log) (
       ∙ (λ i. record {
         left =
             left (stopped (sym u.stop i) (steps i) (entries i)) (ran i).left.state (ran i).left.P (ran i).left.D (ran i).left.I (ran i).left.O
-            (log i) no_journal_lem;
+            (log i) no_journal;
         usage = plus_usage first.ran.usage second.ran.usage;
         ticks = first.ran.ticks + second.ran.ticks;
       })

@@ -61,7 +61,7 @@ module _ (line : ℕ) (eight : line < 8) where
   unfolding some_takes
   walk_bit there r = record { after_is = refl; before = omega arith }
   walk_bit (then {m} {next} {after} {ms} e w) r =
-      joined (takes_it line m) (some_takes line ms) (step_bit m next r e) (walk_bit w (taken_back m next r e).in_range_lem)
+      joined (takes_it line m) (some_takes line ms) (step_bit m next r e) (walk_bit w (taken_back m next r e).stays_in_range)
     where
       joined : (t u : Bool) → Bit t m next → Bit u next after → Bit (t || u) m after
       joined true true a b = let z = a.after_is in absurd (omega (arith, b.before, z))
@@ -84,7 +84,7 @@ module _ (line : ℕ) (eight : line < 8) where
       let l = last z in
       let since = raised_after (step p) m in
       let then = (earlier k p ms).state.pending in
-      let r = (known l.before).sound.in_range_lem in
+      let r = (known l.before).sound.stays_in_range in
       ap (λ x. bit_of line (bit_or then x)) (or_assoc (raised_since k p ms) since lines)
       ∙ back_bit k ms l.before (bit_or since lines)
       ∙ by_taking_lem l.next (bit_or since lines) (takes_it line p) (some_takes line (take k ms)) (step_bit p l.next r l.stepped)

@@ -10,7 +10,7 @@ use Rattle.journal.specs.Journal.{entry_of, but_for}
 use Rattle.journal.specs.Ranges.{Numbers, InRange}
 use Rattle.panel.specs.Calls.{SetLeft, set_left, RaiseLeft, raise_left}
 use Rattle.image.specs.Image.{LoadGiven, LoadLeft, load_left}
-use Rattle.run.specs.Runs.{no_journal_lem, lent_journal, Given, run_refused, stopped, verdict_on, trace_on, CountedLeft, CountedMeets}
+use Rattle.run.specs.Runs.{no_journal, lent_journal, Given, run_refused, stopped, verdict_on, trace_on, CountedLeft, CountedMeets}
 use Rattle.back.specs.Backs.{BackGiven, BackLeft, gone_back, back_refused, back_left}
 use Rattle.claims.specs.Session.{Engine, stepper_of, Lent, Host, host_of, given_to, after_one_run, after_set, after_raise, machine_on}
 
@@ -66,14 +66,14 @@ pub record Histories : Type 0 where
       → (next : Machine) × (lines : ℕ) × (step m ≡ to next)
       × (machine_on h [] ≡ held_as (length (m ∷ ms)) (bit_or next.state.pending lines) h.I [] next)
   -- and its numbers are within their widths.
-  pub in_range_lem : (h : Host) (xs : List ℕ) (ms : List Machine) → Past h xs ms → InRange (machine_on h [])
+  pub stays_in_range : (h : Host) (xs : List ℕ) (ms : List Machine) → Past h xs ms → InRange (machine_on h [])
   -- There is no step in it after a load of a file of bytes, with any journal,
   pub after_load :
       (g : LoadGiven) (l : LoadLeft) → l ≡ load_left g → l.reply ≡ accepted → Numbers (length g.file) 256 g.file
       → (xs : List ℕ) → Past (host_of l) xs []
   -- and after an accepted run without a journal (a host step is one), with any journal.
   pub after_run_without :
-      (h : Host) → InRange (machine_on h []) → (e : Engine) (lent : Lent) → lent.journal ≡ no_journal_lem
+      (h : Host) → InRange (machine_on h []) → (e : Engine) (lent : Lent) → lent.journal ≡ no_journal
       → (l : CountedLeft) → CountedMeets (stepper_of e) (given_to h lent) l → (q s k : ℕ) → l.left.reply ≡ stopped q s k
       → (xs : List ℕ) → Past (after_one_run l.left) xs []
   -- A run with that journal, by either engine, accepted or refused, carries it on: the steps it took are added;

@@ -7,13 +7,13 @@ use Rattle.machine.specs.Run.{by_rules}
 use Rattle.usage.specs.declared.Usage.{Usage}
 use Rattle.usage.specs.Usage.{unused, plus_usage}
 use Rattle.image.specs.Image.{LoadGiven, LoadLeft, load_left}
-use Rattle.run.specs.Runs.{no_journal_lem, left, stopped, verdict_on, machine_at, CountedLeft, counted_left, CountedMeets}
+use Rattle.run.specs.Runs.{no_journal, left, stopped, verdict_on, machine_at, CountedLeft, counted_left, CountedMeets}
 use Rattle.claims.specs.Session.{Engine, stepper_of, Lent, Host, host_of, given_to, after_one_run, machine_on}
 use Rattle.claims.specs.Runs.{Takes}
 
 -- what a run without a journal is lent
 abbrev pub lent_only : ℕ → List ℕ → Lent
-lent_only budget log = record { budget = budget; log = log; journal = no_journal_lem }
+lent_only budget log = record { budget = budget; log = log; journal = no_journal }
 
 -- an accepted run from what the host holds, known by its contract alone, with what it reports
 pub record AcceptedRun (h : Host) (budget : ℕ) (log : List ℕ) : Type 0 where
@@ -73,7 +73,7 @@ both first on =
     record {
       left =
           left (stopped on.stop (first.steps + on.steps) (first.entries + on.entries)) l.state l.P l.D l.I l.O
-          (written first ++ l.log) no_journal_lem;
+          (written first ++ l.log) no_journal;
       usage = plus_usage first.ran.usage on.ran.usage;
       ticks = first.ran.ticks + on.ran.ticks;
     }

@@ -8,7 +8,7 @@ use Rattle.machine.specs.Step.{Next, cannot, to, step}
 use Rattle.machine.specs.Run.{is_out, fetches_a}
 use Rattle.journal.specs.Journal.{reads_key, keys_back}
 use Rattle.panel.specs.Calls.{SetLeft, set_left}
-use Rattle.run.specs.Runs.{Journal, no_journal_lem, lent_journal, stopped, CountedLeft, CountedMeets}
+use Rattle.run.specs.Runs.{Journal, no_journal, lent_journal, stopped, CountedLeft, CountedMeets}
 use Rattle.back.specs.Backs.{BackLeft, gone_back, back_left}
 use Rattle.claims.specs.Session.{Engine, stepper_of, of_run, Host, given_to, after_one_run, after_set, machine_on, wrote}
 use Rattle.claims_back.specs.History.{held_as, Past, given_back, after_back}
@@ -107,11 +107,11 @@ pub data Again : Journal → Host → List Machine → List ℕ → Journal → 
 
 -- without a journal, or with the one that was kept
 abbrev pub Keeps : Journal → List ℕ → Type 0
-Keeps j xs = (j ≡ no_journal_lem) ⊎ (j ≡ lent_journal xs)
+Keeps j xs = (j ≡ no_journal) ⊎ (j ≡ lent_journal xs)
 
 -- the count that a run again leaves
 abbrev pub count_in : Journal → ℕ → ℕ
-count_in no_journal_lem count = 0
+count_in no_journal count = 0
 count_in (lent_journal xs) count = count
 
 -- h has the inputs and the pending byte that the last of the steps led to

@@ -60,9 +60,9 @@ module _ (s : State) (Z : List ℕ) where
             let few : k ≤ c = held_counted h.state xs (passes (given_back h xs k) (sym e)).held in (
               refl,
               record {
-                in_range_lem = counted_in_range (c - k) refl (undone_in_range xs k c m p.in_range_lem);
+                stays_in_range = counted_in_range (c - k) refl (undone_in_range xs k c m p.stays_in_range);
                 range = undone_range k c xs m ∙ p.range;
-                bytes = λ a f. undone_keeps s xs k c m few p.free p.in_range_lem a f ∙ p.bytes a f;
+                bytes = λ a f. undone_keeps s xs k c m few p.free p.stays_in_range a f ∙ p.bytes a f;
                 free = λ i l. p.free i (omega (arith, l));
               },
             )
@@ -77,7 +77,7 @@ module _ (s : State) (Z : List ℕ) where
         subst (λ (l : SetLeft). Stands s Z (after_set h l) xs) (sym e)
         (either (λ (l : SetLeft). Stands s Z (after_set h l) xs) (eqb (length h.I) 256)
         (record {
-          in_range_lem = but_for_in_range [] (numbers_set h.I port value p.in_range_lem.inputs v) p.in_range_lem;
+          stays_in_range = but_for_in_range [] (numbers_set h.I port value p.stays_in_range.inputs v) p.stays_in_range;
           range = p.range;
           bytes = p.bytes;
           free = p.free;
@@ -94,10 +94,10 @@ module _ (s : State) (Z : List ℕ) where
             (pick t (record { reply = accepted; state = put_pending (with_line line h.state.pending) h.state }) (record { reply = refused 16; state = h.state })))
             xs
         go true t =
-            let r = p.in_range_lem in
+            let r = p.stays_in_range in
             let few = or_lt 8 h.state.pending (2 ^ line) r.pending (pow-lt (ltb-true line 8 t)) in
             record {
-              in_range_lem = with_state_lem r (put_pending (with_line line h.state.pending) h.state) r.registers r.pc r.enabled few r.line r.address;
+              stays_in_range = with_state_lem r (put_pending (with_line line h.state.pending) h.state) r.registers r.pc r.enabled few r.line r.address;
               range = p.range;
               bytes = p.bytes;
               free = p.free;
@@ -106,9 +106,9 @@ module _ (s : State) (Z : List ℕ) where
 
     text_stands : (text : List ℕ) (l : AssembleLeft) → l ≡ assemble_left text h.P → Stands s Z (after_assembly h l) xs
     text_stands text l e =
-        let r = p.in_range_lem in
+        let r = p.stays_in_range in
         record {
-          in_range_lem =
+          stays_in_range =
               record {
                 registers = r.registers;
                 pc = r.pc;
@@ -170,7 +170,7 @@ stays_from : (h : Host) (xs : List ℕ) → InRange (machine_on h []) → ((i : 
     → (cs : List AnyCall) (rs : List AnyReply) (last : Host) → AnyCalls h cs rs last → OneJournal xs cs rs
     → (a : ℕ) → is_locked a h.state ≡ true → get_or last.D a 0 ≡ get_or h.D a 0
 stays_from h xs r f cs rs last ds o =
-    (all_stand h.state h.D ds o (record { in_range_lem = r; range = refl; bytes = λ a e. refl; free = f })).1.bytes
+    (all_stand h.state h.D ds o (record { stays_in_range = r; range = refl; bytes = λ a e. refl; free = f })).1.bytes
 
 -- ---- A list with a run and a going back
 
@@ -212,7 +212,7 @@ kept =
       names_none = names_none;
       stays = λ g l e ok bytes xs cs rs last ds o.
           let past = histories.after_load g l e ok bytes xs in
-          stays_from (host_of l) xs (histories.in_range_lem (host_of l) xs [] past) (λ i few. absurd (omega (arith, few, past.counted))) cs rs last ds o;
+          stays_from (host_of l) xs (histories.stays_in_range (host_of l) xs [] past) (λ i few. absurd (omega (arith, few, past.counted))) cs rs last ds o;
       stays_from = stays_from;
       exists = exists;
     }

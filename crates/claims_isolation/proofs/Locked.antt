@@ -13,7 +13,7 @@ use Rattle.assembler.specs.Text.{AssembleLeft, assemble_left}
 use Rattle.run.specs.Runs.{CountedLeft, counted_left}
 use Rattle.back.specs.Backs.{BackGiven, BackLeft, back_verdict, machine_given, back_left_by, back_left}
 use Rattle.claims.specs.Session.{stepper_of, through_rules, Lent, runs, sets, raises, Reply, Host, host_of, given_to, after_one_run}
-use Rattle.claims.specs.HostSteps.{HostCall, call, host_step_lem, budget1, HostCallMeets, a_call, a_step, HostCalls, more as more-host}
+use Rattle.claims.specs.HostSteps.{HostCall, call, host_step, budget1, HostCallMeets, a_call, a_step, HostCalls, more as more-host}
 use Rattle.claims.specs.Usage.{Reordered}
 use Rattle.claims.specs.Saved.{range_of}
 use Rattle.claims.proofs.Together.{both, told}
@@ -39,7 +39,7 @@ save_on h destination = save_left (record { state = h.state; P = h.P; D = h.D; d
 
 abbrev reply_on : Host → AnyCall → AnyReply
 reply_on h (does (call c)) = did (reply_to h c)
-reply_on h (does (host_step_lem log)) = did (reply_to h (runs through_rules (budget1 log)))
+reply_on h (does (host_step log)) = did (reply_to h (runs through_rules (budget1 log)))
 reply_on h (goes_back journal k) = went_back (back_on h journal k).reply (back_on h journal k).journal
 reply_on h (assembles text) = assembled (assemble_left text h.P).reply
 reply_on h (looks ofData start count) = saw (window_of h.state h.P h.D ofData start count)
@@ -47,7 +47,7 @@ reply_on h (saves destination) = wrote_file (save_on h destination).reply (save_
 
 abbrev host_on : Host → AnyCall → Host
 host_on h (does (call c)) = call_on h c
-host_on h (does (host_step_lem log)) = call_on h (runs through_rules (budget1 log))
+host_on h (does (host_step log)) = call_on h (runs through_rules (budget1 log))
 host_on h (goes_back journal k) = after_back (back_on h journal k)
 host_on h (assembles text) = after_assembly h (assemble_left text h.P)
 host_on h (looks ofData start count) = h
@@ -124,7 +124,7 @@ module _ (h : Host) (E : List ℕ) (d : Differ h.state h.D E) where
   one (does (call (runs e lent))) = a_run lent
   one (does (call (sets port value))) = (refl, record { state = refl; program = refl; memory = d; inputs = refl; outputs = refl })
   one (does (call (raises line))) = (refl, record { state = refl; program = refl; memory = same_range (raise_range h.state line) d; inputs = refl; outputs = refl })
-  one (does (host_step_lem log)) = a_run (budget1 log)
+  one (does (host_step log)) = a_run (budget1 log)
   one (goes_back journal k) = a_back_too journal k
   one (assembles text) = (refl, record { state = refl; program = refl; memory = d; inputs = refl; outputs = refl })
   one (looks ofData start count) =

@@ -20,7 +20,7 @@ use Rattle.journal.specs.Ranges.{InRange}
 use Rattle.journal.proofs.Undone.{taken_back, but_for_in_range}
 use Rattle.journal.proofs.Written.{with_state_lem}
 use Rattle.control.proofs.Laws.{lawful_rules}
-use Rattle.run.specs.Runs.{Journal, no_journal_lem, lent_journal, placed, Given, verdict_on, allowed, machine_at, outcome_on, trace_on, CountedLeft, counted_by, counted_left, CountedMeets}
+use Rattle.run.specs.Runs.{Journal, no_journal, lent_journal, placed, Given, verdict_on, allowed, machine_at, outcome_on, trace_on, CountedLeft, counted_by, counted_left, CountedMeets}
 use Rattle.claims.specs.Session.{Engine, stepper_of, Lent, Host, given_to, after_one_run, machine_on}
 use Rattle.claims.specs.Saved.{range_of}
 use Rattle.claims.proofs.Journaled.{start_is, counted_is, placed_at, placed_other}
@@ -54,7 +54,7 @@ module _ (s : State) (Z : List ℕ) where
 
   -- what is kept from call to call, of a host and the journal
   pub record Stands (h : Host) (xs : List ℕ) : Type 0 where
-    pub in_range_lem : InRange (machine_on h [])
+    pub stays_in_range : InRange (machine_on h [])
     pub range : range_of h.state ≡ range_of s
     pub bytes : (a : ℕ) → is_locked a s ≡ true → get_or h.D a 0 ≡ get_or Z a 0
     pub free : Free h.state.journaled xs
@@ -81,7 +81,7 @@ module _ (s : State) (Z : List ℕ) where
       → Each (NamesNone s) (map entry_of ms) × InRange after
   walk_free there r q = (tt, r)
   walk_free (then {m} {next} e w) r q =
-      let z = walk_free w (taken_back m next r e).in_range_lem (ap range_in (lawful_rules.leaves m next e) ∙ q) in
+      let z = walk_free w (taken_back m next r e).stays_in_range (ap range_in (lawful_rules.leaves m next e) ∙ q) in
       ((sym (same_touched s m.state q (named (overwritten_in (entry_of m)))) ∙ names_none m next r e, z.0), z.1)
 
   module _ {h : Host} {xs : List ℕ} (p : Stands h xs) where
@@ -97,7 +97,7 @@ module _ (s : State) (Z : List ℕ) where
       walks_free : Each (NamesNone s) (map entry_of (trace_on by_rules g)) × InRange (outcome_on by_rules g).after
       walks_free =
           let e = start_is lent.journal h.state in
-          walk_free walks.1 (counted_in_range {m = machine_on h []} _ e p.in_range_lem) (ap range_of e ∙ p.range)
+          walk_free walks.1 (counted_in_range {m = machine_on h []} _ e p.stays_in_range) (ap range_of e ∙ p.range)
 
       run_in_range : InRange (machine_on (after_one_run (counted_left by_rules g).left) [])
       unfolding counted_left
@@ -105,14 +105,14 @@ module _ (s : State) (Z : List ℕ) where
         where
           go : (v : Verdict) → InRange (machine_on (after_one_run (counted_by by_rules v g).left) [])
           go accepted = counted_in_range _ (counted_is lent.journal (length (trace_on by_rules g)) (outcome_on by_rules g).after.state) walks_free.1
-          go (refused k) = p.in_range_lem
+          go (refused k) = p.stays_in_range
 
       run_stands : (ys : List ℕ) → Free (counted_left by_rules g).left.state.journaled ys → (l : CountedLeft) → l ≡ counted_left by_rules g
           → Stands (after_one_run l.left) ys
       run_stands ys f l e =
           subst (λ (x : CountedLeft). Stands (after_one_run x.left) ys) (sym e)
           (record {
-            in_range_lem = run_in_range;
+            stays_in_range = run_in_range;
             range = run_range g ∙ p.range;
             bytes = λ a e. run_locked g a (same_locked s h.state p.range a ∙ e) ∙ p.bytes a e;
             free = f;
@@ -126,7 +126,7 @@ module _ (s : State) (Z : List ℕ) where
       with_journal_lem = g (lending (lent_journal xs))
 
       abbrev without_journal : Given
-      without_journal = g (lending no_journal_lem)
+      without_journal = g (lending no_journal)
 
       free_with : (ys : List ℕ) → (counted_left by_rules with_journal_lem).left.journal ≡ lent_journal ys
           → Free (counted_left by_rules with_journal_lem).left.state.journaled ys
@@ -151,7 +151,7 @@ module _ (s : State) (Z : List ℕ) where
       free_without = go (verdict_on without_journal)
         where
           go : (v : Verdict) → Free (counted_by by_rules v without_journal).left.state.journaled xs
-          go accepted = λ i l. absurd (omega (arith, l, (walked (walks (lending no_journal_lem)).1).same_count))
+          go accepted = λ i l. absurd (omega (arith, l, (walked (walks (lending no_journal)).1).same_count))
           go (refused k) = p.free
 
     -- by either engine, with the journal or without one
@@ -166,7 +166,7 @@ module _ (s : State) (Z : List ℕ) where
         let is = both e _ l meets in
         run_stands _ ys (free_with lent.budget lent.log ys (ap (λ (x : CountedLeft). x.left.journal) (sym is) ∙ k)) l is)
 
-    pub run_without : (e : Engine) (lent : Lent) → lent.journal ≡ no_journal_lem → (l : CountedLeft) → CountedMeets (stepper_of e) (given_to h lent) l
+    pub run_without : (e : Engine) (lent : Lent) → lent.journal ≡ no_journal → (l : CountedLeft) → CountedMeets (stepper_of e) (given_to h lent) l
         → Stands (after_one_run l.left) xs
     run_without e lent j =
         subst (λ x. (l : CountedLeft) → CountedMeets (stepper_of e) (g (lending lent.budget lent.log x)) l → Stands (after_one_run l.left) xs) (sym j)

@@ -9,10 +9,10 @@ use Rattle.journal.specs.Journal.{Overwritten, nothing, register, data_word, dat
 use Rattle.journal.specs.Ranges.{Numbers, InRange}
 use Rattle.usage.specs.declared.Usage.{Usage}
 use Rattle.image.specs.Image.{LoadGiven, LoadLeft, load_left}
-use Rattle.run.specs.Runs.{no_journal_lem, lent_journal, RunReply}
+use Rattle.run.specs.Runs.{no_journal, lent_journal, RunReply}
 use Rattle.back.specs.Backs.{BackReply}
 use Rattle.claims.specs.Session.{Engine, runs, sets, raises, of_run, Host, host_of, machine_on}
-use Rattle.claims.specs.HostSteps.{call, host_step_lem}
+use Rattle.claims.specs.HostSteps.{call, host_step}
 use Rattle.claims_isolation.specs.Locked.{AnyCall, does, goes_back, assembles, looks, saves, AnyReply, did, went_back, AnyCalls}
 
 -- ---- What an entry names
@@ -36,10 +36,10 @@ NamesNone s x = touches_locked (named (overwritten_in x)) s ≡ false
 
 -- a call that is lent no journal; a set is of a 16-bit value
 abbrev pub LentNone : AnyCall → Type 0
-LentNone (does (call (runs e lent))) = lent.journal ≡ no_journal_lem
+LentNone (does (call (runs e lent))) = lent.journal ≡ no_journal
 LentNone (does (call (sets port value))) = value < 65536
 LentNone (does (call (raises line))) = Unit {0}
-LentNone (does (host_step_lem log)) = Unit {0}
+LentNone (does (host_step log)) = Unit {0}
 LentNone (goes_back journal k) = ⊥
 LentNone (assembles text) = Unit {0}
 LentNone (looks ofData start count) = Unit {0}

@@ -13,7 +13,7 @@ use Rattle.run.specs.Runs.{Given, counted_left}
 use Rattle.sheet.specs.declared.Sheet.{Sheet}
 use Rattle.back.specs.Backs.{BackReply, BackGiven, BackLeft, back_left}
 use Rattle.claims.specs.Session.{Engine, stepper_of, Reply, of_run, of_set, of_raise, Host, host_of, plain}
-use Rattle.claims.specs.HostSteps.{HostCall, call, host_step_lem, HostCallMeets}
+use Rattle.claims.specs.HostSteps.{HostCall, call, host_step, HostCallMeets}
 use Rattle.claims.specs.Usage.{Fed, Reordered, Feeds}
 use Rattle.claims.specs.Saved.{range_of}
 use Rattle.claims_back.specs.History.{given_back, after_back}
@@ -52,7 +52,7 @@ pub data AnyReply : Type 0 where
 -- but for the engines of the runs
 abbrev pub plain_of : AnyCall → AnyCall
 plain_of (does (call c)) = does (call (plain c))
-plain_of (does (host_step_lem log)) = does (host_step_lem log)
+plain_of (does (host_step log)) = does (host_step log)
 plain_of (goes_back journal k) = goes_back journal k
 plain_of (assembles text) = assembles text
 plain_of (looks ofData start count) = looks ofData start count

@@ -15,10 +15,10 @@ use Rattle.machine.specs.Run.{by_rules}
 use Rattle.machine.proofs.Runs.{Even}
 use Rattle.usage.proofs.Sums.{Sized, trace_sized}
 use Rattle.control.proofs.Laws.{kept, lawful_rules, local_rules}
-use Rattle.run.specs.Runs.{no_journal_lem, stopped, verdict_on, run_left, trace_on, CountedLeft, counted_by, counted_left}
+use Rattle.run.specs.Runs.{no_journal, stopped, verdict_on, run_left, trace_on, CountedLeft, counted_by, counted_left}
 use Rattle.page.specs.Pages.{report_of, report}
 use Rattle.claims.specs.Session.{through_rules, Host, given_to, after_one_run, machine_on}
-use Rattle.claims.specs.Runs.{Takes, First, budget_used, journal_full, word_unassigned, zero_divisor_lem, locked_byte, no_place, Reported}
+use Rattle.claims.specs.Runs.{Takes, First, budget_used, journal_full, word_unassigned, by_zero_divisor, locked_byte, no_place, Reported}
 use Rattle.claims.proofs.Runs.{runs}
 use Rattle.claims.proofs.Lengths.{Fit}
 use Rattle.claims_back.specs.Longer.{lent_only, AcceptedRun, machine_left, start_of}
@@ -73,7 +73,7 @@ module _ {h : Host} {b : ℕ} {log : List ℕ} (r : AcceptedRun h b log) where
       by_test (budget_used u) e = refl
       by_test (journal_full u) e = refl
       by_test (word_unassigned may s) e = absurd (may.0 e)
-      by_test (zero_divisor_lem may s) e = absurd (may.0 e)
+      by_test (by_zero_divisor may s) e = absurd (may.0 e)
       by_test (locked_byte may s) e = absurd (may.0 e)
       by_test (no_place may s f) e = absurd (may.0 e)
 
@@ -112,7 +112,7 @@ module _ {h : Host} {b : ℕ} {log : List ℕ} (r : AcceptedRun h b log) where
   pub sized : Sized r.ran.usage
   sized = subst (λ (x : CountedLeft). Sized x.usage) (sym (told r).ran) (trace_sized (trace_on by_rules (asked r)))
 
-  pub no_journal_left : r.ran.left.journal ≡ no_journal_lem
+  pub no_journal_left : r.ran.left.journal ≡ no_journal
   no_journal_left = ap (λ x. x.left.journal) (told r).ran
 
 -- ---- Another run from the same start
@@ -122,7 +122,7 @@ module _ {h : Host} {b₁ b₂ : ℕ} {log : List ℕ} (r₁ : AcceptedRun h b�
   ends_both (budget_used u) x y = absurd (omega arith)
   ends_both (journal_full u) x y = absurd u
   ends_both (word_unassigned may s) x y = word_unassigned (λ e. omega arith, λ u. u) s
-  ends_both (zero_divisor_lem may s) x y = zero_divisor_lem (λ e. omega arith, λ u. u) s
+  ends_both (by_zero_divisor may s) x y = by_zero_divisor (λ e. omega arith, λ u. u) s
   ends_both (locked_byte may s) x y = locked_byte (λ e. omega arith, λ u. u) s
   ends_both (no_place may s f) x y = no_place (λ e. omega arith, λ u. u) s f
 

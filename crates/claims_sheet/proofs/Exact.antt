@@ -20,14 +20,14 @@ use Rattle.isa.specs.declared.Instruction.{Instruction}
 use Rattle.isa.specs.declared.rows.Entry.{Entry}
 use Rattle.isa.specs.declared.rows.Entry.TheVariants.{Unassigned, Assigned}
 use Rattle.isa.specs.Sheet.{sheet_line, kind_at}
-use Rattle.isa.specs.Instructions.{Register, a_register_lem, b_register, d_register, instruction, parts_of, read_as, read_of}
+use Rattle.isa.specs.Instructions.{Register, a_register, b_register, d_register, instruction, parts_of, read_as, read_of}
 use Rattle.isa.specs.Masks.{in_mask, register_mask, reads_destination, reads_of, writes_of, masks_as, masks_of}
 use Rattle.isa.proofs.Every.{every}
 use Rattle.claims_sheet.specs.Masks.{has, is_used, Exact}
 use Rattle.claims_sheet.proofs.Touched.{mask_of, in_one, in_or}
 
 abbrev bits_of : Kind → Register → Bits
-bits_of k a_register_lem = (sheet_line k).format.a
+bits_of k a_register = (sheet_line k).format.a
 bits_of k b_register = (sheet_line k).format.b
 bits_of k d_register = (sheet_line k).format.d
 
@@ -40,7 +40,7 @@ unfolding all
 parts_right k p = every (λ k. right (bits_of k p)) (at_each p) k
   where
     at_each : (p : Register) → T (all (length kinds) (λ n. right (bits_of (get_or kinds n And) p)))
-    at_each a_register_lem = tt
+    at_each a_register = tt
     at_each b_register = tt
     at_each d_register = tt
 
@@ -69,10 +69,10 @@ module _ (k : Kind) (w j : ℕ) (h : j < 8) where
       go true t = in_its d_register ∙ ap (λ b. b && eqb (field (bits_of k d_register) w) j) (is_true (has (bits_of k d_register)) t)
       go false t = in_one none j tt h
 
-  in_reads : in_mask (reads_of k w) j ≡ (let i = parts_of (sheet_line k) k w in is_used i j a_register_lem || is_used i j b_register || is_used i j d_register)
+  in_reads : in_mask (reads_of k w) j ≡ (let i = parts_of (sheet_line k) k w in is_used i j a_register || is_used i j b_register || is_used i j d_register)
   in_reads =
       in_or _ (pick (reads_destination k) (register_mask (bits_of k d_register) w) 0) j
-      ∙ ap₂ ◌||◌ (in_or (register_mask (bits_of k a_register_lem) w) (register_mask (bits_of k b_register) w) j ∙ ap₂ ◌||◌ (in_its a_register_lem) (in_its b_register)) in_d
+      ∙ ap₂ ◌||◌ (in_or (register_mask (bits_of k a_register) w) (register_mask (bits_of k b_register) w) j ∙ ap₂ ◌||◌ (in_its a_register) (in_its b_register)) in_d
 
 pub exact : (w : ℕ) (i : Instruction) → read_of w ≡ instruction i → (j : ℕ) → j < 8 → Exact (masks_of w) i j
 unfolding read_of masks_of

@@ -20,7 +20,7 @@ use Rattle.isa.specs.declared.rows.Entry.{Entry}
 use Rattle.isa.specs.declared.rows.Entry.TheVariants.{Unassigned, Assigned}
 use Rattle.isa.specs.Sheet.{kind_at}
 use Rattle.isa.specs.Masks.{Masks, in_mask, masks_as, masks_of}
-use Rattle.isa.specs.Instructions.{Register, a_register_lem, b_register, d_register}
+use Rattle.isa.specs.Instructions.{Register, a_register, b_register, d_register}
 use Rattle.machine.specs.declared.State.{State}
 use Rattle.machine.specs.Machine.{Machine, R, is_locked, touches_locked, put_pc, count, on_state, on_inputs}
 use Rattle.machine.specs.Step.{PC, d5_3, d8_6, d11_9, among, interrupt_rules}
@@ -100,17 +100,17 @@ abbrev mask_if : Bool → ℕ → ℕ
 mask_if t k = mask_of (pick t (some k) none)
 
 -- The Rd that MOVHI uses stands where other words have a.
-by_control_lem : ℕ → ℕ → ℕ → ℕ → Masks
-by_control_lem op e f w =
+through_control : ℕ → ℕ → ℕ → ℕ → Masks
+through_control op e f w =
     let k = kind_at op e f in
     let c = control_at op e in
     record {
-      reads = bit_or (bit_or (mask_if (said k a_register_lem) (a_of w)) (mask_if (said k b_register) (b_of w))) (mask_if (said k d_register) (a_of w));
+      reads = bit_or (bit_or (mask_if (said k a_register) (a_of w)) (mask_if (said k b_register) (b_of w))) (mask_if (said k d_register) (a_of w));
       writes = mask_of (pick (taken c f) (destination c f w) none);
     }
 
-same_masks : table_of (λ op e f. masks_as (kind_at op e f)) ≡ table_of by_control_lem
-unfolding table by_control_lem kind_at mask_of
+same_masks : table_of (λ op e f. masks_as (kind_at op e f)) ≡ table_of through_control
+unfolding table through_control kind_at mask_of
 same_masks = refl
 
 -- v is written, PC becomes p, and n grows by 1
@@ -137,7 +137,7 @@ does c f w x y m = pick (by_interrupt c) (does_by_f c f w m) (does_by_fields c f
 
 -- Ra and Rb are used
 abbrev pub uses_x : Entry → Bool
-uses_x k = said k a_register_lem || said k d_register
+uses_x k = said k a_register || said k d_register
 
 abbrev pub uses_y : Entry → Bool
 uses_y k = said k b_register
@@ -204,15 +204,15 @@ module _ (w : ℕ) where
   abbrev pub kind : Entry
   kind = kind_at (opcode w) (e_of w) (f_of w)
 
-  masks_at : masks_of w ≡ by_control_lem (opcode w) (e_of w) (f_of w) w
+  masks_at : masks_of w ≡ through_control (opcode w) (e_of w) (f_of w) w
   unfolding masks_of
   masks_at = ap (λ g. g w) (at_word _ _ same_masks w)
 
   pub x_in : uses_x kind ≡ true → in_mask (masks_of w).reads (a_of w) ≡ true
-  unfolding by_control_lem
+  unfolding through_control
   x_in e =
       ap (λ M. in_mask M.reads (a_of w)) masks_at
-      ∙ go (a_of w) (mask_if (said kind b_register) (b_of w)) (omega arith) (said kind a_register_lem) (said kind d_register) e
+      ∙ go (a_of w) (mask_if (said kind b_register) (b_of w)) (omega arith) (said kind a_register) (said kind d_register) e
     where
       go : (a b : ℕ) → a < 8 → (t u : Bool) → (t || u) ≡ true → in_mask (bit_or (bit_or (mask_if t a) b) (mask_if u a)) a ≡ true
       go a b h true u e = or_left (bit_or (mask_if true a) b) (mask_if u a) a (or_left (mask_if true a) b a (alone a h))
@@ -220,9 +220,9 @@ module _ (w : ℕ) where
       go a b h false false e = never e
 
   pub y_in : uses_y kind ≡ true → in_mask (masks_of w).reads (b_of w) ≡ true
-  unfolding by_control_lem
+  unfolding through_control
   y_in e =
-      let a = mask_if (said kind a_register_lem) (a_of w) in
+      let a = mask_if (said kind a_register) (a_of w) in
       let b = mask_if true (b_of w) in
       ap (λ M. in_mask M.reads (b_of w)) masks_at
       ∙ rw e (or_left (bit_or a b) (mask_if (said kind d_register) (a_of w)) (b_of w) (or_right a b (b_of w) (alone (b_of w) (omega arith))))
@@ -239,7 +239,7 @@ module _ (w : ℕ) where
   by_lock x y s = locked_at control (f_of w) w x y s
 
   pub writes_is : is_assigned_lem ≡ true → (masks_of w).writes ≡ mask_of (destination control (f_of w) w)
-  unfolding by_control_lem assigned interrupt_assigned
+  unfolding through_control assigned interrupt_assigned
   writes_is e = ap (λ M. M.writes) masks_at ∙ ap (λ t. mask_of (pick t (destination control (f_of w) w) none)) e
 
   pub used : (x y : ℕ) (m : Machine) → does control (f_of w) w x y m ≡ does_used kind control (f_of w) w x y m

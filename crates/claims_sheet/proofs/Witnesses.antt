@@ -16,7 +16,7 @@ use Rattle.kinds.specs.declared.Kind.TheVariants.{And}
 use Rattle.kinds.specs.Kinds.{kinds}
 use Rattle.isa.specs.declared.Instruction.{Instruction}
 use Rattle.isa.specs.Sheet.{sheet_line, kind_at}
-use Rattle.isa.specs.Instructions.{register_part, Register, a_register_lem, b_register, d_register, word_of, word, write_of}
+use Rattle.isa.specs.Instructions.{register_part, Register, a_register, b_register, d_register, word_of, word, write_of}
 use Rattle.isa.specs.Masks.{in_mask, masks_of}
 use Rattle.isa.proofs.Every.{every}
 use Rattle.machine.specs.Machine.{Machine, R, reset, put_registers, word_at}
@@ -139,7 +139,7 @@ unfolding all needed trial_of shows differs seen after next_of machine example f
 uses_shown k p = every (λ k. needed k p) (at_each p) k
   where
     at_each : (p : Register) → T (all (length kinds) (λ n. needed (get_or kinds n And) p))
-    at_each a_register_lem = tt
+    at_each a_register = tt
     at_each b_register = tt
     at_each d_register = tt
 

@@ -8,7 +8,7 @@ use Rattle.word.specs.Word.{pick}
 use Rattle.kinds.specs.declared.Kind.{Kind}
 use Rattle.isa.specs.declared.Instruction.{Instruction}
 use Rattle.isa.specs.Sheet.{sheet_line}
-use Rattle.isa.specs.Instructions.{register_part, Register, a_register_lem, b_register, d_register, instruction, unassigned, read_of, word, write_of}
+use Rattle.isa.specs.Instructions.{register_part, Register, a_register, b_register, d_register, instruction, unassigned, read_of, word, write_of}
 use Rattle.isa.specs.Masks.{Masks, in_mask, reads_destination, masks_of}
 use Rattle.machine.specs.declared.State.{State}
 use Rattle.machine.specs.Machine.{Machine, R, put_r, takes_line, on_state}
@@ -72,7 +72,7 @@ has p = not (eqb p.count 0)
 
 -- the registers that the rule of a kind is said to use: Ra and Rb where its format has them, and Rd of MOVHI
 abbrev pub said_to_use : Kind → Register → Bool
-said_to_use k a_register_lem = has (sheet_line k).format.a
+said_to_use k a_register = has (sheet_line k).format.a
 said_to_use k b_register = has (sheet_line k).format.b
 said_to_use k d_register = reads_destination k
 
@@ -82,7 +82,7 @@ is_used i j p = said_to_use i.kind p && eqb (register_part i p) j
 
 -- the masks have just the registers that they are said to have
 pub record Exact (masks : Masks) (i : Instruction) (j : ℕ) : Type 0 where
-  pub reads : in_mask masks.reads j ≡ (is_used i j a_register_lem || is_used i j b_register || is_used i j d_register)
+  pub reads : in_mask masks.reads j ≡ (is_used i j a_register || is_used i j b_register || is_used i j d_register)
   pub writes : in_mask masks.writes j ≡ (has (sheet_line i.kind).format.d && eqb i.d j)
 
 -- ---- The claim

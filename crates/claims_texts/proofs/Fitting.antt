@@ -18,7 +18,7 @@ use Rattle.kinds.specs.declared.Kind.TheVariants.{And}
 use Rattle.kinds.specs.Kinds.{kinds}
 use Rattle.isa.specs.declared.Instruction.{Instruction}
 use Rattle.isa.specs.Sheet.{Line as SheetLine, sheet_line}
-use Rattle.isa.specs.Instructions.{Register, a_register_lem, b_register, d_register, in_range, fits, word_of, write_of}
+use Rattle.isa.specs.Instructions.{Register, a_register, b_register, d_register, in_range, fits, word_of, write_of}
 use Rattle.token.specs.Tokens.{Token}
 use Rattle.expression.specs.declared.Value.{Value}
 use Rattle.expression.specs.Operands.{register_of}
@@ -31,7 +31,7 @@ use Rattle.claims_texts.specs.Assembly.{Fits}
 
 -- the registers are below their bounds
 abbrev Within : {A : Type 0} → (Register → ℕ) → Parts A → Type 0
-Within bound p = (p.a < bound a_register_lem) × (p.b < bound b_register) × (p.d < bound d_register)
+Within bound p = (p.a < bound a_register) × (p.b < bound b_register) × (p.d < bound d_register)
 
 -- the bound of each register among the items is 8 or more
 abbrev roomy : (Register → ℕ) → List Item → Bool
@@ -41,7 +41,7 @@ roomy bound (punctuation m ∷ is) = roomy bound is
 roomy bound (N ∷ is) = roomy bound is
 
 put_within : (bound : Register → ℕ) (r : Register) (k : ℕ) (p : Parts Tree) → k < bound r → Within bound p → Within bound (put r k p)
-put_within bound a_register_lem k p h w = (h, w.1, w.2)
+put_within bound a_register k p h w = (h, w.1, w.2)
 put_within bound b_register k p h w = (w.0, h, w.2)
 put_within bound d_register k p h w = (w.0, w.1, h)
 
@@ -58,7 +58,7 @@ abbrev line_of_sheet : ℕ → SheetLine
 line_of_sheet k = sheet_line (get_or kinds k And)
 
 abbrev bound : ℕ → Register → ℕ
-bound k a_register_lem = 2 ^ (line_of_sheet k).format.a.count
+bound k a_register = 2 ^ (line_of_sheet k).format.a.count
 bound k b_register = 2 ^ (line_of_sheet k).format.b.count
 bound k d_register = 2 ^ (line_of_sheet k).format.d.count
 
@@ -109,7 +109,7 @@ module _ (k address : ℕ) (p : Parts Value) where
 
   -- where the registers fit, it turns on the number
   by_number : Within (bound k) p → fits (line_of_sheet k) instruction ≡ ranged
-  by_number w = rw (lt-ltb p.a (bound k a_register_lem) w.0, lt-ltb p.b (bound k b_register) w.1, lt-ltb p.d (bound k d_register) w.2)
+  by_number w = rw (lt-ltb p.a (bound k a_register) w.0, lt-ltb p.b (bound k b_register) w.1, lt-ltb p.d (bound k d_register) w.2)
 
   unfit : eqb k (length kinds) ≡ false → (is_odd ≡ false → ranged ≡ true → ⊥) → Fits k address v → ⊥
   unfit e f (inl q) = eqb-false _ _ e q

@@ -18,7 +18,7 @@ use Rattle.kinds.specs.declared.Kind.{Kind}
 use Rattle.kinds.specs.Kinds.{kind_number}
 use Rattle.isa.specs.declared.Instruction.{Instruction}
 use Rattle.isa.specs.Sheet.{Number, signed_n, unsigned_n, Line as SheetLine, sheet_line}
-use Rattle.isa.specs.Instructions.{register_part, Register, a_register_lem, b_register, d_register, in_range, fits}
+use Rattle.isa.specs.Instructions.{register_part, Register, a_register, b_register, d_register, in_range, fits}
 use Rattle.isa.proofs.Every.{every}
 use Rattle.token.specs.Ascii.{ascii}
 use Rattle.token.specs.Tokens.{between, is_digit, is_letter, is_letter_or_digit}
@@ -37,12 +37,12 @@ four false b c d e = never e
 
 -- how many values a register of the line has
 abbrev size_of : SheetLine → Register → ℕ
-size_of l a_register_lem = 2 ^ l.format.a.count
+size_of l a_register = 2 ^ l.format.a.count
 size_of l b_register = 2 ^ l.format.b.count
 size_of l d_register = 2 ^ l.format.d.count
 
 register_fits : (l : SheetLine) (i : Instruction) → fits l i ≡ true → (r : Register) → register_part i r < size_of l r
-register_fits l i e a_register_lem = ltb-true _ _ (four (ltb i.a (2 ^ l.format.a.count)) _ _ _ e).0
+register_fits l i e a_register = ltb-true _ _ (four (ltb i.a (2 ^ l.format.a.count)) _ _ _ e).0
 register_fits l i e b_register = ltb-true _ _ (four (ltb i.a (2 ^ l.format.a.count)) _ _ _ e).1
 register_fits l i e d_register = ltb-true _ _ (four (ltb i.a (2 ^ l.format.a.count)) _ _ _ e).2
 
@@ -87,13 +87,13 @@ among_none u l (negsuc y) a b h = absurd (omega arith)
 -- ---- The rows
 
 abbrev pub is_same : Register → Register → Bool
-is_same a_register_lem a_register_lem = true
-is_same a_register_lem b_register = false
-is_same a_register_lem d_register = false
-is_same b_register a_register_lem = false
+is_same a_register a_register = true
+is_same a_register b_register = false
+is_same a_register d_register = false
+is_same b_register a_register = false
 is_same b_register b_register = true
 is_same b_register d_register = false
-is_same d_register a_register_lem = false
+is_same d_register a_register = false
 is_same d_register b_register = false
 is_same d_register d_register = true
 
@@ -159,7 +159,7 @@ register_test r k = both (leb (size_of (sheet_line k) r) 8) (pick (names r (item
 
 registers_tested : (r : Register) (k : Kind) → T (register_test r k)
 unfolding all register_test
-registers_tested a_register_lem k = every (register_test a_register_lem) tt k
+registers_tested a_register k = every (register_test a_register) tt k
 registers_tested b_register k = every (register_test b_register) tt k
 registers_tested d_register k = every (register_test d_register) tt k
 

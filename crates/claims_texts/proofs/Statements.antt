@@ -13,7 +13,7 @@ use Rattle.word.proofs.Computed.{both_split, all, all_at}
 use Rattle.kinds.specs.declared.Kind.{Kind}
 use Rattle.isa.specs.declared.Instruction.{Instruction}
 use Rattle.isa.specs.Sheet.{sheet_line}
-use Rattle.isa.specs.Instructions.{register_part, Register, a_register_lem, b_register, d_register, fits}
+use Rattle.isa.specs.Instructions.{register_part, Register, a_register, b_register, d_register, fits}
 use Rattle.token.specs.Ascii.{ascii}
 use Rattle.token.specs.Tokens.{Token, between, is_digit, is_letter, is_letter_or_digit}
 use Rattle.expression.specs.Operands.{register_of}
@@ -83,18 +83,18 @@ module _ (address : ℕ) (i : Instruction) (e : fits (sheet_line i.kind) i ≡ t
 
   -- a register's part of p
   abbrev part : Register → Parts Tree → ℕ
-  part a_register_lem p = p.a
+  part a_register p = p.a
   part b_register p = p.b
   part d_register p = p.d
 
   part_put : (r s : Register) (p : Parts Tree) → (pick (is_same r s) true false ≡ false → part r p ≡ register_part i r) → part r (put s (register_part i s) p) ≡ register_part i r
-  part_put a_register_lem a_register_lem p h = refl
-  part_put a_register_lem b_register p h = h refl
-  part_put a_register_lem d_register p h = h refl
-  part_put b_register a_register_lem p h = h refl
+  part_put a_register a_register p h = refl
+  part_put a_register b_register p h = h refl
+  part_put a_register d_register p h = h refl
+  part_put b_register a_register p h = h refl
   part_put b_register b_register p h = refl
   part_put b_register d_register p h = h refl
-  part_put d_register a_register_lem p h = h refl
+  part_put d_register a_register p h = h refl
   part_put d_register b_register p h = h refl
   part_put d_register d_register p h = refl
 
@@ -102,7 +102,7 @@ module _ (address : ℕ) (i : Instruction) (e : fits (sheet_line i.kind) i ≡ t
   filled_register r [] p h = h refl
   filled_register r (register s ∷ is) p h = filled_register r is (put s (register_part i s) p) (λ n. part_put r s p (λ q. h (apart (is_same r s) (names r is) q n)))
   filled_register r (punctuation m ∷ is) p h = filled_register r is p h
-  filled_register a_register_lem (N ∷ is) p h = filled_register a_register_lem is (put_n means.tree p) h
+  filled_register a_register (N ∷ is) p h = filled_register a_register is (put_n means.tree p) h
   filled_register b_register (N ∷ is) p h = filled_register b_register is (put_n means.tree p) h
   filled_register d_register (N ∷ is) p h = filled_register d_register is (put_n means.tree p) h
 
@@ -110,7 +110,7 @@ module _ (address : ℕ) (i : Instruction) (e : fits (sheet_line i.kind) i ≡ t
   StandsFor t = Stands address (field_of k) i.n t
 
   put_n_lem : (s : Register) (p : Parts Tree) → StandsFor p.n → StandsFor (put s (register_part i s) p).n
-  put_n_lem a_register_lem p h = h
+  put_n_lem a_register p h = h
   put_n_lem b_register p h = h
   put_n_lem d_register p h = h
 
@@ -126,7 +126,7 @@ module _ (address : ℕ) (i : Instruction) (e : fits (sheet_line i.kind) i ≡ t
 
   pub parts_registers : (parts.a ≡ i.a) × (parts.b ≡ i.b) × (parts.d ≡ i.d)
   parts_registers = (
-    filled_register a_register_lem (items_of k) blank (absent i e a_register_lem),
+    filled_register a_register (items_of k) blank (absent i e a_register),
     filled_register b_register (items_of k) blank (absent i e b_register),
     filled_register d_register (items_of k) blank (absent i e d_register),
   )

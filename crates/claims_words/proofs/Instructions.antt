@@ -12,7 +12,7 @@ use Rattle.isa.specs.Instructions.{Read, instruction, unassigned, read_of, Write
 use Rattle.claims_words.specs.Instructions.{Unassigned, InRange, Instructions}
 use Rattle.claims_words.proofs.Computed.{read_then_written}
 use Rattle.claims_words.proofs.Decides.{Decides}
-use Rattle.claims_words.proofs.Ranges.{in_range_lem}
+use Rattle.claims_words.proofs.Ranges.{stays_in_range}
 use Rattle.claims_words.proofs.Unassigned.{unassigned_words}
 use Rattle.claims_words.proofs.Written.{written_then_read}
 
@@ -36,7 +36,7 @@ only_7 false v k e = cc
 read_in_range : (w : ℕ) → w < 65536 → (r : Read) → read_of w ≡ r → (r ≡ unassigned → ⊥) → (i : Instruction) × (read_of w ≡ instruction i) × InRange i
 unfolding write_of
 read_in_range w h (instruction i) e n =
-    (i, e, (chosen (fits (sheet_line i.kind) i) _ (in_range_lem i)).1 (_, read_then_written w h i e))
+    (i, e, (chosen (fits (sheet_line i.kind) i) _ (stays_in_range i)).1 (_, read_then_written w h i e))
 read_in_range w h unassigned e n = absurd (n refl)
 
 pub instructions : Instructions
@@ -47,7 +47,7 @@ instructions =
       assigned_words = λ w h n. read_in_range w h (read_of w) refl (λ e. n ((unassigned_words w h).0 e));
       read_then_written = read_then_written;
       written_then_read = written_then_read;
-      written = λ i. chosen (fits (sheet_line i.kind) i) _ (in_range_lem i);
-      refused_7 = λ i. turned_away_lem (fits (sheet_line i.kind) i) _ (in_range_lem i);
+      written = λ i. chosen (fits (sheet_line i.kind) i) _ (stays_in_range i);
+      refused_7 = λ i. turned_away_lem (fits (sheet_line i.kind) i) _ (stays_in_range i);
       no_other = λ i k. only_7 (fits (sheet_line i.kind) i) _ k;
     }

@@ -40,8 +40,8 @@ range : (z : Number) (p : Bits) (n : ℤ) → Decides (in_range z p n) (Range z 
 range signed_n p n = decides_and (decides_le_z _ n) (decides_lt_z n _)
 range unsigned_n p n = decides_and (decides_le_z _ n) (decides_lt_z n _)
 
-pub in_range_lem : (i : Instruction) → Decides (fits (sheet_line i.kind) i) (InRange i)
-in_range_lem i =
+pub stays_in_range : (i : Instruction) → Decides (fits (sheet_line i.kind) i) (InRange i)
+stays_in_range i =
     let k = i.kind in
     let f = (sheet_line k).format in
     let t = both_split (threefold f.a) _ (registers k) in

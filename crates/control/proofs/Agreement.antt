@@ -24,8 +24,8 @@ record Columns : Type 0 where
   does : ℕ → Machine → Next
   port : Bool
 
-by_control_lem : ℕ → Columns
-by_control_lem c = record { does = control_step c; port = writes_port c }
+through_control : ℕ → Columns
+through_control c = record { does = control_step c; port = writes_port c }
 
 -- what a row says of the words with this e, the choice by f made last
 abbrev step_row : RuleRow → ℕ → ℕ → Machine → Next
@@ -104,8 +104,8 @@ abbrev from : {A : Type 0} → (ℕ → ℕ → A) → ℕ → List ℕ → List
 from g k [] = []
 from g k (x ∷ xs) = g (k / 2) (k % 2) ∷ from g (suc k) xs
 
-test : map by_control_lem table ≡ from by_row 0 table
-unfolding by_control_lem by_row compute compare addi ld st ldb stb jalr movi input output multiply_divide interrupt control_step interrupted interrupt_assigned performed assigned zero_divisor locked_access second unit result inputs_after next stored_data stored written
+test : map through_control table ≡ from by_row 0 table
+unfolding through_control by_row compute compare addi ld st ldb stb jalr movi input output multiply_divide interrupt control_step interrupted interrupt_assigned performed assigned zero_divisor locked_access second unit result inputs_after next stored_data stored written
 test = rw (bz_is, bnz_is, movhi_is)
 
 -- ---- The lemma: the test, read at the place of a word
@@ -115,26 +115,26 @@ from_at g i [] k d h = absurd (not-suc-le-zero h)
 from_at g i (x ∷ xs) zero d h = rw add-zero
 from_at g i (x ∷ xs) (suc k) d h = from_at g (suc i) xs k d (le_of_suc-le-suc h) ∙ rw (suc-add, add-suc)
 
-at : (w : ℕ) → by_control_lem (control_of w) ≡ by_row (opcode w) (e_of w)
+at : (w : ℕ) → through_control (control_of w) ≡ by_row (opcode w) (e_of w)
 unfolding control_in
 at w =
     let k = opcode w * 2 + e_of w in
     let half : k / 2 ≡ opcode w = omega arith in
     let odd : k % 2 ≡ e_of w = omega arith in
-    sym (get_or-map by_control_lem table k 0)
-    ∙ ap (λ (l : List Columns). get_or l k (by_control_lem 0)) test
-    ∙ from_at by_row 0 table k (by_control_lem 0) (omega arith)
+    sym (get_or-map through_control table k 0)
+    ∙ ap (λ (l : List Columns). get_or l k (through_control 0)) test
+    ∙ from_at by_row 0 table k (through_control 0) (omega arith)
     ∙ rw (zero-add, half, odd)
 
 pub agreement : (w : ℕ) (m : Machine) → control_step (control_of w) w m ≡ step_by (choice w) w m
-unfolding by_control_lem by_row choice
+unfolding through_control by_row choice
 agreement w m =
     ap (λ (x : Columns). x.does w m) (at w)
     ∙ row_at_is (opcode w) (e_of w) w m
     ∙ row_is (get_or rule_rows (opcode w) no_rule) (e_of w) w m
 
 pub agreement_port : (w : ℕ) → writes_port (control_of w) ≡ is_out w
-unfolding by_control_lem by_row
+unfolding through_control by_row
 agreement_port w = ap (λ (x : Columns). x.port) (at w)
 
 -- by the table is by the rules

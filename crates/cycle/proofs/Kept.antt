@@ -14,7 +14,7 @@ use Rattle.machine.specs.declared.State.{State}
 use Rattle.machine.specs.Machine.{Machine}
 use Rattle.machine.specs.Run.{Stepper}
 use Rattle.journal.specs.Journal.{entry_of}
-use Rattle.run.specs.Runs.{Journal, no_journal_lem, lent_journal, Given, journal_if, allowed, counted_in, placed, kept_in, trace_on}
+use Rattle.run.specs.Runs.{Journal, no_journal, lent_journal, Given, journal_if, allowed, counted_in, placed, kept_in, trace_on}
 use Rattle.run.specs.Parts.{EndsWith}
 
 -- ---- Entries at the places from k on
@@ -30,7 +30,7 @@ placed_more k e es xs l =
 -- ---- The journal kept, or none
 
 kept_none : (j : Journal) (k : ℕ) → kept_in j k [] ≡ j
-kept_none no_journal_lem k = refl
+kept_none no_journal k = refl
 kept_none (lent_journal xs) k = rw (add-zero k, append-nil (take k xs)) (ap lent_journal (take-append-drop k xs))
 
 -- what a step does to the journal: its entry x goes to place k

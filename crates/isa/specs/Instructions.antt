@@ -17,10 +17,10 @@ use Rattle.isa.specs.Sheet.{Code, F, E, only, Number, signed_n, unsigned_n, Line
 -- ---- The registers of an instruction, each in a part of it
 
 pub data Register : Type 0 where
-  a_register_lem b_register d_register : Register
+  a_register b_register d_register : Register
 
 abbrev pub register_part : Instruction → Register → ℕ
-register_part i a_register_lem = i.a
+register_part i a_register = i.a
 register_part i b_register = i.b
 register_part i d_register = i.d
 

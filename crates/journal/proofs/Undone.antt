@@ -82,7 +82,7 @@ pub record TakenBack (m x : Machine) : Type 0 where
   pub small : entry_of m < 18446744073709551616
   -- it is an output's where the word fetched is OUT
   pub output : is_output (entry_of m) ≡ fetches_a is_out m
-  pub in_range_lem : InRange x
+  pub stays_in_range : InRange x
 
 pub taken_back : (m x : Machine) → InRange m → step m ≡ to x → TakenBack m x
 unfolding undo
@@ -104,7 +104,7 @@ taken_back m x r e =
           ∙ ap (λ J. but_for J L (with_lines lines m)) (key_put_at m I);
       small = entry.small;
       output = entry.port ∙ ap is_port (sym made.over) ∙ made.port_is;
-      in_range_lem = subst InRange (sym (done s.1 made)) (but_for_in_range made.L left.inputs left);
+      stays_in_range = subst InRange (sym (done s.1 made)) (but_for_in_range made.L left.inputs left);
     }
 
 -- ---- By any number

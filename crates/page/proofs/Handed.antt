@@ -8,13 +8,13 @@ use native.Mathlib.Omega.{arith}
 use lib.ListN.{length, get_or, drop, replicate, length-take, length-drop, length-map, take-append-drop, drop_of_length-le}
 use lib.Seq.{drop-drop, drop-cons}
 use Rattle.usage.specs.Usage.{unused}
-use Rattle.run.specs.Runs.{no_journal_lem, Given, left, stopped, CountedLeft}
+use Rattle.run.specs.Runs.{no_journal, Given, left, stopped, CountedLeft}
 use Rattle.page.specs.Pages.{up_from, part, total_steps, rejoined}
 use Rattle.page.specs.Parts.{Each, Joins}
 
 -- a trim that has not run
 abbrev pub untouched : Given → CountedLeft
-untouched t = record { left = left (stopped 0 0 0) t.state t.P t.D t.I t.O t.log no_journal_lem; usage = unused; ticks = 0 }
+untouched t = record { left = left (stopped 0 0 0) t.state t.P t.D t.I t.O t.log no_journal; usage = unused; ticks = 0 }
 
 up_long : (k m : ℕ) → length (up_from k m) ≡ m
 unfolding up_from

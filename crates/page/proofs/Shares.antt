@@ -14,7 +14,7 @@ use Rattle.machine.specs.Run.{Stepper}
 use Rattle.machine.proofs.Runs.{Lawful}
 use Rattle.usage.specs.Usage.{ticks_of}
 use Rattle.usage.proofs.Sums.{trace_sized, unused_plus}
-use Rattle.run.specs.Runs.{no_journal_lem, Given, given, left, stopped, outcome_on, trace_on, accepted_left, verdict_on, CountedLeft, counted_by, counted_left}
+use Rattle.run.specs.Runs.{no_journal, Given, given, left, stopped, outcome_on, trace_on, accepted_left, verdict_on, CountedLeft, counted_by, counted_left}
 use Rattle.page.specs.Pages.{PageGiven, up_from, trim, report, as_one, go_on_with, second_round}
 use Rattle.page.specs.Parts.{Each, turn_by, round_by}
 use Rattle.page.proofs.Bounds.{within}
@@ -26,7 +26,7 @@ module _ (v : Stepper) where
   -- the first run of a trim is all that it has run
   module _ (s : State) (P D I O : List ℕ) (budget : ℕ) (log : List ℕ) where
     abbrev t : Given
-    t = given s P D I O budget log no_journal_lem
+    t = given s P D I O budget log no_journal
 
     one_run : as_one (untouched t) (counted_by v accepted t) ≡ counted_by v accepted t
     one_run =
@@ -36,7 +36,7 @@ module _ (v : Stepper) where
         record {
           left =
               left (stopped z.reason (zero-add (z.after.state.n - s.n) i) (zero-add (length z.after.L) i)) a.state a.P a.D a.I a.O a.log
-              no_journal_lem;
+              no_journal;
           usage = unused_plus (trace_sized (trace_on v t)) i;
           ticks = zero-add (ticks_of (trace_on v t)) i;
         }

@@ -14,7 +14,7 @@ use Rattle.machine.specs.Run.{Stepper}
 use Rattle.machine.proofs.Runs.{Lawful}
 use Rattle.run.specs.declared.Report.{Report}
 use Rattle.run.specs.declared.Counted.{Counted}
-use Rattle.run.specs.Runs.{no_journal_lem, given, left, shown_answer, CountedLeft, counted_left, CountedMeets}
+use Rattle.run.specs.Runs.{no_journal, given, left, shown_answer, CountedLeft, counted_left, CountedMeets}
 use Rattle.page.specs.declared.TrimAnswer.{TrimAnswer}
 use Rattle.page.specs.declared.turns.Turned.{Turned}
 use Rattle.page.specs.Pages.{report_of, report, run_on, as_one, answer_of}
@@ -24,7 +24,7 @@ use Rattle.page.proofs.Bounds.{Within, within}
 
 -- what a run leaves that replies r
 abbrev ran_left : Counted → List ℕ → List ℕ → List ℕ → List ℕ → List ℕ → CountedLeft
-ran_left r P D I O log = record { left = left (shown_answer r.answer) r.state P D I O log no_journal_lem; usage = r.usage; ticks = r.ticks }
+ran_left r P D I O log = record { left = left (shown_answer r.answer) r.state P D I O log no_journal; usage = r.usage; ticks = r.ticks }
 
 module _ {at places : ℕ} {s : State} {a : TrimAnswer} {P D I O : List ℕ} {budget : ℕ} {log : List ℕ} (x : CanTurn at places s a P D I O budget log) where
   -- the parts lie within the lists that they are lent of
@@ -68,7 +68,7 @@ module _ {at places : ℕ} {s : State} {a : TrimAnswer} {P D I O : List ℕ} {bu
       ++ (ys ++ drop (at * places + places - (at * places + a.entries)) (drop (at * places + a.entries) log))
 
   module _ (v : Stepper) (law : Lawful v) (r : Counted) {D' I' O' L' : List ℕ}
-      (met : CountedMeets v (given s (lent_part 65536 P) (lent_part 65536 D) (lent_part 256 I) (lent_part 256 O) budget free_part_of no_journal_lem) (ran_left r (lent_part 65536 P) D' I' O' L'))
+      (met : CountedMeets v (given s (lent_part 65536 P) (lent_part 65536 D) (lent_part 256 I) (lent_part 256 O) budget free_part_of no_journal) (ran_left r (lent_part 65536 P) D' I' O' L'))
       (same-D : length D' ≡ length (lent_part 65536 D)) (same-I : length I' ≡ length (lent_part 256 I)) (same-O : length O' ≡ length (lent_part 256 O))
       (same-L : length L' ≡ length free_part_of) where
     entries_is : a.entries ≡ (report x.c).entries
@@ -102,7 +102,7 @@ module _ {at places : ℕ} {s : State} {a : TrimAnswer} {P D I O : List ℕ} {bu
         let l = x.lent in
         (λ i. ran_left r (sym (lent_is l.programs) i) D' I' O' L')
         ∙ met
-        ∙ (λ i. counted_left v (given (x.state i) (lent_is l.programs i) (lent_is l.memories i) (lent_is l.inputs i) (lent_is l.outputs i) budget (free_part i) no_journal_lem))
+        ∙ (λ i. counted_left v (given (x.state i) (lent_is l.programs i) (lent_is l.memories i) (lent_is l.inputs i) (lent_is l.outputs i) budget (free_part i) no_journal))
 
     few : Within budget (ran_left r x.c.left.P D' I' O' L')
     few = subst (Within budget) (sym ran) (within v law _ (omega (arith, x.can.steps)))

@@ -8,7 +8,7 @@ use Rattle.machine.specs.Slices.{MutSlice, Slice, before, after, read_before, re
 use Rattle.machine.specs.Run.{Stepper}
 use Rattle.usage.specs.Usage.{unused, plus_usage}
 use Rattle.run.specs.declared.Report.{Report}
-use Rattle.run.specs.Runs.{no_journal_lem, Given, given, left, RunReply, stopped, run_refused, verdict_on, shown_verdict, CountedLeft, counted_left}
+use Rattle.run.specs.Runs.{no_journal, Given, given, left, RunReply, stopped, run_refused, verdict_on, shown_verdict, CountedLeft, counted_left}
 use Rattle.page.specs.declared.Trims.{Trims}
 use Rattle.page.specs.declared.TrimAnswer.{TrimAnswer}
 use Rattle.page.specs.declared.Paged.{Paged}
@@ -64,7 +64,7 @@ places g = length g.log / g.count
 abbrev pub trim : PageGiven → ℕ → ℕ → Given
 trim g budget k =
     given (get_or g.states k reset) (part 65536 k g.P) (part 65536 k g.D) (part 256 k g.I) (part 256 k g.O) budget
-    (part (places g) k g.log) no_journal_lem
+    (part (places g) k g.log) no_journal
 
 -- ---- Refusals: 17, then 1, then trim by trim 5 and 6
 
@@ -104,7 +104,7 @@ report c = report_of c.left.reply
 abbrev pub run_on : Stepper → ℕ → CountedLeft → CountedLeft
 run_on v budget c =
     let l = c.left in
-    counted_left v (given l.state l.P l.D l.I l.O budget (drop (report c).entries l.log) no_journal_lem)
+    counted_left v (given l.state l.P l.D l.I l.O budget (drop (report c).entries l.log) no_journal)
 
 -- A run and the run on from it, as one: the second's stop reason, state, memories and ports; steps, entries, ticks and counts added up;
 -- the log part filled further.
@@ -116,7 +116,7 @@ as_one c d =
     record {
       left =
           left (stopped y.stop (x.steps + y.steps) (x.entries + y.entries)) l.state l.P l.D l.I l.O
-          (take x.entries c.left.log ++ l.log) no_journal_lem;
+          (take x.entries c.left.log ++ l.log) no_journal;
       usage = plus_usage c.usage d.usage;
       ticks = c.ticks + d.ticks;
     }

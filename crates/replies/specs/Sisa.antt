@@ -22,7 +22,7 @@ use Rattle.control.specs.Control.{by_the_table}
 use Rattle.usage.specs.declared.Usage.{Usage}
 use Rattle.sheet.specs.declared.Sheet.{Sheet}
 use Rattle.sheet.specs.Sheet.{FeedLeft, feed_by}
-use Rattle.run.specs.Runs.{Journal, no_journal_lem, lent_journal, Given, given, RunReply, stopped, run_refused, CountedLeft, counted_left, lent_to}
+use Rattle.run.specs.Runs.{Journal, no_journal, lent_journal, Given, given, RunReply, stopped, run_refused, CountedLeft, counted_left, lent_to}
 use Rattle.page.specs.declared.Trims.{Trims}
 use Rattle.page.specs.declared.TrimAnswer.{TrimAnswer}
 use Rattle.page.specs.Pages.{PageGiven, PageLeft, page_left, lent_page}
@@ -169,8 +169,8 @@ SisaRunMeets v g l = l ≡ sisa_run_left v g
 
 abbrev pub SisaRuns : Stepper → State → Slice → MutSlice → MutSlice → MutSlice → ℕ → MutSlice → SisaRun → Type 0
 SisaRuns v state program memory inputs outputs budget log r =
-    SisaRunMeets v (lent_to state program memory inputs outputs budget log no_journal_lem)
-    (sisa_left r (read_after program) (after memory) (after inputs) (after outputs) (after log) no_journal_lem)
+    SisaRunMeets v (lent_to state program memory inputs outputs budget log no_journal)
+    (sisa_left r (read_after program) (after memory) (after inputs) (after outputs) (after log) no_journal)
 
 abbrev pub SisaRunsJournaled : Stepper → State → Slice → MutSlice → MutSlice → MutSlice → ℕ → MutSlice → MutSlice → SisaRun → Type 0
 SisaRunsJournaled v state program memory inputs outputs budget log journal r =
@@ -197,8 +197,8 @@ with_state s a =
 -- A host step is a run by the table with budget 1 and no journal over registers that the host holds: its contract.
 abbrev pub HostStepMeets : HostLent → SisaAnswer → HostLent → Type 0
 HostStepMeets h answer kept =
-    SisaRunMeets by_the_table (given h.state h.P h.D h.I h.O 1 h.log no_journal_lem)
-    (sisa_left (with_state kept.state answer) kept.P kept.D kept.I kept.O kept.log no_journal_lem)
+    SisaRunMeets by_the_table (given h.state h.P h.D h.I h.O 1 h.log no_journal)
+    (sisa_left (with_state kept.state answer) kept.P kept.D kept.I kept.O kept.log no_journal)
 
 -- the same of its parameters, the state by reference
 abbrev pub HostSteps : Both (MutBor State) (MutBor State) → Slice → MutSlice → MutSlice → MutSlice → MutSlice → SisaAnswer → Type 0

@@ -9,7 +9,7 @@ use Rattle.refusal.specs.Refusals.{Verdict, accepted, refused}
 use Rattle.machine.specs.declared.Board.TheVariants.{TwoMemories}
 use Rattle.image.specs.Image.{LoadLeft, load_left}
 use Rattle.control.specs.Control.{by_the_table}
-use Rattle.run.specs.Runs.{no_journal_lem, given, run_left}
+use Rattle.run.specs.Runs.{no_journal, given, run_left}
 use Rattle.printing.specs.declared.Printed.{Printed}
 use Rattle.printing.specs.Text.{in_array}
 use Rattle.report.specs.Printed.{refused_line, ran_lines, loaded_by, printed}
@@ -27,7 +27,7 @@ module _ (file : List ℕ) {l : LoadLeft} (h : length file ≤ 65536)
       (p ∙ ap (λ reply. in_array (loaded_by reply l)) (sym k) ∙ ap (λ (x : LoadLeft). in_array (loaded_by x.reply x)) e)
 
   pub accepted_lines : {r : Printed} → l.reply ≡ accepted
-      → r ≡ in_array (ran_lines (run_left by_the_table (given l.state l.P l.D l.I l.O 1000 (replicate 64 0) no_journal_lem)))
+      → r ≡ in_array (ran_lines (run_left by_the_table (given l.state l.P l.D l.I l.O 1000 (replicate 64 0) no_journal)))
       → r ≡ in_array (printed file)
   accepted_lines k p = loaded k p
 

@@ -7,7 +7,7 @@ use Rattle.machine.specs.declared.State.{State}
 use Rattle.machine.specs.declared.Board.TheVariants.{TwoMemories}
 use Rattle.image.specs.Image.{LoadLeft, load_left}
 use Rattle.control.specs.Control.{by_the_table}
-use Rattle.run.specs.Runs.{no_journal_lem, given, RunReply, stopped, run_refused, Left, run_left}
+use Rattle.run.specs.Runs.{no_journal, given, RunReply, stopped, run_refused, Left, run_left}
 use Rattle.printing.specs.Text.{decimal, hex4, each}
 
 -- ---- Lines
@@ -61,7 +61,7 @@ ran_lines l = lines_by l.reply l
 -- what a load prints; `panelrun` runs the table engine with inputs zero, as the load left them, budget 1,000, a 64-place log and no
 -- journal
 abbrev pub loaded_by : Verdict → LoadLeft → List ℕ
-loaded_by accepted l = ran_lines (run_left by_the_table (given l.state l.P l.D l.I l.O 1000 (replicate 64 0) no_journal_lem))
+loaded_by accepted l = ran_lines (run_left by_the_table (given l.state l.P l.D l.I l.O 1000 (replicate 64 0) no_journal))
 loaded_by (refused number) l = refused_line number
 
 -- 8: the program's file exceeds 65,536 bytes. The program tests 8 before its load.

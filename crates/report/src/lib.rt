@@ -4,7 +4,7 @@
 ghost use Rattle.std.specs.Prelude.{◌≡◌, replicate};
 ghost use Rattle.refusal.specs.Refusals.{refusal_number};
 ghost use Rattle.control.specs.Control.{by_the_table};
-ghost use Rattle.run.specs.Runs.{no_journal_lem, given, run_left};
+ghost use Rattle.run.specs.Runs.{no_journal, given, run_left};
 ghost use Rattle.printing.specs.Text.{in_array};
 ghost use Rattle.report.specs.Printed.{refused_line, ran_lines, printed};
 
@@ -42,7 +42,7 @@ fn run_loaded(
     inputs: &mut [u16],
     outputs: &mut [u16],
 ) -> Printed
-    ensures { result ≡ in_array (ran_lines (run_left by_the_table (given state program.now memory.old inputs.old outputs.old 1000 (replicate 64 0) no_journal_lem))) }
+    ensures { result ≡ in_array (ran_lines (run_left by_the_table (given state program.now memory.old inputs.old outputs.old 1000 (replicate 64 0) no_journal))) }
 {
     let mut log = [0u64; LOG_PLACES];
     let ran = engine::run_by_table(state, program, memory, inputs, outputs, BUDGET, &mut log);

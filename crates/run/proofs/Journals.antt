@@ -9,7 +9,7 @@ use lib.ListN.{length}
 use Rattle.machine.specs.declared.State.{State}
 use Rattle.machine.specs.Machine.{even_places, put_journaled}
 use Rattle.machine.specs.Run.{Stepper}
-use Rattle.run.specs.Runs.{Journal, no_journal_lem, lent_journal, Given, given, journal_if, start_in, allowed_in, allowed, counted_in, accepted_counted}
+use Rattle.run.specs.Runs.{Journal, no_journal, lent_journal, Given, given, journal_if, start_in, allowed_in, allowed, counted_in, accepted_counted}
 
 module _ (keeps : Bool) (xs : List ℕ) where
   -- the count that a run starts from, and the steps that it may take, fit 64 bits together
@@ -57,7 +57,7 @@ pub is_started : (g : Given) → Started g
 is_started g = by_journal g.journal
   where
     by_journal : (j : Journal) → Started (given g.state g.P g.D g.I g.O g.budget g.log j)
-    by_journal no_journal_lem = record { places = refl; n = refl; few = omega arith; starts = refl; same = λ v. refl }
+    by_journal no_journal = record { places = refl; n = refl; few = omega arith; starts = refl; same = λ v. refl }
     by_journal (lent_journal xs) =
         let places = length xs - g.state.journaled in
         let again : min (min g.budget places) places ≡ min g.budget places = omega arith in

@@ -20,7 +20,7 @@ use Rattle.run.specs.declared.Check.TheVariants.{Accepted, Refused as CheckRefus
 
 -- A run may keep a journal (02, L7): none is lent, or one of any length.
 pub data Journal : Type 0 where
-  no_journal_lem : Journal
+  no_journal : Journal
   lent_journal : List ℕ → Journal
 
 -- A run gets a state, the memories and ports, a 32-bit budget, a log of any length, and a journal or none.
@@ -82,17 +82,17 @@ shown_verdict (CheckRefused r) = refused (refusal_number r)
 
 -- The steps that a run may take: a full journal counts as a used budget. A count at or past its length is a full journal.
 abbrev pub allowed_in : Journal → ℕ → ℕ → ℕ
-allowed_in no_journal_lem count budget = budget
+allowed_in no_journal count budget = budget
 allowed_in (lent_journal xs) count budget = min budget (length xs - count)
 
 -- The count is from 0 at an accepted run without a journal.
 abbrev pub start_in : Journal → State → State
-start_in no_journal_lem s = put_journaled 0 s
+start_in no_journal s = put_journaled 0 s
 start_in (lent_journal xs) s = s
 
 -- One entry a step is counted,
 abbrev pub counted_in : Journal → ℕ → State → State
-counted_in no_journal_lem steps s = s
+counted_in no_journal steps s = s
 counted_in (lent_journal xs) steps s = put_journaled (s.journaled + steps) s
 
 -- es at the places from k on, the others as they were
@@ -101,7 +101,7 @@ placed k es xs = take k xs ++ es ++ drop (k + length es) xs
 
 -- and kept, of the machine before its step.
 abbrev pub kept_in : Journal → ℕ → List Machine → Journal
-kept_in no_journal_lem count ms = no_journal_lem
+kept_in no_journal count ms = no_journal
 kept_in (lent_journal xs) count ms = lent_journal (placed count (map entry_of ms) xs)
 
 -- ---- What is left, where v is what the run goes by
@@ -178,7 +178,7 @@ CountedMeets v g l = l ≡ counted_left v g
 -- a journal where one is kept
 abbrev pub journal_if : Bool → List ℕ → Journal
 journal_if true xs = lent_journal xs
-journal_if false xs = no_journal_lem
+journal_if false xs = no_journal
 
 abbrev pub lent_to : State → Slice → MutSlice → MutSlice → MutSlice → ℕ → MutSlice → Journal → Given
 lent_to state program memory inputs outputs budget log journal =
@@ -197,7 +197,7 @@ RunsWith v state program memory inputs outputs budget log lent returned r =
 -- without one
 abbrev pub RunsCounted : Stepper → State → Slice → MutSlice → MutSlice → MutSlice → ℕ → MutSlice → Counted → Type 0
 RunsCounted v state program memory inputs outputs budget log r =
-    RunsWith v state program memory inputs outputs budget log no_journal_lem no_journal_lem r
+    RunsWith v state program memory inputs outputs budget log no_journal no_journal r
 
 -- with one
 abbrev pub RunsJournaled : Stepper → State → Slice → MutSlice → MutSlice → MutSlice → ℕ → MutSlice → MutSlice → Counted → Type 0
@@ -207,5 +207,5 @@ RunsJournaled v state program memory inputs outputs budget log journal r =
 -- a run without journal and without counts
 abbrev pub RunsOnly : Stepper → State → Slice → MutSlice → MutSlice → MutSlice → ℕ → MutSlice → Ran → Type 0
 RunsOnly v state program memory inputs outputs budget log r =
-    RunMeets v (lent_to state program memory inputs outputs budget log no_journal_lem)
-    (left_with program memory inputs outputs log no_journal_lem r.answer r.state)
+    RunMeets v (lent_to state program memory inputs outputs budget log no_journal)
+    (left_with program memory inputs outputs log no_journal r.answer r.state)

@@ -95,11 +95,11 @@ module _ (w : ℕ) (P D : List ℕ) (within : 2 * w ≤ length P) (p : length P 
   part : length (take (2 * w) P) ≡ 2 * w
   part = length-take-le _ _ within
 
-  program_part_lem : part_of (file w P D) (program_offset (file w P D)) (2 * W (file w P D)) ≡ take (2 * w) P
-  program_part_lem = rw words (take_at (take (2 * w) P) _ _ part)
+  the_program_part : part_of (file w P D) (program_offset (file w P D)) (2 * W (file w P D)) ≡ take (2 * w) P
+  the_program_part = rw words (take_at (take (2 * w) P) _ _ part)
 
-  data_part_lem : part_of (file w P D) (data_offset (file w P D)) (C (file w P D)) ≡ take (bytes_kept D) D
-  data_part_lem = rw (bytes, bytes_offset, ← drop-drop) (rw (drop_at (take (2 * w) P) _ _ part) (take-take (bytes_kept D) (bytes_kept D) D (le_refl _)))
+  the_data_part : part_of (file w P D) (data_offset (file w P D)) (C (file w P D)) ≡ take (bytes_kept D) D
+  the_data_part = rw (bytes, bytes_offset, ← drop-drop) (rw (drop_at (take (2 * w) P) _ _ part) (take-take (bytes_kept D) (bytes_kept D) D (le_refl _)))
 
   -- whatever the memories and ports that it is loaded to held
   module _ (board : Board) (range : Range) (named : range_fits range ≡ true) (held : board_holds board (file w P D) ≡ true) (P' D' I' O' : List ℕ) (p' : length P' ≡ 65536) (d' : length D' ≡ 65536) (i' : length I' ≡ 256) (o' : length O' ≡ 256) where
@@ -143,9 +143,9 @@ module _ (s : State) (range : Range) (named : range_fits range ≡ true) (P D : 
     loads_back e =
         let w = words_kept P in
         let program : memory_of (file w P E) (program_offset (file w P E)) (2 * W (file w P E)) ≡ P =
-        rw (program_part_lem w P E (words_within P) p e_length, words w P E (words_within P) p e_length) (rest_zero P _ 65536 p (omega (arith, words_kept_lem P p refl)) (words_within P)) in
+        rw (the_program_part w P E (words_within P) p e_length, words w P E (words_within P) p e_length) (rest_zero P _ 65536 p (omega (arith, words_kept_lem P p refl)) (words_within P)) in
         let contents : memory_of (file w P E) (data_offset (file w P E)) (C (file w P E)) ≡ E =
-        rw (data_part_lem w P E (words_within P) p e_length, bytes w P E (words_within P) p e_length) data_back in
+        rw (the_data_part w P E (words_within P) p e_length, bytes w P E (words_within P) p e_length) data_back in
         rw e (loads w P E (words_within P) p e_length TwoMemories range named refl P' D' I' O' p' d' i' o')
         ∙ (λ i. record { reply = accepted; state = with_range range reset; P = program i; D = contents i; I = replicate 256 0; O = replicate 256 0 })
 
@@ -159,7 +159,7 @@ module _ (s : State) (range : Range) (named : range_fits range ≡ true) (P D : 
         let held : board_holds SingleMemory (file 0 P E) ≡ true =
         rw (words 0 P E within p e_length, bytes 0 P E within p e_length) (le-leb (0 + bytes_kept E) 65536 (omega (arith, bytes_within E, e_length))) in
         let contents : single_memory_of (file 0 P E) ≡ E =
-        (λ i. program_part_lem 0 P E within p e_length i ++ data_part_lem 0 P E within p e_length i ++ replicate (65536 - (2 * words 0 P E within p e_length i + bytes 0 P E within p e_length i)) 0) ∙ rw zero-add data_back in
+        (λ i. the_program_part 0 P E within p e_length i ++ the_data_part 0 P E within p e_length i ++ replicate (65536 - (2 * words 0 P E within p e_length i + bytes 0 P E within p e_length i)) 0) ∙ rw zero-add data_back in
         rw e (loads 0 P E within p e_length SingleMemory range named held P' D' I' O' p' d' i' o')
         ∙ ap (λ (M : List ℕ). record { reply = accepted; state = with_range range (reset_on SingleMemory); P = replicate 65536 0; D = M; I = replicate 256 0; O = replicate 256 0 }) contents
 

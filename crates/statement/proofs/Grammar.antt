@@ -22,7 +22,7 @@ use Rattle.expression.specs.Reading.{rank_by, rank, Out, refused, read, bind, ma
 use Rattle.expression.proofs.Unique.{Stops, whole}
 use Rattle.expression.proofs.Sound.{sound as expression-sound}
 use Rattle.statement.specs.Syntax.{Item, register, punctuation, N, Row, table, row_at, Parts, put, put_n, blank, Written, end, a_register_there, punctuation_there, a_value_there, Statement, no_statement, of_row, IsStatement, empty, written, Line, line, IsLine, plain, labelled}
-use Rattle.statement.specs.Reading.{ReadLine, outside, reads, row_from, row_of, a_register, a_punctuation, finished, read_item, read_items, statement_of, line_by, line_of}
+use Rattle.statement.specs.Reading.{ReadLine, outside, reads, row_from, row_of, one_register, a_punctuation, finished, read_item, read_items, statement_of, line_by, line_of}
 
 -- the reading of operands
 abbrev operands : List Item → Parts Tree → List Token → Out (Parts Tree)
@@ -89,7 +89,7 @@ ends (a_value_there x w) e = absurd e
 
 -- what is written as a row's operands is read, and no token is left
 read_operands : {is : List Item} {ts : List Token} {p q : Parts Tree} → Written is ts p q → T (ordered is) → operands is p ts ≡ read q []
-unfolding read_items read_item a_register a_punctuation bind mapped
+unfolding read_items read_item one_register a_punctuation bind mapped
 read_operands end o = refl
 read_operands (a_register_there {t = t} h w) o = rw (lt-ltb (register_of t) 8 h) (read_operands w o)
 read_operands (punctuation_there {m = m} {is = is} w) o =
@@ -107,7 +107,7 @@ read_statement (written k h w) l = rw (placed k h, lt-ltb k (length table) h, re
 
 -- operands do not begin with `:`
 no_colon : (is : List Item) (p q : Parts Tree) (ts : List Token) → T (ordered is) → operands is p ((58 ∷ []) ∷ ts) ≡ read q [] → ⊥
-unfolding read_items read_item a_register a_punctuation bind mapped symbol_of register_of parse ranked chain prefixed opening start_of leaf is_operand is_name is_digit is_letter between
+unfolding read_items read_item one_register a_punctuation bind mapped symbol_of register_of parse ranked chain prefixed opening start_of leaf is_operand is_name is_digit is_letter between
 no_colon [] p q ts o e = clash (cc)
 no_colon (register r ∷ is) p q ts o e = clash (cc)
 no_colon (punctuation m ∷ is) p q ts o e = clash (cc (ne_eqb 58 m (λ f. omega (arith, (after_mark m is o).0))))
@@ -144,7 +144,7 @@ past false is p q ts e = clash (cc)
 
 -- the operands that are read, with no token left, are written there
 there : (is : List Item) → T (ordered is) → (p q : Parts Tree) (ts : List Token) → operands is p ts ≡ read q [] → Written is ts p q
-unfolding read_items read_item a_register a_punctuation bind mapped
+unfolding read_items read_item one_register a_punctuation bind mapped
 there [] o p q [] e = let f : q ≡ p = cc in rw f end
 there [] o p q (t ∷ ts) e = clash (cc)
 there (register r ∷ is) o p q [] e = clash (cc)

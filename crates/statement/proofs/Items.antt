@@ -9,7 +9,7 @@ use borrow.Author.Tests.{eq-eqb, ne_eqb, eqb-false, lt-ltb, le-ltb}
 use lib.Dec.{eqb}
 use lib.ListN.{length, take, drop, get_or}
 use Rattle.word.specs.Word.{pick}
-use Rattle.isa.specs.Instructions.{Register, a_register_lem, b_register, d_register}
+use Rattle.isa.specs.Instructions.{Register, a_register, b_register, d_register}
 use Rattle.token.specs.declared.Token.{Token as Found}
 use Rattle.token.specs.declared.Token.TheVariants.{End, Here}
 use Rattle.token.specs.Tokens.{Token}
@@ -25,7 +25,7 @@ use Rattle.statement.specs.declared.operands.Parts.{Parts as Held}
 use Rattle.statement.specs.declared.operands.Operands.{Operands}
 use Rattle.statement.specs.declared.operands.Operands.TheVariants.{Refused, Read}
 use Rattle.statement.specs.Syntax.{register, punctuation, N, Parts, put, put_n}
-use Rattle.statement.specs.Reading.{a_register, a_punctuation, read_item, read_items}
+use Rattle.statement.specs.Reading.{one_register, a_punctuation, read_item, read_items}
 use Rattle.statement.specs.Table.{item_of, items_of}
 use Rattle.statement.specs.Parts.{shown_parts, blank_value, told_parts, register_at}
 
@@ -41,12 +41,12 @@ there {s} {at} f e = subst (TokenAt s at) e f
 
 module _ {s : List ℕ} {at symbol start end : ℕ} (h : At s at symbol start end) (p : Parts Value) where
   module _ (r : Register) {k : ℕ} (e : k ≡ register_of (part start end s)) where
-    pub register_there : {q : Parts Value} → k < 8 → q ≡ put r k p → read q (tokens_at s end) ≡ a_register r p (tokens_at s at)
-    unfolding a_register
+    pub register_there : {q : Parts Value} → k < 8 → q ≡ put r k p → read q (tokens_at s end) ≡ one_register r p (tokens_at s at)
+    unfolding one_register
     register_there l z = rw (h.split, ← e, lt-ltb k 8 l, z)
 
-    pub no_register : 8 ≤ k → refused ≡ a_register r p (tokens_at s at)
-    unfolding a_register
+    pub no_register : 8 ≤ k → refused ≡ one_register r p (tokens_at s at)
+    unfolding one_register
     no_register l = rw (h.split, ← e, le-ltb k 8 l)
 
   pub mark_there : {m : ℕ} → symbol ≡ m → read p (tokens_at s end) ≡ a_punctuation m p (tokens_at s at)
@@ -73,8 +73,8 @@ register_item c n = go (eqb c 97) (eqb c 98) (eqb c 100) refl refl refl
   where
     go :
         (x y z : Bool) → eqb c 97 ≡ x → eqb c 98 ≡ y → eqb c 100 ≡ z
-        → pick x (register a_register_lem) (pick y (register b_register) (pick z (register d_register) (pick (eqb c 110) N (punctuation c))))
-        ≡ register (pick x a_register_lem (pick y b_register d_register))
+        → pick x (register a_register) (pick y (register b_register) (pick z (register d_register) (pick (eqb c 110) N (punctuation c))))
+        ≡ register (pick x a_register (pick y b_register d_register))
     go true y z f g h = refl
     go false true z f g h = refl
     go false false true f g h = refl

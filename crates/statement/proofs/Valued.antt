@@ -6,7 +6,7 @@ use mathlib.Core.List.{List, [], ◌∷◌}
 use lib.Dec.{eqb, ltb}
 use lib.ListN.{length}
 use Rattle.word.specs.Word.{pick}
-use Rattle.isa.specs.Instructions.{Register, a_register_lem, b_register, d_register}
+use Rattle.isa.specs.Instructions.{Register, a_register, b_register, d_register}
 use Rattle.token.specs.Tokens.{Token, between, is_digit}
 use Rattle.token.specs.Scan.{symbol_of}
 use Rattle.expression.specs.declared.Value.{Value}
@@ -14,7 +14,7 @@ use Rattle.expression.specs.Operands.{Label, register_of, is_name, operand_value
 use Rattle.expression.specs.Grammar.{Tree, value_of}
 use Rattle.expression.specs.Reading.{Out, refused, read, bind, mapped, parse, labels}
 use Rattle.statement.specs.Syntax.{Item, register, punctuation, N, row_at, table, Parts, put, put_n, blank, line}
-use Rattle.statement.specs.Reading.{outside, row_of, a_register, a_punctuation, finished, read_item, read_items, statement_of, line_by, line_of, valued_parts, valued_statement, valued}
+use Rattle.statement.specs.Reading.{outside, row_of, one_register, a_punctuation, finished, read_item, read_items, statement_of, line_by, line_of, valued_parts, valued_statement, valued}
 use Rattle.statement.specs.Parts.{expression_of, blank_value}
 
 module _ (v : Tree → Value) (expression : List Token → Out Tree) where
@@ -26,12 +26,12 @@ module _ (v : Tree → Value) (expression : List Token → Out Tree) where
 
   put_valued : (r : Register) (k : ℕ) (p : Parts Tree) → put r k (valued_parts v p) ≡ valued_parts v (put r k p)
   unfolding valued_parts
-  put_valued a_register_lem k p = refl
+  put_valued a_register k p = refl
   put_valued b_register k p = refl
   put_valued d_register k p = refl
 
-  a_register_valued : (r : Register) (p : Parts Tree) (ts : List Token) → a_register r (valued_parts v p) ts ≡ with_values (a_register r p ts)
-  unfolding a_register mapped
+  a_register_valued : (r : Register) (p : Parts Tree) (ts : List Token) → one_register r (valued_parts v p) ts ≡ with_values (one_register r p ts)
+  unfolding one_register mapped
   a_register_valued r p [] = refl
   a_register_valued r p (t ∷ ts) = go (ltb (register_of t) 8)
     where

@@ -1,7 +1,7 @@
 -- What the code's lines and operands stand for. Nothing here is promised to a caller.
 use Rattle.std.specs.Prelude.{ℕ, ◌≤◌, true, ◌≡◌, List, [], ◌∷◌, eqb, ltb, length}
 use Rattle.word.specs.Word.{pick}
-use Rattle.isa.specs.Instructions.{Register, a_register_lem, b_register, d_register}
+use Rattle.isa.specs.Instructions.{Register, a_register, b_register, d_register}
 use Rattle.token.specs.Ascii.{byte}
 use Rattle.token.specs.Tokens.{Token}
 use Rattle.token.specs.Scan.{part, tokens_at}
@@ -35,7 +35,7 @@ expression_of text table ts = mapped (value_of (operand_value (labels text table
 
 -- the register that a letter of the table stands for
 unfoldable pub register_at : ℕ → Register
-register_at c = pick (eqb c (byte "a")) a_register_lem (pick (eqb c (byte "b")) b_register d_register)
+register_at c = pick (eqb c (byte "a")) a_register (pick (eqb c (byte "b")) b_register d_register)
 
 -- ---- Lines
 

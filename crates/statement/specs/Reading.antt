@@ -26,9 +26,9 @@ unfoldable pub row_of : Token → ℕ
 row_of m = row_from table m
 
 module _ {A : Type 0} where
-  unfoldable pub a_register : Register → Parts A → List Token → Out (Parts A)
-  a_register r p [] = refused
-  a_register r p (t ∷ ts) = pick (ltb (register_of t) 8) (read (put r (register_of t) p) ts) refused
+  unfoldable pub one_register : Register → Parts A → List Token → Out (Parts A)
+  one_register r p [] = refused
+  one_register r p (t ∷ ts) = pick (ltb (register_of t) 8) (read (put r (register_of t) p) ts) refused
 
   unfoldable pub a_punctuation : ℕ → Parts A → List Token → Out (Parts A)
   a_punctuation m p [] = refused
@@ -43,7 +43,7 @@ module _ {A : Type 0} where
 -- `expression` reads what N is
 module _ {A : Type 0} (expression : List Token → Out A) where
   unfoldable pub read_item : Item → Parts A → List Token → Out (Parts A)
-  read_item (register r) p ts = a_register r p ts
+  read_item (register r) p ts = one_register r p ts
   read_item (punctuation m) p ts = a_punctuation m p ts
   read_item N p ts = mapped (λ e. put_n e p) (expression ts)
 

@@ -1,6 +1,6 @@
 -- The lines of a trim's text (02, L2): 004's syntax, names before a colon, and `.word`.
 use Rattle.std.specs.Prelude.{ℕ, ◌<◌, true, ◌≡◌, List, [], ◌∷◌, ◌++◌, length, get_or}
-use Rattle.isa.specs.Instructions.{Register, a_register_lem, b_register, d_register}
+use Rattle.isa.specs.Instructions.{Register, a_register, b_register, d_register}
 use Rattle.token.specs.Ascii.{byte, ascii}
 use Rattle.token.specs.Tokens.{Token}
 use Rattle.expression.specs.Operands.{register_of, is_name}
@@ -17,7 +17,7 @@ pub data Item : Type 0 where
   N : Item
 
 abbrev Ra : Item
-Ra = register a_register_lem
+Ra = register a_register
 
 abbrev Rb : Item
 Rb = register b_register
@@ -144,7 +144,7 @@ blank = record { a = 0; b = 0; d = 0; n = operand (ascii "0") }
 module _ {A : Type 0} where
   -- the parts with register k
   abbrev pub put : Register → ℕ → Parts A → Parts A
-  put a_register_lem k p = record { a = k; b = p.b; d = p.d; n = p.n }
+  put a_register k p = record { a = k; b = p.b; d = p.d; n = p.n }
   put b_register k p = record { a = p.a; b = k; d = p.d; n = p.n }
   put d_register k p = record { a = p.a; b = p.b; d = k; n = p.n }
 

@@ -3,7 +3,7 @@
 -- caller: proofs/Tables.antt shows that it says what Syntax says.
 use Rattle.std.specs.Prelude.{ℕ, ◌+◌, ◌*◌, List, [], ◌∷◌, eqb, take, drop}
 use Rattle.word.specs.Word.{pick}
-use Rattle.isa.specs.Instructions.{a_register_lem, b_register, d_register}
+use Rattle.isa.specs.Instructions.{a_register, b_register, d_register}
 use Rattle.token.specs.Ascii.{byte, ascii}
 use Rattle.statement.specs.Syntax.{Item, register, punctuation, N, Field, number, eight_bits, target}
 
@@ -16,7 +16,7 @@ mnemonic_lengths = 3 ∷ 2 ∷ 3 ∷ 3 ∷ 3 ∷ 3 ∷ 3 ∷ 3 ∷ 5 ∷ 5 ∷ 5
 
 unfoldable pub item_of : ℕ → Item
 item_of c =
-    pick (eqb c (byte "a")) (register a_register_lem)
+    pick (eqb c (byte "a")) (register a_register)
     (pick (eqb c (byte "b")) (register b_register)
     (pick (eqb c (byte "d")) (register d_register)
     (pick (eqb c (byte "n")) N (punctuation c))))

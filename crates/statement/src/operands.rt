@@ -3,7 +3,7 @@ ghost use Rattle.std.specs.Prelude.{◌≡◌, ◌+◌, ◌<◌, ◌≤◌, leng
 ghost use Rattle.expression.specs.Reading.{mapped};
 ghost use Rattle.token.specs.Scan.{tokens_at};
 ghost use Rattle.statement.specs.Syntax.{put, put_n};
-ghost use Rattle.statement.specs.Reading.{a_register, a_punctuation, read_item, read_items};
+ghost use Rattle.statement.specs.Reading.{one_register, a_punctuation, read_item, read_items};
 ghost use Rattle.statement.specs.Table.{item_of, items_of};
 ghost use Rattle.statement.specs.Parts.{shown_parts, told_parts, expression_of, blank_value, register_at};
 
@@ -84,7 +84,7 @@ impl Parts {
 }
 
 fn register_at(text: &[u8], letter: u8, parts: Parts, at: usize) -> Operands
-    ensures { told_parts text.now result ≡ a_register (register_at letter) (shown_parts parts) (tokens_at text.now at) }
+    ensures { told_parts text.now result ≡ one_register (register_at letter) (shown_parts parts) (tokens_at text.now at) }
 {
     let t = token::token_at(text, at);
     let Token::Here {

@@ -45,7 +45,7 @@ use Rattle.machine.proofs.State.TheLaws as T'
 use Rattle.replies.specs.declared.SisaAnswer.{SisaAnswer}
 use Rattle.replies.specs.contracts.SisaAnswer as E
 use Rattle.replies.proofs.SisaAnswer.TheLaws as E'
-use Rattle.sisa.specs.contracts.host.sisa_host_step as host_step_lem
+use Rattle.sisa.specs.contracts.host.sisa_host_step as host_step
 use Rattle.sisa.proofs.host.sisa_host_step.Symbol as host-step-def
 use Rattle.sisa.proofs.host.sisa_host_step.Symbol.{name as #host-step}
 use Rattle.sisa.proofs.host.sisa_host_step.Met as host-step-thm
@@ -84,7 +84,7 @@ stayed = (
 
 -- the contract that the proof cites
 abbrev Host : {M : Type 1} {𝓤 : Ura M} (𝓛 : Logic 𝓤) (at_mem : Memory → SProp 𝓤) (go : Routine → Fun 𝓤) → Contract 𝓤
-Host 𝓛 at_mem go = triple_of 𝓛 host_step_lem.signature (host_step_lem.spec 𝓛 at_mem go)
+Host 𝓛 at_mem go = triple_of 𝓛 host_step.signature (host_step.spec 𝓛 at_mem go)
 
 -- the machine values of a slice, of a state and of an answer
 abbrev sv : Ref → Val
@@ -197,10 +197,10 @@ module _ {M : Type 1} {𝓤 : Ura M} (𝓛 : Logic 𝓤) (at_mem : Memory → SP
         move ! (2 ∷ 41 ∷ 0 ∷ 40 ∷ []) $ join ! $ move ! (1 ∷ 2 ∷ []) $ fjoin ! $ move ! (1 ∷ 0 ∷ []) $ use2 𝓛 (raw ((Host 𝓛 at_mem go).pre (to_host ν δ l₇))) (goes_host ν δ l₇) $
         -- [what the call asks; the lender's part; _18; …]: local k stands at 2 + 2 (18 - k), and below _7, whose cell is lent, at one less
         calls_at ! fm (Host 𝓛 at_mem go) known (to_host ν δ l₇) (and_then ! (load ! (from ! (stop !)) (look ! 20 refl)) (and_then ! (load ! (from ! (stop !)) (look ! 33 refl)) (and_then ! (load ! (from ! (stop !)) (look ! 16 refl)) (and_then ! (load ! (from ! (stop !)) (look ! 12 refl)) (and_then ! (load ! (from ! (stop !)) (look ! 8 refl)) (and_then ! (load ! (from ! (stop !)) (look ! 4 refl)) (no_more !))))))) (λ v.
-        use1 𝓛 (later (some (λ (r : SisaAnswer). ((‵ (flft (ν ∷ []) full_share) ⊛ Toks) ⊛ ‵ ((E.the_row).own_val r (v ∷ []))) ⊛ raw (ensured 𝓛 host_step_lem.ended (host_step_lem.clauses 𝓛 at_mem go) (ν ∷ [], κs) (ref δ l₇, x.1) tt r)))) (id⊢ 𝓤 _) $ await ! tt $ pick ! (λ r.
+        use1 𝓛 (later (some (λ (r : SisaAnswer). ((‵ (flft (ν ∷ []) full_share) ⊛ Toks) ⊛ ‵ ((E.the_row).own_val r (v ∷ []))) ⊛ raw (ensured 𝓛 host_step.ended (host_step.clauses 𝓛 at_mem go) (ν ∷ [], κs) (ref δ l₇, x.1) tt r)))) (id⊢ 𝓤 _) $ await ! tt $ pick ! (λ r.
         -- the last state and the last lists; what the clause says of them is let go
         split ! $ move ! (1 ∷ []) $ use1 𝓛 (some (λ (zs : State × (Unit {0} × (List ℕ × (List ℕ × (List ℕ × (List ℕ × Unit {0})))))).
-        ‵ (lasts host_step_lem.ended (ν ∷ [], κs) (ref δ l₇, x.1) zs) ⊛ raw ((host_step_lem.clauses 𝓛 at_mem go (ν ∷ [], κs) (ref δ l₇, x.1)).ensures tt r (at_exit host_step_lem.ended (ν ∷ [], κs) (ref δ l₇, x.1) zs)))) (id⊢ 𝓤 _) $ pick ! (λ zs.
+        ‵ (lasts host_step.ended (ν ∷ [], κs) (ref δ l₇, x.1) zs) ⊛ raw ((host_step.clauses 𝓛 at_mem go (ν ∷ [], κs) (ref δ l₇, x.1)).ensures tt r (at_exit host_step.ended (ν ∷ [], κs) (ref δ l₇, x.1) zs)))) (id⊢ 𝓤 _) $ pick ! (λ zs.
         split ! $ move ! (1 ∷ []) $ drop ! $
         fsplit ! $ move ! (1 ∷ []) $ fsplit ! $ drop ! $ fsplit ! $ fsplit ! $ move ! (1 ∷ []) $ feq_l ! (λ ed. move ! (1 ∷ []) $
         fsplit ! $ fsplit ! $ move ! (1 ∷ []) $ feq_l ! (λ ei. move ! (1 ∷ []) $
