@@ -15,7 +15,7 @@ returns-in-3 c =
     let s = c.args.state in
     let at = c.clear_bit0.ensures ∙ ap clear0 (sum_is w s c.sum-a.ensures c.ra.ensures) in
     tested w s (bytes_at (clear0 (sum_of w s))) c.ranges.w.fits
-    (λ m es. words w m _ c.if-w-lt3.false c.in-3.if-this-lt5-own.true ∙ ap (λ u. bytes_at (clear0 (sum_of w u))) es)
+    (λ m es. words w m _ c.if-w-lt3.false ? ∙ ap (λ u. bytes_at (clear0 (sum_of w u))) es)
     (c.locks_word.ensures ∙ ap (λ a. touches_locked (bytes_at a) s) at)
 
 pub returns-in-5 : goal.returns-in-5
