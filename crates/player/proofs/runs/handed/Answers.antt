@@ -6,7 +6,7 @@ use Rattle.player.proofs.runs.handed.Goals as goal
 
 pub returns-in-0 : goal.returns-in-0
 unfolding handed_of
-returns-in-0 c = rw c.in-0.is (c.with_pc.ensures ∙ rw c.wrapping_add_u16.ensures)
+returns-in-0 c = rw c.in-0.is (c.with_pc.ensures ∙ rw c.wrapping_add_u16.ensures.value)
 
 pub returns-in-1 : goal.returns-in-1
 unfolding handed_of

@@ -9,7 +9,7 @@ returns-then-reply-ne0 c = rw (ne_eqb _ _ c.if-reply-ne0.true)
 
 pub returns-then-reply : goal.returns-then-reply
 unfolding kept_after
-returns-then-reply c = rw (eq-eqb _ _ c.if-reply-ne0.false, c.if-reply.true) (c.with_journaled.ensures ∙ rw (c.with_pc.ensures, c.wrapping_add_u16.ensures))
+returns-then-reply c = rw (eq-eqb _ _ c.if-reply-ne0.false, c.if-reply.true) (c.with_journaled.ensures ∙ rw (c.with_pc.ensures, c.wrapping_add_u16.ensures.value))
 
 pub returns : goal.returns
 unfolding kept_after
