@@ -25,23 +25,23 @@ pub record Passes (g : BackGiven) : Type 0 where
 -- ---- By what the functions reply that make the tests, `answer`, `even` and `held`
 
 module _ (g : BackGiven) {answer : Bool} (lengths : answer ≡ lengths_fit g.P g.D g.I g.O) where
-  pub refuses_1 : not answer ≡ true → refused 1 ≡ back_verdict g
+  pub refuses_1 : answer ≡ false → refused 1 ≡ back_verdict g
   unfolding back_verdict
-  refuses_1 h = rw (sym lengths ∙ not-true _ h)
+  refuses_1 h = rw (sym lengths ∙ h)
 
-  module _ (fit : not answer ≡ false) {even : Bool} (places : even ≡ even_places g.state) where
-    pub refuses_5 : not even ≡ true → refused 5 ≡ back_verdict g
+  module _ (fit : answer ≡ true) {even : Bool} (places : even ≡ even_places g.state) where
+    pub refuses_5 : even ≡ false → refused 5 ≡ back_verdict g
     unfolding back_verdict
-    refuses_5 h = rw (sym lengths ∙ not-false _ fit, sym places ∙ not-true _ h)
+    refuses_5 h = rw (sym lengths ∙ fit, sym places ∙ h)
 
-    module _ (both : not even ≡ false) {held : ℕ} (steps : held ≡ steps_held g.state g.journal) where
+    module _ (both : even ≡ true) {held : ℕ} (steps : held ≡ steps_held g.state g.journal) where
       pub refuses_14 : held < g.k → refused 14 ≡ back_verdict g
       unfolding back_verdict
-      refuses_14 h = rw (sym lengths ∙ not-false _ fit, sym places ∙ not-false _ both, lt-leb _ _ (rw steps at h))
+      refuses_14 h = rw (sym lengths ∙ fit, sym places ∙ both, lt-leb _ _ (rw steps at h))
 
       pub passing : g.k ≤ held → Passes g
       passing h =
-          record { lengths = sym lengths ∙ not-false _ fit; even = places_even g.state (sym places ∙ not-false _ both); held = rw steps at h }
+          record { lengths = sym lengths ∙ fit; even = places_even g.state (sym places ∙ both); held = rw steps at h }
 
 -- ---- By the verdict
 

@@ -96,7 +96,7 @@ unfoldable pub back_left : BackGiven → BackLeft
 back_left g = back_left_by (back_verdict g) g
 
 -- the contract, of the call's parameters in their order and what it replies
-abbrev pub lent_back : State → Slice → MutSlice → MutSlice → MutSlice → MutSlice → ℕ → BackGiven
+abbrev pub lent_back : State → Slice → MutSlice → MutSlice → MutSlice → Slice → ℕ → BackGiven
 lent_back state program memory inputs outputs journal k =
     record {
       state = state;
@@ -104,11 +104,11 @@ lent_back state program memory inputs outputs journal k =
       D = before memory;
       I = before inputs;
       O = before outputs;
-      journal = before journal;
+      journal = read_before journal;
       k = k;
     }
 
-abbrev pub GoesBack : State → Slice → MutSlice → MutSlice → MutSlice → MutSlice → ℕ → Backed → Type 0
+abbrev pub GoesBack : State → Slice → MutSlice → MutSlice → MutSlice → Slice → ℕ → Backed → Type 0
 GoesBack state program memory inputs outputs journal k r =
     ◌≡◌ {A = BackLeft}
     (record {
@@ -118,6 +118,6 @@ GoesBack state program memory inputs outputs journal k r =
       D = after memory;
       I = after inputs;
       O = after outputs;
-      journal = after journal;
+      journal = read_after journal;
     })
     (back_left (lent_back state program memory inputs outputs journal k))

@@ -13,7 +13,7 @@ use Rattle.machine.specs.Machine.{Machine, is_single, takes_line, fetch_locked, 
 use Rattle.machine.specs.Step.{PC, Ra, Rb, fetched, cannot, to, taking}
 use Rattle.machine.specs.Run.{by_rules, no_place_at}
 use Rattle.journal.specs.Journal.{Overwritten, nothing, register, data_word, data_byte, output_word, key_read, enable_flag, line_taken, by_taking, pc_in, entry_with, overwritten, entry_of, overwritten_in, put_back, undo}
-use Rattle.control.specs.Control.{unit, result, inputs_after, next, writes_port, stored_data, stored, written, performed, assigned, zero_divisor, locked_access, by_interrupt, interrupted, interrupt_assigned, control_step, control_in, by_control, table}
+use Rattle.control.specs.Control.{unit, result_of, inputs_after, next, writes_port, stored_data, stored, written, performed, assigned, zero_divisor, locked_access, by_interrupt, interrupted, interrupt_assigned, control_step, control_in, by_control, table}
 use Rattle.control.proofs.Agreement.{same_stepper}
 use Rattle.control.proofs.Laws.{lawful_control}
 use Rattle.back.specs.Backs.{undone}
@@ -51,7 +51,7 @@ module _ (P : List ℕ) where
   performs c w m =
       let x = Ra w m in
       let u = unit c w x (Rb w m) in
-      let v = result c w u (PC m) m.D m.I in
+      let v = result_of c w u (PC m) m.D m.I in
       ap (λ (z : Machine). on_state (λ s. written c w v (put_pc (next c w x (PC m)) (count s))) (on_inputs (inputs_after c w) z)) (stores c w x (Rb w m) u m)
 
   controls : (c w : ℕ) (m : Machine) → control_step c w (put_p P m) ≡ map_next (put_p P) (control_step c w m)

@@ -13,7 +13,7 @@ use Rattle.machine.specs.Machine.{Machine, takes_line, is_locked, touches_locked
 use Rattle.machine.specs.Step.{PC, Ra, Rb, d5_3, d8_6, d11_9, fetched, Next, cannot, to, ei, di, reti, interrupt_rules, taking, step}
 use Rattle.machine.specs.Run.{Stepper}
 use Rattle.journal.specs.Journal.{Overwritten, nothing, register, data_word, data_byte, output_word, key_read, enable_flag, line_taken, pc_in, overwritten, entry_of, overwritten_in, put_back, undo}
-use Rattle.control.specs.Control.{by_interrupt, unit, result, inputs_after, next, writes_port, stored_data, stored, written, performed, assigned, zero_divisor, result_field, store_field, touched_by, locked_access, interrupted, interrupt_assigned, control_step, control_in, by_control, table}
+use Rattle.control.specs.Control.{by_interrupt, unit, result_of, inputs_after, next, writes_port, stored_data, stored, written, performed, assigned, zero_divisor, result_field, store_field, touched_by, locked_access, interrupted, interrupt_assigned, control_step, control_in, by_control, table}
 use Rattle.control.proofs.Agreement.{same_stepper}
 use Rattle.claims_back.specs.History.{held_as}
 
@@ -45,7 +45,7 @@ module _ (c : ℕ) (l : List ℕ) (m : Machine) where
   unfolding performed stored
   performed_held k w =
       let u = unit k w (Ra w m) (Rb w m) in
-      by_port (writes_port k) (result k w u (PC m) m.D m.I) (stored_data k (Rb w m) u m.D)
+      by_port (writes_port k) (result_of k w u (PC m) m.D m.I) (stored_data k (Rb w m) u m.D)
     where
       after : ℕ → State → State
       after v s = written k w v (put_pc (next k w (Ra w m) (PC m)) (count s))

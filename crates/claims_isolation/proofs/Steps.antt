@@ -17,7 +17,7 @@ use Rattle.machine.specs.Machine.{Machine, is_single, takes_line, is_locked, tou
 use Rattle.machine.specs.Step.{PC, Ra, Rb, A, A', no_rule, rule_rows, rule_in_row, choice, fetched, Next, cannot, to, step_by, taking, by_rule, step}
 use Rattle.machine.specs.Run.{by_rules, is_out, no_place_at}
 use Rattle.journal.specs.Journal.{nothing, data_word, data_byte, by_taking, entry_with, overwritten_by, overwritten, entry_of}
-use Rattle.control.specs.Control.{unit, results, result_field, result, inputs_after, next, store_field, writes_port, stored_data, stored, written, performed, assigned, zero_divisor, touched_by, locked_access, by_interrupt, interrupted, interrupt_assigned, control_step, control_in, table}
+use Rattle.control.specs.Control.{unit, results, result_field, result_of, inputs_after, next, store_field, writes_port, stored_data, stored, written, performed, assigned, zero_divisor, touched_by, locked_access, by_interrupt, interrupted, interrupt_assigned, control_step, control_in, table}
 use Rattle.control.proofs.Agreement.{same_stepper}
 use Rattle.control.proofs.Laws.{lawful_rules, local_rules}
 use Rattle.claims.proofs.Alike.{map_next, Seen, seen_by, Maps}
@@ -117,9 +117,9 @@ module _ (s : State) (Z : List ℕ) where
           by_port false = ap (λ M. put_d M m) (sym (stored_same (store_field c) (Rb w m) u m.D q.long both_free.1))
 
       performs : performed c w (with_over m) ≡ with_over (performed c w m)
-      unfolding performed result
+      unfolding performed result_of
       performs =
-          let v : result c w u (PC m) (over s Z m.D) m.I ≡ result c w u (PC m) m.D m.I = result_same (result_field c) w u (PC m) m.D m.I both_free.0 in
+          let v : result_of c w u (PC m) (over s Z m.D) m.I ≡ result_of c w u (PC m) m.D m.I = result_same (result_field c) w u (PC m) m.D m.I both_free.0 in
           λ i. on_state (λ t. written c w (v i) (put_pc (next c w (Ra w m) (PC m)) (count t))) (on_inputs (inputs_after c w) (stores i))
 
     controls : (c w : ℕ) → control_step c w (with_over m) ≡ map_next with_over (control_step c w m)

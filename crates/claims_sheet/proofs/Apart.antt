@@ -20,7 +20,7 @@ use Rattle.isa.specs.Masks.{in_mask}
 use Rattle.machine.specs.declared.State.{State}
 use Rattle.machine.specs.Machine.{Machine, R, put_r, put_pc, count, takes_line, is_locked, fetch_locked, on_state, on_inputs, put_o, put_d}
 use Rattle.machine.specs.Step.{PC, write, fetched}
-use Rattle.control.specs.Control.{result, inputs_after, next, by_interrupt, writes_port, stored_data, stored, written}
+use Rattle.control.specs.Control.{result_of, inputs_after, next, by_interrupt, writes_port, stored_data, stored, written}
 use Rattle.claims_sheet.specs.Masks.{put_outside}
 use Rattle.claims_sheet.proofs.Rules.{after_taking}
 use Rattle.claims_sheet.proofs.Touched.{mask_of, is, Few, in_one, in_or, destinations, chosen, chosen_by_f, destination, ended, unit_of, does_by_fields, does_by_f, does}
@@ -98,7 +98,7 @@ module _ (c f w x y : ℕ) where
             ∙ either (λ (a : Machine). R a.state k ≡ R m.state k) (writes_port c) refl refl;
         after =
             λ k z m. let u = unit_of c f w x y in
-            let v = result c w u (PC m) m.D m.I in
+            let v = result_of c w u (PC m) m.D m.I in
             let p = next c w x (PC m) in
             ap (λ a. on_state (ended c w v p) (on_inputs (inputs_after c w) a)) (store_after k z u m) ∙ ended_after c w v p k z (on_inputs (inputs_after c w) (stored c w x y u m));
       }

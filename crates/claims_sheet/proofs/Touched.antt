@@ -25,7 +25,7 @@ use Rattle.machine.specs.declared.State.{State}
 use Rattle.machine.specs.Machine.{Machine, R, is_locked, touches_locked, put_pc, count, on_state, on_inputs}
 use Rattle.machine.specs.Step.{PC, d5_3, d8_6, d11_9, among, interrupt_rules}
 use Rattle.journal.specs.Journal.{reads_key}
-use Rattle.control.specs.Control.{second, units, unit_field, unit, result_field, store_field, touched_by, locked_access, result, inputs_after, next, by_interrupt, stored_data, stored, written, takes, assigned, divides, zero_divisor, interrupt_assigned, table as controls}
+use Rattle.control.specs.Control.{second, units, unit_field, unit, result_field, store_field, touched_by, locked_access, result_of, inputs_after, next, by_interrupt, stored_data, stored, written, takes, assigned, divides, zero_divisor, interrupt_assigned, table as controls}
 use Rattle.claims_sheet.specs.Masks.{said_to_use}
 use Rattle.usage.proofs.Functions.{table}
 use Rattle.claims_sheet.proofs.Rules.{table_of, at_word}
@@ -125,7 +125,7 @@ unit_of c f w x y = get_or (units f x (second c w y)) (unit_field c) 0
 unfoldable pub does_by_fields : ℕ → ℕ → ℕ → ℕ → ℕ → Machine → Machine
 does_by_fields c f w x y m =
     let u = unit_of c f w x y in
-    on_state (ended c w (result c w u (PC m) m.D m.I) (next c w x (PC m))) (on_inputs (inputs_after c w) (stored c w x y u m))
+    on_state (ended c w (result_of c w u (PC m) m.D m.I) (next c w x (PC m))) (on_inputs (inputs_after c w) (stored c w x y u m))
 
 -- what one with bit 15 does, of f
 unfoldable pub does_by_f : ℕ → ℕ → ℕ → Machine → Machine
@@ -147,7 +147,7 @@ unfoldable pub does_used : Entry → ℕ → ℕ → ℕ → ℕ → ℕ → Mac
 does_used k c f w x y m = does c f w (pick (uses_x k) x 0) (pick (uses_y k) y 0) m
 
 same_uses : table_of (λ op e f. does (control_at op e) f) ≡ table_of (λ op e f. does_used (kind_at op e f) (control_at op e) f)
-unfolding table does does_by_f does_by_fields does_used kind_at second result inputs_after next stored_data stored written operation comparison muldiv
+unfolding table does does_by_f does_by_fields does_used kind_at second result_of inputs_after next stored_data stored written operation comparison muldiv
 same_uses = refl
 
 -- the inputs that it leaves

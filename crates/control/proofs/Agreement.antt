@@ -16,7 +16,7 @@ use Rattle.word.proofs.Tests.{is_true}
 use Rattle.machine.specs.Machine.{Machine, touches_locked, R}
 use Rattle.machine.specs.Step.{PC, Ra, Rb, d11_9, write, jump, among, RuleRow, by_f, by_f_dividing, one, one_at, by_e, no_rule, rule_rows, rule, division, unassigned, rule_in_row, choice, Next, cannot, doing, step_by, step_with, step, compute, compare, addi, ld, st, ldb, stb, jalr, bz, bnz, movi, movhi, input, output, multiply_divide, interrupt}
 use Rattle.machine.specs.Run.{is_out, fetches_a, by_rules}
-use Rattle.control.specs.Control.{interrupted, interrupt_assigned, second, unit, result, inputs_after, next, stored_data, stored, written, performed, assigned, zero_divisor, locked_access, writes_port, control_step, table, control_in, control_of, by_the_table}
+use Rattle.control.specs.Control.{interrupted, interrupt_assigned, second, unit, result_of, inputs_after, next, stored_data, stored, written, performed, assigned, zero_divisor, locked_access, writes_port, control_step, table, control_in, control_of, by_the_table}
 
 -- ---- A table of two columns: what is done, and whether a port is written
 
@@ -105,7 +105,7 @@ from g k [] = []
 from g k (x ∷ xs) = g (k / 2) (k % 2) ∷ from g (suc k) xs
 
 test : map through_control table ≡ from by_row 0 table
-unfolding through_control by_row compute compare addi ld st ldb stb jalr movi input output multiply_divide interrupt control_step interrupted interrupt_assigned performed assigned zero_divisor locked_access second unit result inputs_after next stored_data stored written
+unfolding through_control by_row compute compare addi ld st ldb stb jalr movi input output multiply_divide interrupt control_step interrupted interrupt_assigned performed assigned zero_divisor locked_access second unit result_of inputs_after next stored_data stored written
 test = rw (bz_is, bnz_is, movhi_is)
 
 -- ---- The lemma: the test, read at the place of a word

@@ -20,7 +20,7 @@ use Rattle.machine.specs.Step.{PC, Ra, Rb, d5_3, d8_6, d11_9, interrupt_rules, f
 use Rattle.machine.specs.Run.{Stepper, by_rules}
 use Rattle.machine.proofs.Inputs.{read_length}
 use Rattle.machine.proofs.Runs.{unwritten, Even, Lawful}
-use Rattle.control.specs.Control.{by_interrupt, interrupt_assigned, interrupted, unit, result, inputs_after, next, store_field, writes_port, stored_data, stored, written, performed, assigned, zero_divisor, locked_access, control_step, control_in, by_control, table}
+use Rattle.control.specs.Control.{by_interrupt, interrupt_assigned, interrupted, unit, result_of, inputs_after, next, store_field, writes_port, stored_data, stored, written, performed, assigned, zero_divisor, locked_access, control_step, control_in, by_control, table}
 use Rattle.control.proofs.Agreement.{same_stepper}
 
 -- ---- The parts
@@ -100,7 +100,7 @@ unfolding performed
 step_keeps c w m =
     let x = Ra w m in
     let u = unit c w x (Rb w m) in
-    let v = result c w u (PC m) m.D m.I in
+    let v = result_of c w u (PC m) m.D m.I in
     let p = next c w x (PC m) in
     let st = stored c w x (Rb w m) u m in
     let s = store_keeps c w x (Rb w m) u m in
@@ -168,7 +168,7 @@ step_lines c w m =
     let x = Ra w m in
     let u = unit c w x (Rb w m) in
     let st = stored c w x (Rb w m) u m in
-    ap (λ z. z.1.1.1.0) (written_keeps c w (result c w u (PC m) m.D m.I) (put_pc (next c w x (PC m)) (count st.state)))
+    ap (λ z. z.1.1.1.0) (written_keeps c w (result_of c w u (PC m) m.D m.I) (put_pc (next c w x (PC m)) (count st.state)))
     ∙ ap (λ (t : State). t.pending) (store_keeps c w x (Rb w m) u m).state
 
 interrupt_lines : (c w : ℕ) (m : Machine) → (interrupted c w m).state.pending ≡ m.state.pending
@@ -180,7 +180,7 @@ unfolding performed
 step_shift c w l m =
     let x = Ra w m in
     let u = unit c w x (Rb w m) in
-    let v = result c w u (PC m) m.D m.I in
+    let v = result_of c w u (PC m) m.D m.I in
     ap (λ (z : Machine). on_state (λ s. written c w v (put_pc (next c w x (PC m)) (count s))) (on_inputs (inputs_after c w) z)) (store_shift c w x (Rb w m) u l m)
 
 -- ---- What a stepper may be relied on for

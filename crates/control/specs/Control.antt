@@ -37,8 +37,8 @@ result_field c = field (bits 4 2) c
 abbrev pub results : ℕ → ℕ → ℕ → List ℕ → List ℕ → List ℕ
 results w u pc D I = u ∷ word_at D (clear0 u) ∷ SE 8 (get_or D u 0) ∷ add pc 2 ∷ get_or I (N8 w) 0 ∷ []
 
-unfoldable pub result : ℕ → ℕ → ℕ → ℕ → List ℕ → List ℕ → ℕ
-result c w u pc D I = get_or (results w u pc D I) (result_field c) 0
+unfoldable pub result_of : ℕ → ℕ → ℕ → ℕ → List ℕ → List ℕ → ℕ
+result_of c w u pc D I = get_or (results w u pc D I) (result_field c) 0
 
 -- Result 4 reads the port N8, so that from port 1 it sets input 0 to zero (02, L8), whatever the destination. No other result looks at a port.
 unfoldable pub inputs_after : ℕ → ℕ → List ℕ → List ℕ
@@ -83,7 +83,7 @@ performed c w m =
     let x = Ra w m in
     let y = Rb w m in
     let u = unit c w x y in
-    let v = result c w u (PC m) m.D m.I in
+    let v = result_of c w u (PC m) m.D m.I in
     on_state (λ s. written c w v (put_pc (next c w x (PC m)) (count s))) (on_inputs (inputs_after c w) (stored c w x y u m))
 
 -- ---- Whether it can be done

@@ -18,7 +18,7 @@ use Rattle.machine.specs.Run.{Outcome, unless}
 use Rattle.machine.specs.Held.{Held, held, machine_of, is_full, outcome_of, is_lock_stop, TestsLock, StepMeets}
 use Rattle.machine.proofs.Answers.{Leaves, answered}
 use Rattle.machine.proofs.Log.{put_take, put_drop}
-use Rattle.control.specs.Control.{result, inputs_after, next, store_field, by_interrupt, writes_port, stored_data, stored, written, performed, assigned, locked_access, interrupt_assigned, interrupted, control_step}
+use Rattle.control.specs.Control.{result_of, inputs_after, next, store_field, by_interrupt, writes_port, stored_data, stored, written, performed, assigned, locked_access, interrupt_assigned, interrupted, control_step}
 use Rattle.datapath.specs.Parts.{unit_of, state_after, data_after, is_zero_divisor, stop_of, advanced_of, done_in, done_with, stopped_with, Answered, with_inputs, result_answer, interrupt_of, interrupt_answer}
 
 -- by a control word without bit 15, which touches no locked byte
@@ -146,7 +146,7 @@ result_done c w h by_fields free filled no_port no_store on r {I} = by_tests (as
         → with_inputs r I ≡ pick a
         (pick z
         (with_inputs (stopped_with 3 h.state h.entries) h.I)
-        (with_inputs (done_with c w (result c w (unit_of c w h.state) h.state.pc h.D h.I) h.state h.entries) (inputs_after c w h.I)))
+        (with_inputs (done_with c w (result_of c w (unit_of c w h.state) h.state.pc h.D h.I) h.state h.entries) (inputs_after c w h.I)))
         (with_inputs (stopped_with 1 h.state h.entries) h.I)
         → MeetsWith c w h (with_inputs r I)
     by_tests true e true z a = subst (MeetsWith c w h) (sym a) (stopped c w h by_fields free 3 filled (rw (e, z)) (λ z. omega arith))

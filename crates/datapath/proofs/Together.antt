@@ -15,7 +15,7 @@ use Rattle.word.proofs.Computed.{all}
 use Rattle.machine.specs.declared.State.{State}
 use Rattle.machine.specs.Machine.{R, put_pc, count}
 use Rattle.word.specs.Codes.{below6_but}
-use Rattle.control.specs.Control.{second, unit, result, inputs_after, next, by_interrupt, writes_port, stored_data, written, takes, assigned, zero_divisor}
+use Rattle.control.specs.Control.{second, unit, result_of, inputs_after, next, by_interrupt, writes_port, stored_data, written, takes, assigned, zero_divisor}
 use Rattle.datapath.specs.Parts.{unit_of, state_after, data_after, is_zero_divisor, done_with, with_inputs, result_answer, address_of, is_result, is_operation, is_comparison, is_sum, is_store, is_jump, is_link}
 use Rattle.datapath.proofs.Choice.{alike_f}
 
@@ -24,8 +24,8 @@ use Rattle.datapath.proofs.Choice.{alike_f}
 unit_of_lem : (c : ℕ) → c % 4096 ≡ 0 → c / 32 % 8 ≡ 0
 unit_of_lem c e = let m : c / 32 % 128 ≡ 0 = omega (arith, mod-mul c {m = 128} {c = 32} (omega arith) (omega arith)) in omega (arith, m)
 
-result_of : (c : ℕ) → c % 4096 ≡ 0 → c / 4 % 8 ≡ 0
-result_of c e = let m : c / 4 % 1024 ≡ 0 = omega (arith, mod-mul c {m = 1024} {c = 4} (omega arith) (omega arith)) in omega (arith, m)
+result_of_lem : (c : ℕ) → c % 4096 ≡ 0 → c / 4 % 8 ≡ 0
+result_of_lem c e = let m : c / 4 % 1024 ≡ 0 = omega (arith, mod-mul c {m = 1024} {c = 4} (omega arith) (omega arith)) in omega (arith, m)
 
 store_of : (c : ℕ) → c % 4096 ≡ 0 → c / 1024 % 4 ≡ 0
 store_of c e = omega (arith, mod-mul c {m = 4} {c = 1024} (omega arith) (omega arith))
@@ -88,21 +88,21 @@ module _ (c w : ℕ) (s : State) where
   -- its own groups, each with its result
   module _ (D I : List ℕ) (k : ℕ) (e : is_result c ≡ true) where
     pub operation_group : is_operation c ≡ true → result_answer c w s D I k ≡ with_inputs (done_with c w (operation (f_of w) (R s (a_of w)) (R s (b_of w))) s k) I
-    unfolding assigned zero_divisor result inputs_after unit second
+    unfolding assigned zero_divisor result_of inputs_after unit second
     operation_group g =
         let m = middle c (eqb-true _ 0 g) in
         let l = lower c m.1 in
         rw ((upper c (eqb-true _ 16 e)).0, m.0, l.0, l.1)
 
     pub comparison_group : is_comparison c w ≡ true → result_answer c w s D I k ≡ with_inputs (done_with c w (comparison (f_of w) (R s (a_of w)) (R s (b_of w))) s k) I
-    unfolding assigned zero_divisor result inputs_after unit second all
+    unfolding assigned zero_divisor result_of inputs_after unit second all
     comparison_group g =
         let p = (and-eq-true_iff (eqb (c / 4 % 256) 8) (below6_but 2 (f_of w))).0 g in
         let m = middle c (eqb-true _ 8 p.0) in
         let l = lower c m.1 in
         rw ((upper c (eqb-true _ 16 e)).0, m.0, l.0, l.1, sym (alike_f (below6_but 2) (takes 1) tt (f_of w) (omega arith)) ∙ p.1)
 
-    pub sum_group : is_sum c ≡ true → result_answer c w s D I k ≡ with_inputs (done_with c w (result c w (address_of w s) s.pc D I) s k) (inputs_after c w I)
+    pub sum_group : is_sum c ≡ true → result_answer c w s D I k ≡ with_inputs (done_with c w (result_of c w (address_of w s) s.pc D I) s k) (inputs_after c w I)
     unfolding assigned zero_divisor
     sum_group g =
         let bits : c / 32 % 32 ≡ 10 = eqb-true _ _ g in
@@ -163,10 +163,10 @@ module _ (c w : ℕ) (s : State) where
       let u : c / 32 % 8 ≡ 0 = unit_of_lem c low in
       let d : c / 1 % 4 ≡ 0 = omega arith in
       let st : c / 1024 % 4 ≡ 0 = store_of c low in
-      record { by_fields = rw i; is_assigned_lem = rw (a, u); no_zero = rw u; no_port = rw (i, st); state = λ D I. rw d; no_store = λ D. rw st; no_read = λ I. rw (result_of c low) }
+      record { by_fields = rw i; is_assigned_lem = rw (a, u); no_zero = rw u; no_port = rw (i, st); state = λ D I. rw d; no_store = λ D. rw st; no_read = λ I. rw (result_of_lem c low) }
 
   pub link_group : is_link c ≡ true → Moved (written c w (add s.pc 2) (put_pc (clear0 (R s (a_of w))) (count s)))
-  unfolding assigned zero_divisor stored_data result inputs_after next
+  unfolding assigned zero_divisor stored_data result_of inputs_after next
   link_group e =
       let q = (and-eq-true_iff (eqb (c / 1024) 28) (eqb (c / 4 % 64) 3)).0 e in
       let h = upper c (eqb-true _ 28 q.0) in

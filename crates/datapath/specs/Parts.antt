@@ -7,7 +7,7 @@ use Rattle.machine.specs.declared.State.{State}
 use Rattle.machine.specs.declared.Stepped.{Stepped}
 use Rattle.machine.specs.Machine.{R, put_pc, count}
 use Rattle.machine.specs.Step.{interrupt_rules}
-use Rattle.control.specs.Control.{unit, result, inputs_after, next, writes_port, stored_data, written, assigned, zero_divisor, interrupt_assigned}
+use Rattle.control.specs.Control.{unit, result_of, inputs_after, next, writes_port, stored_data, written, assigned, zero_divisor, interrupt_assigned}
 
 -- what the state after a step takes: a count that can grow, a memory and inputs of their lengths
 pub record Lent (s : State) (D I : List ℕ) : Type 0 where
@@ -21,7 +21,7 @@ unit_of c w s = unit c w (R s (a_of w)) (R s (b_of w))
 
 -- the state after a step with data D and inputs I, and the data after it
 abbrev pub state_after : ℕ → ℕ → State → List ℕ → List ℕ → State
-state_after c w s D I = written c w (result c w (unit_of c w s) s.pc D I) (put_pc (next c w (R s (a_of w)) s.pc) (count s))
+state_after c w s D I = written c w (result_of c w (unit_of c w s) s.pc D I) (put_pc (next c w (R s (a_of w)) s.pc) (count s))
 
 abbrev pub data_after : ℕ → ℕ → State → List ℕ → List ℕ
 data_after c w s D = stored_data c (R s (b_of w)) (unit_of c w s) D
@@ -64,7 +64,7 @@ result_answer c w s D I entries =
     pick (assigned c w)
     (pick (is_zero_divisor c w s)
     (with_inputs (stopped_with 3 s entries) I)
-    (with_inputs (done_with c w (result c w (unit_of c w s) s.pc D I) s entries) (inputs_after c w I)))
+    (with_inputs (done_with c w (result_of c w (unit_of c w s) s.pc D I) s entries) (inputs_after c w I)))
     (with_inputs (stopped_with 1 s entries) I)
 
 -- ---- Bit 15

@@ -4,14 +4,14 @@ ghost use Rattle.std.specs.Prelude.{◌≡◌, true, ◌+◌, ◌*◌, ◌<◌, 
 ghost use Rattle.word.specs.Fields.{b_of, f_of, N8};
 ghost use Rattle.word.specs.Word.{pick};
 ghost use Rattle.machine.specs.Machine.{touches_locked, R};
-ghost use Rattle.control.specs.Control.{second, units, unit_field, unit, result, inputs_after, next, by_interrupt, writes_port, stored_data, written, assigned, zero_divisor, touched_by, locked_access, interrupt_assigned};
+ghost use Rattle.control.specs.Control.{second, units, unit_field, unit, result_of, inputs_after, next, by_interrupt, writes_port, stored_data, written, assigned, zero_divisor, touched_by, locked_access, interrupt_assigned};
 ghost use Rattle.datapath.specs.Parts.{interrupt_of};
 
 use machine::{Address, Port, State};
 
 // Bits 9..8.
 fn second_operand(control: u16, w: u16, y: u16) -> u16
-    ensures* { λ r. ⌜ r ≡ second control w y ⌝ }
+    ensures { result ≡ second control w y }
 {
     if control / 256 % 2 == 0 {
         if control / 512 % 2 == 0 {
@@ -30,7 +30,7 @@ fn second_operand(control: u16, w: u16, y: u16) -> u16
 
 // Bits 7..5, of both operands.
 fn unit_of(control: u16, w: u16, x: u16, operand: u16) -> u16
-    ensures* { λ r. ⌜ r ≡ get_or (units (f_of w) x operand) (unit_field control) 0 ⌝ }
+    ensures { result ≡ get_or (units (f_of w) x operand) (unit_field control) 0 }
 {
     if control / 128 % 2 == 0 {
         if control / 64 % 2 == 0 {
@@ -60,7 +60,7 @@ fn unit_of(control: u16, w: u16, x: u16, operand: u16) -> u16
 }
 
 pub fn unit_result(control: u16, w: u16, x: u16, y: u16) -> u16
-    ensures* { λ r. ⌜ r ≡ unit control w x y ⌝ }
+    ensures { result ≡ unit control w x y }
 {
     unit_of(control, w, x, second_operand(control, w, y))
 }
@@ -75,7 +75,7 @@ pub fn chosen_result(
     inputs: &mut [u16],
 ) -> u16
     requires { (length memory.now ≡ 65536) × (length inputs.old ≡ 256) }
-    ensures* { λ r. ⌜ (r ≡ result control w u pc memory.now inputs.old) × (inputs.new ≡ inputs_after control w inputs.old) ⌝ }
+    ensures { (result ≡ result_of control w u pc memory.now inputs.old) × (inputs.new ≡ inputs_after control w inputs.old) }
 {
     if control / 16 % 2 == 0 {
         if control / 8 % 2 == 0 {
@@ -102,7 +102,7 @@ pub fn chosen_result(
 
 // Bits 13..12.
 pub fn next_pc(control: u16, w: u16, x: u16, pc: u16) -> u16
-    ensures* { λ r. ⌜ r ≡ next control w x pc ⌝ }
+    ensures { result ≡ next control w x pc }
 {
     if control / 8192 % 2 == 0 {
         if control / 4096 % 2 == 0 {
@@ -130,7 +130,7 @@ pub fn next_pc(control: u16, w: u16, x: u16, pc: u16) -> u16
 // Bits 11..10, 1 and 2: a word or a byte of data memory.
 pub fn store_data(control: u16, y: u16, u: u16, memory: &mut [u8])
     requires { length memory.old ≡ 65536 }
-    ensures* { λ _. ⌜ memory.new ≡ stored_data control y u memory.old ⌝ }
+    ensures { memory.new ≡ stored_data control y u memory.old }
 {
     if control / 2048 % 2 == 0 {
         if control / 1024 % 2 == 1 {
@@ -145,14 +145,14 @@ pub fn store_data(control: u16, y: u16, u: u16, memory: &mut [u8])
 
 // Bit 15.
 pub fn by_interrupt(control: u16) -> bool
-    ensures* { λ r. ⌜ r ≡ by_interrupt control ⌝ }
+    ensures { result ≡ by_interrupt control }
 {
     control / 32768 % 2 == 1
 }
 
 // Bits 11..10 are 3, and not bit 15.
 pub fn writes_port(control: u16) -> bool
-    ensures* { λ r. ⌜ r ≡ writes_port control ⌝ }
+    ensures { result ≡ writes_port control }
 {
     !by_interrupt(control) & (control / 1024 % 4 == 3)
 }
@@ -168,7 +168,7 @@ pub fn store_port(
     entries: usize,
 ) -> usize
     requires { (length outputs.old ≡ 256) × (writes_port control ≡ true → entries < length log.old) }
-    ensures* { λ r. ⌜ (r ≡ pick (writes_port control) (entries + 1) entries) × (outputs.new ≡ pick (writes_port control) (set outputs.old (N8 w) x) outputs.old) × (log.new ≡ pick (writes_port control) (set log.old entries (n * 16777216 + N8 w * 65536 + x)) log.old) ⌝ }
+    ensures { (result ≡ pick (writes_port control) (entries + 1) entries) × (outputs.new ≡ pick (writes_port control) (set outputs.old (N8 w) x) outputs.old) × (log.new ≡ pick (writes_port control) (set log.old entries (n * 16777216 + N8 w * 65536 + x)) log.old) }
 {
     if writes_port(control) {
         let port = Port((w % 256) as u8);
@@ -182,7 +182,7 @@ pub fn store_port(
 
 // Bits 1..0: the number of the destination begins at bit 3, 6 or 9 of w.
 pub fn write_destination(control: u16, w: u16, v: u16, state: State) -> State
-    ensures* { λ r. ⌜ r ≡ written control w v state ⌝ }
+    ensures { result ≡ written control w v state }
 {
     let k = control % 4;
     if k == 0 {
@@ -194,7 +194,7 @@ pub fn write_destination(control: u16, w: u16, v: u16, state: State) -> State
 
 // Bit 14, and f where the unit is 1 or 5.
 pub fn is_assigned(control: u16, w: u16) -> bool
-    ensures* { λ r. ⌜ r ≡ assigned control w ⌝ }
+    ensures { result ≡ assigned control w }
 {
     if control / 16384 % 2 == 0 {
         false
@@ -213,7 +213,7 @@ pub fn is_assigned(control: u16, w: u16) -> bool
 
 // The unit is 5, f is 4 or 5, and the second operand is zero.
 pub fn divides_by_zero(control: u16, w: u16, state: State) -> bool
-    ensures* { λ r. ⌜ r ≡ zero_divisor control w (R state (b_of w)) ⌝ }
+    ensures { result ≡ zero_divisor control w (R state (b_of w)) }
 {
     if control / 32 % 8 == 5 {
         if w % 8 / 2 == 2 {
@@ -228,7 +228,7 @@ pub fn divides_by_zero(control: u16, w: u16, state: State) -> bool
 
 // A result or a store with the field's value k touches a locked byte. u is the unit's result.
 fn touches(k: u16, u: u16, state: State) -> bool
-    ensures* { λ r. ⌜ r ≡ touches_locked (touched_by k u) state ⌝ }
+    ensures { result ≡ touches_locked (touched_by k u) state }
 {
     match k {
         1 => state.locks_word(word::clear_bit0(u)),
@@ -239,7 +239,7 @@ fn touches(k: u16, u: u16, state: State) -> bool
 
 // The result or the store does, without bit 15.
 pub fn is_locked_access(control: u16, w: u16, state: State) -> bool
-    ensures* { λ r. ⌜ r ≡ locked_access control w state ⌝ }
+    ensures { result ≡ locked_access control w state }
 {
     let p = state.sources(w);
     let u = unit_result(control, w, p.x, p.y);
@@ -248,14 +248,14 @@ pub fn is_locked_access(control: u16, w: u16, state: State) -> bool
 
 // With bit 15: bit 14, and f below 4.
 pub fn is_interrupt_assigned(control: u16, w: u16) -> bool
-    ensures* { λ r. ⌜ r ≡ interrupt_assigned control w ⌝ }
+    ensures { result ≡ interrupt_assigned control w }
 {
     (control / 16384 % 2 == 1) & (w % 8 < 4)
 }
 
 // With bit 15: EI, DI, RETI and GETIID by f, where PC+2 and the count are done.
 pub fn interrupted(control: u16, w: u16, next: State) -> State
-    ensures* { λ r. ⌜ r ≡ interrupt_of control w next ⌝ }
+    ensures { result ≡ interrupt_of control w next }
 {
     match w % 8 {
         0 => next.with_enabled(1),

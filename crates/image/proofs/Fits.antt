@@ -17,11 +17,11 @@ use Rattle.image.specs.declared.Range.{Range}
 use Rattle.image.specs.Parts.{PartInside, Placeable}
 use Rattle.image.specs.Image.{W, program_offset, C, data_offset, parts_fit, inside, parts_inside, board_holds, range_fits, then_range, LoadGiven, file_reply, load_reply}
 
-pub passes : {answer test : Bool} → answer ≡ test → not answer ≡ false → test ≡ true
-passes e h = sym e ∙ not-false _ h
+pub passes : {answer test : Bool} → answer ≡ test → answer ≡ true → test ≡ true
+passes e h = sym e ∙ h
 
-pub fails : {answer test : Bool} → answer ≡ test → not answer ≡ true → test ≡ false
-fails e h = sym e ∙ not-true _ h
+pub fails : {answer test : Bool} → answer ≡ test → answer ≡ false → test ≡ false
+fails e h = sym e ∙ h
 
 part_inside : (file : List ℕ) (part : Part) → part.count ≤ 65536 → inside file part.offset part.count ≡ true → PartInside file part
 part_inside file part k h =

@@ -149,6 +149,19 @@ abbrev pub file_lent : Slice → Board → Range → MutSlice → MutSlice → M
 file_lent file board range program memory inputs outputs =
     record { file = read_before file; board = board; range = range; P = before program; D = before memory; I = before inputs; O = before outputs }
 
+-- the same, all lent by &
+abbrev pub file_shown : Slice → Board → Range → Slice → Slice → Slice → Slice → LoadGiven
+file_shown file board range program memory inputs outputs =
+    record {
+      file = read_before file;
+      board = board;
+      range = range;
+      P = read_before program;
+      D = read_before memory;
+      I = read_before inputs;
+      O = read_before outputs;
+    }
+
 abbrev pub loaded_with : MutSlice → MutSlice → MutSlice → MutSlice → Loaded → LoadLeft
 loaded_with program memory inputs outputs r =
     record { reply = shown_loading r.reply; state = r.state; P = after program; D = after memory; I = after inputs; O = after outputs }

@@ -5,7 +5,7 @@ ghost use Rattle.std.specs.Prelude.{◌≡◌, ◌++◌, ◌+◌, ◌-◌, ◌*�
 ghost use Rattle.refusal.specs.Refusals.{accepted};
 ghost use Rattle.machine.specs.declared.Board.TheVariants.{SingleMemory};
 ghost use Rattle.image.specs.Parts.{program_part, data_part, ReadAs, Placeable};
-ghost use Rattle.image.specs.Image.{W, C, number32, parts_fit, inside, parts_inside, board_holds, loaded_p, loaded_d, with_range, range_fits, then_range, file_reply, load_reply, load_left_by, shown_loading, file_lent, loaded_with, Loads};
+ghost use Rattle.image.specs.Image.{W, C, number32, parts_fit, inside, parts_inside, board_holds, loaded_p, loaded_d, with_range, range_fits, then_range, file_reply, load_reply, load_left_by, shown_loading, file_lent, file_shown, loaded_with, Loads};
 
 use block::copy;
 use bus::lengths_fit;
@@ -186,7 +186,7 @@ fn verdict(
     inputs: &[u16],
     outputs: &[u16],
 ) -> Loading
-    ensures { shown_loading result ≡ load_reply (file_lent file board range program memory inputs outputs) }
+    ensures { shown_loading result ≡ load_reply (file_shown file board range program memory inputs outputs) }
 {
     if !lengths_fit(program, memory, inputs, outputs) {
         return Loading::Refused(Refusal::LentLength);

@@ -263,10 +263,10 @@ back_in_numbers l =
 unfoldable pub sisa_back_left : BackGiven → SisaBackLeft
 sisa_back_left g = back_in_numbers (back_left g)
 
-abbrev pub SisaGoesBack : State → Slice → MutSlice → MutSlice → MutSlice → MutSlice → ℕ → SisaBack → Type 0
+abbrev pub SisaGoesBack : State → Slice → MutSlice → MutSlice → MutSlice → Slice → ℕ → SisaBack → Type 0
 SisaGoesBack state program memory inputs outputs journal k r =
     ◌≡◌ {A = SisaBackLeft}
-    (record { reply = r; P = read_after program; D = after memory; I = after inputs; O = after outputs; journal = after journal })
+    (record { reply = r; P = read_after program; D = after memory; I = after inputs; O = after outputs; journal = read_after journal })
     (sisa_back_left (lent_back state program memory inputs outputs journal k))
 
 -- ---- sisa_read

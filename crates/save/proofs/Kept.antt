@@ -2,7 +2,7 @@
 -- Assumes nothing.
 use Prim.Native.Nat.{ℕ, zero, suc, ◌+◌, ◌-◌, ◌*◌, ◌/◌, ◌≤◌, ◌<◌}
 use mathlib.Core.Path.{◌≡◌, refl, sym, ◌∙◌}
-use mathlib.Core.Bool.{Bool, true, false, ◌&&◌, and_true, and-false}
+use mathlib.Core.Bool.{Bool, true, false, ◌&&◌, and-true, and-false}
 use mathlib.Core.List.{List}
 use native.Mathlib.Nat.{le_antisymm}
 use native.Mathlib.Numerals.{add-one}
@@ -89,7 +89,7 @@ unfolding kept
 test_start = record { within = omega arith; tested = refl }
 
 test_more : (f : ℕ → ℕ) (n : ℕ) (b : Bool) → eqb (f n) 0 ≡ b → (eqb (kept f n) 0 && b) ≡ eqb (kept f (suc n)) 0
-test_more f n true e = rw (dropped f n (eqb-true _ _ e), and_true)
+test_more f n true e = rw (dropped f n (eqb-true _ _ e), and-true)
 test_more f n false e = rw (stays f n (eqb-false _ _ e), and-false) (sym (ne_eqb (suc n) 0 (λ q. omega arith)))
 
 module _ {f : ℕ → ℕ} {n i : ℕ} {zero : Bool} (t : Tested f n i zero) where

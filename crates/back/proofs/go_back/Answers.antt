@@ -19,7 +19,7 @@ pub overflow_add-fallen : goal.overflow_add-fallen
 overflow_add-fallen c = record { fits = room c.loop-left.invariant c.loop-left-test.true c.ranges.k.fits c.is_output.result }
 
 pub loop-left-preserved : goal.loop-left-preserved
-loop-left-preserved c = turn c.loop-left.invariant c.loop-left-test.true c.undo-state.auto.1.0 c.undo-state.auto.1.1.0 c.undo-state.auto.1.1.1.0 c.undo-state.ensures (counted _ c.is_output.ensures)
+loop-left-preserved c = turn c.loop-left.invariant c.loop-left-test.true c.undo-state.auto.memory c.undo-state.auto.inputs c.undo-state.auto.outputs c.undo-state.ensures (counted _ c.is_output.ensures)
 
 pub returns : goal.returns
 returns c = ends c.loop-left.invariant (omega (arith, c.loop-left-test.false)) c.with_journaled.ensures

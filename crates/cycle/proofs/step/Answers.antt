@@ -9,19 +9,25 @@ use Rattle.cycle.proofs.step.Goals as goal
 pub step-requires : goal.step-requires
 step-requires c =
     let a = c.args in
-    (c.requires.0, subst (λ step. TestsLock step a.state false) (sym (as_table a.through_table a.table.now a.w c.if-by_table.true c.control_of-control.ensures)) c.requires.1)
+    record {
+      ready = c.requires.ready;
+      tests_lock = subst (λ step. TestsLock step a.state false) (sym (as_table a.by_table a.table.now a.w c.if-by_table.true c.control_of-control.ensures)) c.requires.tests_lock;
+    }
 
 pub step-requires-else-by_table : goal.step-requires-else-by_table
 step-requires-else-by_table c =
     let a = c.args in
-    (c.requires.0, subst (λ step. TestsLock step a.state false) (sym (as_rules a.through_table a.table.now a.w c.if-by_table.false)) c.requires.1)
+    record {
+      ready = c.requires.ready;
+      tests_lock = subst (λ step. TestsLock step a.state false) (sym (as_rules a.by_table a.table.now a.w c.if-by_table.false)) c.requires.tests_lock;
+    }
 
 pub returns-then-by_table : goal.returns-then-by_table
 returns-then-by_table c =
     let a = c.args in
-    through_table a.through_table a.table.now a.w c.if-by_table.true c.control_of-control.ensures c.step.ensures
+    through_table a.by_table a.table.now a.w c.if-by_table.true c.control_of-control.ensures c.step.ensures
 
 pub returns-else-by_table : goal.returns-else-by_table
 returns-else-by_table c =
     let a = c.args in
-    through_rules a.through_table a.table.now a.w c.if-by_table.false c.step-else-by_table.ensures
+    through_rules a.by_table a.table.now a.w c.if-by_table.false c.step-else-by_table.ensures

@@ -1,6 +1,6 @@
 -- By whether the word is assigned, and divides by zero.
 use mathlib.Core.Path.{sym, ap, ap₂, ◌∙◌}
-use Rattle.control.specs.Control.{unit, result}
+use Rattle.control.specs.Control.{unit, result_of}
 use Rattle.datapath.specs.Parts.{done_with, with_inputs}
 use Rattle.datapath.proofs.other_result.Goals as goal
 
@@ -19,7 +19,7 @@ returns-else-divides_by_zero c =
     (c.result_done.ensures
     ∙ ap (λ v. done_with a.control a.w v a.state a.entries)
     (c.chosen_result-v.ensures.0
-    ∙ ap (λ u. result a.control a.w u a.state.pc a.memory.now a.inputs.now) (c.unit_result-u.ensures ∙ ap₂ (unit a.control a.w) p.0 p.1)))
+    ∙ ap (λ u. result_of a.control a.w u a.state.pc a.memory.now a.inputs.now) (c.unit_result-u.ensures ∙ ap₂ (unit a.control a.w) p.0 p.1)))
     c.chosen_result-v.ensures.1)
 
 pub returns-else-is_assigned : goal.returns-else-is_assigned

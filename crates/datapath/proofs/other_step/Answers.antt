@@ -24,9 +24,9 @@ moved_done c w h r free filled er et g =
 pub returns-then-is_store : goal.returns-then-is_store
 returns-then-is_store c =
     let a = c.args in
-    let g = store_group a.control a.w a.state (sym c.TODO.is_IsStore.ensures ∙ c.if-is_store.true) in
+    let g = store_group a.control a.w a.state (sym c.is_store.ensures ∙ c.if-is_store.true) in
     answered c.done.result _ c.done.ensures
-    (data_done a.control a.w _ g.by_fields c.requires.1 g.is_assigned_lem g.no_zero c.requires.0.filled g.no_port
+    (data_done a.control a.w _ g.by_fields c.requires.tests_lock g.is_assigned_lem g.no_zero c.requires.ready.filled g.no_port
     (c.advanced.ensures ∙ sym (g.state _ _))
     (c.store.ensures ∙ ap (λ u. stored_data a.control (R a.state (b_of a.w)) u a.memory.now) (sym g.address))
     (sym (g.no_read _)))
@@ -34,11 +34,11 @@ returns-then-is_store c =
 pub returns-then-is_jump : goal.returns-then-is_jump
 returns-then-is_jump c =
     let a = c.args in
-    moved_done a.control a.w _ c.done-then-is_jump.result c.requires.1 c.requires.0.filled c.done-then-is_jump.ensures c.jump.ensures
+    moved_done a.control a.w _ c.done-then-is_jump.result c.requires.tests_lock c.requires.ready.filled c.done-then-is_jump.ensures c.jump.ensures
     (jump_group a.control a.w a.state (sym c.is_jump.ensures ∙ c.if-is_jump.true))
 
 pub returns-then-is_link : goal.returns-then-is_link
 returns-then-is_link c =
     let a = c.args in
-    moved_done a.control a.w _ c.done-then-is_link.result c.requires.1 c.requires.0.filled c.done-then-is_link.ensures c.link.ensures
+    moved_done a.control a.w _ c.done-then-is_link.result c.requires.tests_lock c.requires.ready.filled c.done-then-is_link.ensures c.link.ensures
     (link_group a.control a.w a.state (sym c.is_link.ensures ∙ c.if-is_link.true))

@@ -5,7 +5,7 @@ use Prim.Native.Nat.{ℕ}
 use Rattle.word.specs.Word.{operation, comparison}
 use Rattle.machine.specs.declared.State.{State}
 use Rattle.machine.specs.declared.Stepped.{Stepped}
-use Rattle.control.specs.Control.{result}
+use Rattle.control.specs.Control.{result_of}
 use Rattle.datapath.specs.Parts.{done_with, Answered, with_inputs}
 use Rattle.datapath.proofs.Choice.{by_f}
 use Rattle.datapath.proofs.Together.{address_is, operation_group, sum_group, comparison_group}
@@ -27,7 +27,7 @@ returns-then-is_sum c =
     let a = c.args in
     let at = address_is a.w a.state c.address-u.ensures c.ra.ensures in
     with_result a.control a.w a.state a.entries c.result_done-then-is_sum.ensures
-    (c.chosen_result-v.ensures.0 ∙ ap (λ u. result a.control a.w u a.state.pc a.memory.now a.inputs.now) at)
+    (c.chosen_result-v.ensures.0 ∙ ap (λ u. result_of a.control a.w u a.state.pc a.memory.now a.inputs.now) at)
     c.chosen_result-v.ensures.1
     (sum_group a.control a.w a.state _ _ a.entries c.requires.1 (sym c.is_sum.ensures ∙ c.if-is_sum.true))
 

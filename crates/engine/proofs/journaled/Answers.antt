@@ -33,7 +33,7 @@ shape_of-journal c = ⊎_elim (λ w. ap length w.24 ∙ w.8.kept.1.1.1.1.1.1.1.1
 
 pub returns : goal.returns
 returns c =
-    by_paper c.args.through_table _ c.control_table-words.ensures
+    by_paper c.args.by_table _ c.control_table-words.ensures
     (ticks_handed _ _ c.with_ticks.ensures
     (⊎_elim
     (λ w. same_handed _ _ w.20 w.21 w.22 w.23 (ap lent_journal w.24) w.25 (counts_short _ _ w.8.last.1.1.1.1.1.1.1.1.1.1.1.0 w.8.result.usage w.8.ensures w.8.kept.1.1.1.1.1.1.1.1.1.1.1.0))

@@ -10,4 +10,4 @@ returns-then-not-lengths_fit c = rw (fails c.lengths_fit.ensures c.if-not-length
 
 pub returns : goal.returns
 unfolding load_reply
-returns c = c.then_range.ensures ∙ ap (then_range _) c.file_verdict.ensures ∙ rw (passes c.lengths_fit.ensures c.if-not-lengths_fit.false)
+returns c = c.then_range.ensures ∙ ap (then_range c.args.range) c.file_verdict.ensures ∙ rw (passes c.lengths_fit.ensures c.if-not-lengths_fit.false)

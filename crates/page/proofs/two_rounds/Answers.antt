@@ -19,14 +19,14 @@ nonzero_div-places c = let k = accepts _ c.requires in omega (arith, k.some)
 pub round-shared-requires : goal.round-shared-requires
 round-shared-requires c =
     let eight : length c.args.trims.states ≡ 8 = search (rules, mapped_long, c.well_formed.1.0) in
-    can_begin c.args.through_table _ c.requires (omega (arith, c.ranges.budget)) eight c.none.ensures
+    can_begin c.args.by_table _ c.requires (omega (arith, c.ranges.budget)) eight c.none.ensures
 
 pub round-ended-requires : goal.round-ended-requires
 round-ended-requires c =
     let eight : length c.args.trims.states ≡ 8 = search (rules, mapped_long, c.well_formed.1.0) in
-    can_go_on c.args.through_table _ c.requires (omega (arith, c.ranges.budget)) eight c.none.ensures c.round-shared.ensures
+    can_go_on c.args.by_table _ c.requires (omega (arith, c.ranges.budget)) eight c.none.ensures c.round-shared.ensures
 
 pub returns : goal.returns
 returns c =
     let eight : length c.args.trims.states ≡ 8 = search (rules, mapped_long, c.well_formed.1.0) in
-    page_left_lem c.args.through_table _ c.requires (omega (arith, c.ranges.budget)) eight c.none.ensures c.round-shared.ensures c.round-ended.ensures
+    page_left_lem c.args.by_table _ c.requires (omega (arith, c.ranges.budget)) eight c.none.ensures c.round-shared.ensures c.round-ended.ensures

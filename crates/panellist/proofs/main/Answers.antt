@@ -13,7 +13,7 @@ pub slice_bounds-write_all-end : goal.slice_bounds-write_all-end
 slice_bounds-write_all-end c = sym (length-take-le _ _ (text_fits _ _ c.line_at-line.ensures))
 
 pub overflow_add-k : goal.overflow_add-k
-overflow_add-k c = omega (arith, few_lines _ _ c.line_at-line.ensures (not-false _ c.if-not-line.false))
+overflow_add-k c = omega (arith, few_lines _ _ c.line_at-line.ensures c.if-not-line.false)
 
 pub loop-file-smaller : goal.loop-file-smaller
-loop-file-smaller c = omega (arith, still_there _ _ c.line_at-line.ensures (not-false _ c.if-not-line.false))
+loop-file-smaller c = omega (arith, still_there _ _ c.line_at-line.ensures c.if-not-line.false)

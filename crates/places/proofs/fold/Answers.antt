@@ -14,7 +14,11 @@ loop-at-preserved-then-can_skip c =
     fold_skips c.loop-at.invariant h.0 h.1
 
 pub count_place-requires : goal.count_place-requires
-count_place-requires c = (omega (arith, c.loop-at-test.true), fold_room c.loop-at.invariant (omega (arith, c.type_inv.counts c.loop-at.at)) (omega (arith, c.loop-at-test.true)))
+count_place-requires c =
+    record {
+      place_bound = omega (arith, c.loop-at-test.true);
+      room = fold_room c.loop-at.invariant (omega (arith, c.type_inv.counts c.loop-at.at)) (omega (arith, c.loop-at-test.true));
+    }
 
 pub loop-at-preserved : goal.loop-at-preserved
 loop-at-preserved c = fold_counts c.loop-at.invariant (omega (arith, c.type_inv.counts c.loop-at.at)) (omega (arith, c.loop-at-test.true)) refl c.count_place.ensures

@@ -11,5 +11,6 @@ loop-i-preserved c = scan_goes c.loop-i.invariant c.loop-i-test.true
 
 pub returns : goal.returns
 returns c =
+    λ e j l.
     let s = c.loop-i.invariant in
     s.none e j (omega (arith, s.few))

@@ -10,12 +10,12 @@ use Rattle.rules.proofs.Effects.{wrote}
 use Rattle.rules.proofs.arithmetic.Goals as goal
 
 pub comparison-requires : goal.comparison-requires
-comparison-requires c = record { opcode = omega arith; advanced = c.requires.0.advanced }
+comparison-requires c = record { opcode = omega arith; advanced = c.requires.begun.advanced }
 
 pub returns-then-w-eq0 : goal.returns-then-w-eq0
 unfolding compute
 returns-then-w-eq0 c =
     λ D.
     let w = c.args.w in
-    wrote compute (chosen 0 w c.ranges.w.fits c.if-w-eq0.true) c.requires.0.advanced
+    wrote compute (chosen 0 w c.ranges.w.fits c.if-w-eq0.true) c.requires.begun.advanced
     (d5_3 w) (λ s D. operation (f_of w) (ra_of w s) (rb_of w s)) (λ m. refl) c.operated.ensures c.done.ensures

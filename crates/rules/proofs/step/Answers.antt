@@ -5,10 +5,10 @@ use Rattle.rules.proofs.Steps.{by_rule_done}
 use Rattle.rules.proofs.step.Goals as goal
 
 pub returns-then-op-lt2 : goal.returns-then-op-lt2
-returns-then-op-lt2 c = by_rule_done c.args.w _ c.requires.0.filled (at_no_port c.args.w c.ranges.w.fits (λ e. omega arith)) (c.arithmetic.ensures _)
+returns-then-op-lt2 c = by_rule_done c.args.w _ c.requires.ready.filled (at_no_port c.args.w c.ranges.w.fits (λ e. omega arith)) (c.arithmetic.ensures _)
 
 pub returns-then-op-eq10 : goal.returns-then-op-eq10
 returns-then-op-eq10 c = c.at_port.ensures _
 
 pub returns-else-op-eq10 : goal.returns-else-op-eq10
-returns-else-op-eq10 c = by_rule_done c.args.w _ c.requires.0.filled (at_no_port c.args.w c.ranges.w.fits c.if-op-eq10.false) c.by_rule.ensures
+returns-else-op-eq10 c = by_rule_done c.args.w _ c.requires.ready.filled (at_no_port c.args.w c.ranges.w.fits c.if-op-eq10.false) c.by_rule.ensures

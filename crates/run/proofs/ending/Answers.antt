@@ -4,8 +4,9 @@ use Rattle.run.proofs.ending.Goals as goal
 
 pub returns-then-keeps : goal.returns-then-keeps
 returns-then-keeps c =
+    λ xs.
     let a = c.args in
     ends_with a.keeps xs c.if-keeps.true a.steps a.state c.with_journaled.ensures
 
 pub returns-else-keeps : goal.returns-else-keeps
-returns-else-keeps c = let a = c.args in ends_without a.keeps xs c.if-keeps.false a.steps a.state
+returns-else-keeps c = λ xs. let a = c.args in ends_without a.keeps xs c.if-keeps.false a.steps a.state

@@ -7,7 +7,7 @@ pub loop-i-init : goal.loop-i-init
 loop-i-init c = add_start c.requires
 
 pub loop-i-preserved : goal.loop-i-preserved
-loop-i-preserved c = add_turn c.loop-i.invariant c.loop-i-test.true c.wrapping_add_u64.ensures
+loop-i-preserved c = add_turn c.loop-i.invariant c.loop-i-test.true c.wrapping_add_u64.ensures.value
 
 pub returns : goal.returns
 returns c = whole c.loop-i.invariant.filled c.loop-i-test.false

@@ -24,4 +24,4 @@ pub add_counts-requires-3 : goal.add_counts-requires-3
 add_counts-requires-3 c = search (rules, alike)
 
 pub returns : goal.returns
-returns c = whole _ _ c.add_counts.ensures c.add_counts-2.ensures c.add_counts-3.ensures c.wrapping_add_u64.ensures
+returns c = whole _ _ c.add_counts.ensures c.add_counts-2.ensures c.add_counts-3.ensures c.wrapping_add_u64.ensures.value

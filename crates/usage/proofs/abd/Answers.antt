@@ -6,7 +6,7 @@ use Rattle.usage.specs.Counting.{counters}
 use Rattle.usage.proofs.abd.Goals as goal
 
 pub add-requires : goal.add-requires
-add-requires c = (omega arith, c.requires.1.writes _)
+add-requires c = (omega arith, c.requires.countable.writes _)
 
 pub returns-then-k : goal.returns-then-k
 returns-then-k c =

@@ -14,7 +14,11 @@ pub overflow_cast-f-in-1 : goal.overflow_cast-f-in-1
 overflow_cast-f-in-1 c = omega (arith, number_few comparison_kinds (c.args.w % 8))
 
 pub abd-requires-in-1 : goal.abd-requires-in-1
-abd-requires-in-1 c = ((number_few comparison_kinds (c.args.w % 8), omega arith, omega arith, omega arith), c.requires)
+abd-requires-in-1 c =
+    record {
+      k_le_kind_count = (number_few comparison_kinds (c.args.w % 8), omega arith, omega arith, omega arith);
+      countable = c.requires;
+    }
 
 pub add-requires : goal.add-requires
 add-requires c = (omega arith, c.requires.reads _)
@@ -23,7 +27,11 @@ pub overflow_cast-f-in-11 : goal.overflow_cast-f-in-11
 overflow_cast-f-in-11 c = omega (arith, number_few muldiv_kinds (c.args.w % 8))
 
 pub abd-requires-in-11 : goal.abd-requires-in-11
-abd-requires-in-11 c = ((number_few muldiv_kinds (c.args.w % 8), omega arith, omega arith, omega arith), c.requires)
+abd-requires-in-11 c =
+    record {
+      k_le_kind_count = (number_few muldiv_kinds (c.args.w % 8), omega arith, omega arith, omega arith);
+      countable = c.requires;
+    }
 
 pub add-requires-then-f-lt3 : goal.add-requires-then-f-lt3
 add-requires-then-f-lt3 c = (omega arith, c.requires.kinds _)

@@ -5,38 +5,38 @@ use native.Mathlib.Nat.{div-one}
 use native.Mathlib.Omega.{arith}
 use borrow.Author.Tests.{ne_eqb}
 use Rattle.word.specs.Word.{SE}
-use Rattle.control.specs.Control.{results, result, inputs_after}
+use Rattle.control.specs.Control.{results, result_of, inputs_after}
 use Rattle.datapath.proofs.Choice.{two_bits, three_bits, past_end}
 use Rattle.datapath.proofs.fields.chosen_result.Goals as goal
 
 pub returns-then-control-eq0-3 : goal.returns-then-control-eq0-3
-unfolding result inputs_after
+unfolding result_of inputs_after
 returns-then-control-eq0-3 c = let a = c.args.control in let k : a / 4 % 8 ≡ 0 = omega (arith, two_bits a 4, three_bits a 4) in rw k (refl, refl)
 
 pub returns-else-control-eq0-3 : goal.returns-else-control-eq0-3
-unfolding result inputs_after
+unfolding result_of inputs_after
 returns-else-control-eq0-3 c = let a = c.args.control in let k : a / 4 % 8 ≡ 1 = omega (arith, two_bits a 4, three_bits a 4) in rw k (c.load_word.ensures, refl)
 
 pub returns-then-control-eq0-4 : goal.returns-then-control-eq0-4
-unfolding result inputs_after
+unfolding result_of inputs_after
 returns-then-control-eq0-4 c =
     let byte = c.type_inv.memory c.args.u in
     let a = c.args.control in let k : a / 4 % 8 ≡ 2 = omega (arith, two_bits a 4, three_bits a 4) in
     rw k (c.extend8.ensures ∙ ap (SE 8) (omega (arith, c.load_byte.ensures, byte)), refl)
 
 pub returns-else-control-eq0-4 : goal.returns-else-control-eq0-4
-unfolding result inputs_after
+unfolding result_of inputs_after
 returns-else-control-eq0-4 c = let a = c.args.control in let k : a / 4 % 8 ≡ 3 = omega (arith, two_bits a 4, three_bits a 4) in rw k (c.sum.ensures, refl)
 
 pub returns-then-control-eq0-5 : goal.returns-then-control-eq0-5
-unfolding result inputs_after
+unfolding result_of inputs_after
 returns-then-control-eq0-5 c =
     let a = c.args.control in
     let k : a / 4 % 8 ≡ 4 = omega (arith, two_bits a 4, three_bits a 4) in
     rw (k, div-one) c.read_input.ensures
 
 pub returns-else-control-eq0-5 : goal.returns-else-control-eq0-5
-unfolding result inputs_after
+unfolding result_of inputs_after
 returns-else-control-eq0-5 c =
     let a = c.args in
     let k : 5 ≤ a.control / 4 % 8 = omega (arith, two_bits a.control 4, three_bits a.control 4) in

@@ -4,11 +4,11 @@ use native.Mathlib.Nat.{div-one}
 use native.Mathlib.Omega.{arith}
 use Rattle.datapath.proofs.fields.store_port.Goals as goal
 
-pub offset_bounds-log-entries : goal.offset_bounds-log-entries
-offset_bounds-log-entries c = omega (arith, bounds-log-entries c)
-
 pub bounds-log-entries : goal.bounds-log-entries
 bounds-log-entries c = c.requires.1 (sym c.writes_port.ensures ∙ c.if-writes_port.true)
+
+pub offset_bounds-log-entries : goal.offset_bounds-log-entries
+offset_bounds-log-entries c = omega (arith, bounds-log-entries c)
 
 pub overflow_add-result : goal.overflow_add-result
 overflow_add-result c = omega (arith, bounds-log-entries c)

@@ -11,7 +11,7 @@ returns-in-42 c = rw c.in-42.is c.product16.ensures
 
 pub returns-in-43 : goal.returns-in-43
 unfolding operated_of operator_by
-returns-in-43 c = rw c.in-43.is c.wrapping_add_u16.ensures
+returns-in-43 c = rw c.in-43.is c.wrapping_add_u16.ensures.value
 
 pub returns-in-45 : goal.returns-in-45
 unfolding operated_of operator_by

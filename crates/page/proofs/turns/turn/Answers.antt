@@ -7,7 +7,7 @@ use Rattle.page.proofs.Turning.{rooms, has_room, turned, left_out}
 use Rattle.page.proofs.turns.turn.Goals as goal
 
 pub returns-then-is_left_out : goal.returns-then-is_left_out
-returns-then-is_left_out c = λ x. left_out x (engine_of c.args.through_table) c.args.again (sym c.is_left_out.ensures ∙ c.if-is_left_out.true)
+returns-then-is_left_out c = λ x. left_out x (engine_of c.args.by_table) c.args.again (sym c.is_left_out.ensures ∙ c.if-is_left_out.true)
 
 pub overflow_mul-a : goal.overflow_mul-a
 overflow_mul-a c = let k = rooms c.requires in omega arith
@@ -69,12 +69,12 @@ slice_bounds-run-end-5 c = let k = rooms c.requires in omega arith
 pub with_run-requires : goal.with_run-requires
 with_run-requires c =
     let k = c.run-ran.auto.1.1.1 in
-    has_room c.requires (engine_of c.args.through_table) (lawful c.args.through_table) c.run-ran.result c.run-ran.ensures k.0 k.1.0 k.1.1.0 k.1.1.1.1.0
+    has_room c.requires (engine_of c.args.by_table) (lawful c.args.by_table) c.run-ran.result c.run-ran.ensures k.0 k.1.0 k.1.1.0 k.1.1.1.1.0
     c.report_of-report.ensures (omega (arith, c.well_formed.1.1.1.1.1.1.1.1.1.1.1.0.0))
 
 pub returns : goal.returns
 returns c =
     let k = c.run-ran.auto.1.1.1 in
     λ x.
-    turned x (engine_of c.args.through_table) (lawful c.args.through_table) c.run-ran.result c.run-ran.ensures k.0 k.1.0 k.1.1.0 k.1.1.1.1.0
+    turned x (engine_of c.args.by_table) (lawful c.args.by_table) c.run-ran.result c.run-ran.ensures k.0 k.1.0 k.1.1.0 k.1.1.1.1.0
     c.report_of-report.ensures c.with_run.ensures c.args.again (sym c.is_left_out.ensures ∙ c.if-is_left_out.false)
