@@ -13,7 +13,7 @@ use Rattle.encoding.specs.declared.Judged.{Judged as Outcome}
 use Rattle.assembler.specs.declared.passes.Progress.{Progress}
 use Rattle.statement.specs.Syntax.{Statement, no_statement, of_row}
 use Rattle.statement.specs.Reading.{ReadLine, outside, reads, valued, valued_statement}
-use Rattle.assembler.specs.Text.{Place, crowded, admitted, new_labels, after, words, text_refused, reply_from}
+use Rattle.assembler.specs.Text.{Place, crowded, admitted, new_labels, after, text_refused, reply_from}
 use Rattle.encoding.specs.Words.{words_in, Judged, bad, nothing, gives}
 use Rattle.encoding.specs.Numbers.{shown_judged}
 use Rattle.assembler.specs.Passes.{finish, moved}

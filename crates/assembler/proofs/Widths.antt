@@ -16,7 +16,7 @@ use Rattle.token.proofs.Alike.{alike_same}
 use Rattle.token.proofs.Division.{divided}
 use Rattle.expression.specs.Operands.{is_name}
 use Rattle.expression.specs.Reading.{Out, refused, read}
-use Rattle.statement.specs.Syntax.{Row, table, row_at, Parts, Line, line}
+use Rattle.statement.specs.Syntax.{Row, table, row_at, Parts, Line}
 use Rattle.statement.specs.Reading.{ReadLine, outside, reads, row_from, row_of, finished, read_items, statement_of, line_by}
 use Rattle.encoding.specs.Words.{words_in}
 

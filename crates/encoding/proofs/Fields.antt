@@ -30,7 +30,7 @@ signed_in_lem k x l h =
 
 -- a signed number that is handed on stays what it is
 pub handed_on : {z x : ℤ} → mag z < 32768 → z ≡ x → to_z w16 (of_z w16 z) ≡ x
-handed_on h e = to_z-of_z (record { sfits = h }) ∙ e
+handed_on h e = to_z-of_z {w = w16} (record { sfits = h }) ∙ e
 
 -- the address of the next instruction, as the code reduces it
 pub next_address : (a : ℕ) → (a % 65536 + 2) % 65536 ≡ (a + 2) % 65536

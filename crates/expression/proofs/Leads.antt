@@ -1,6 +1,6 @@
 -- Minus signs before an operand.
 -- Assumes nothing.
-use Rattle.std.proofs.Common.{◌≡◌, ℕ, zero, suc, ◌-◌, ◌<◌, ◌≤◌, eqb, List, [], length, sym, refl, ◌∙◌, subst, arith, ne_eqb}
+use Rattle.std.proofs.Common.{◌≡◌, ℕ, zero, suc, ◌<◌, ◌≤◌, eqb, List, [], length, sym, refl, ◌∙◌, subst, arith, ne_eqb}
 use Rattle.word.specs.Word.{pick, subtract}
 use Rattle.word.proofs.Tests.{clash, either}
 use Rattle.token.specs.declared.Token.{Token as Found}

@@ -12,7 +12,7 @@ use Rattle.expression.specs.Reading.{operator_by, rank_by, operator_of, rank}
 -- ---- Operators and the symbols of their tokens
 
 -- s is none of the first five symbols, as a `match` tells it to a later arm
-abbrev NoneOfFive : ℕ → Type 0
+abbrev pub NoneOfFive : ℕ → Type 0
 NoneOfFive s = ((((Unit {0} × (s ≡ 42 → ⊥)) × (s ≡ 43 → ⊥)) × (s ≡ 45 → ⊥)) × (s ≡ 256 → ⊥)) × (s ≡ 38 → ⊥)
 
 -- a choice by them, in their order, comes to what stands last

@@ -7,7 +7,7 @@ use Rattle.token.specs.Tokens.{Token}
 use Rattle.token.specs.Scan.{symbol_of}
 use Rattle.token.proofs.Symbols.{one_byte}
 use Rattle.expression.specs.declared.prefix.Start.TheVariants.{Bracket, Operand}
-use Rattle.expression.specs.Operands.{is_operand, operator_text}
+use Rattle.expression.specs.Operands.{is_operand}
 use Rattle.expression.specs.Grammar.{Tree, operand, negation, operation, Expression, single, unary_minus, bracketed, tighter, joined}
 use Rattle.expression.specs.Reading.{operator_of, rank, Out, refused, read, bind, mapped, closed, opening, start_of, leaf, prefixed, rest, follow, chain, ranked, inside, parse}
 use Rattle.expression.proofs.Operators.{of_rank}

@@ -13,7 +13,7 @@ use Rattle.expression.specs.declared.Value.{Value}
 use Rattle.expression.specs.Operands.{Label, register_of, is_name, operand_value, literal_word, hexed, numeral, digit_of}
 use Rattle.expression.specs.Grammar.{Tree, value_of}
 use Rattle.expression.specs.Reading.{Out, refused, read, bind, mapped, parse, labels}
-use Rattle.statement.specs.Syntax.{Item, register, punctuation, N, row_at, table, Parts, put, put_n, blank, line}
+use Rattle.statement.specs.Syntax.{Item, register, punctuation, N, row_at, table, Parts, put, put_n, blank}
 use Rattle.statement.specs.Reading.{outside, row_of, one_register, a_punctuation, finished, read_item, read_items, statement_of, line_by, line_of, valued_parts, valued_statement, valued}
 use Rattle.statement.specs.Parts.{expression_of, blank_value}
 

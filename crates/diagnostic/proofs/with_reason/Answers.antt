@@ -28,5 +28,5 @@ returns-in-12 c = rw c.in-12.is (at_most (omega arith) c.with_word-in-12.ensures
 pub returns-in_default : goal.returns-in_default
 unfolding reason
 returns-in_default c =
-    let n = c.in_default.in_default-own.rest in
-    rw (ne_eqb _ 1 n.0.0.0.0.1, ne_eqb _ 9 n.0.0.0.1, ne_eqb _ 10 n.0.0.1, ne_eqb _ 11 n.0.1, ne_eqb _ 12 n.1) wrote_nothing
+    let n = c.args.number in
+    rw (ne_eqb n 1 (omega arith), ne_eqb n 9 (omega arith), ne_eqb n 10 (omega arith), ne_eqb n 11 (omega arith), ne_eqb n 12 (omega arith)) wrote_nothing

@@ -1,23 +1,11 @@
 -- By the row, by whether the distance is odd, and by what writing gives.
-use mathlib.Core.Path.{◌≡◌, ◌∙◌, sym, ap}
+use mathlib.Core.Path.{◌∙◌, sym, ap}
 use native.Mathlib.Omega.{arith}
 use Rattle.isa.specs.Instructions.{shown_writing}
-use Rattle.encoding.specs.Words.{written, encoded}
-use Rattle.statement.specs.Parts.{shown_parts}
+use Rattle.encoding.specs.Words.{written}
 use Rattle.encoding.proofs.Encoding.{shows_word, shows_bad, word_row, odd_row, written_row}
 use Rattle.encoding.proofs.Fields.{handed_on}
 use Rattle.encoding.proofs.encoded.Goals as goal
-
-written_is :
-    (c : tie.After-write)
-    → let a = c.before.before.before.before.before.before.before.args in
-    written (shown_writing c.write.result) ≡ encoded a.row a.address (shown_parts a.parts)
-written_is c =
-    let n = c.before in
-    let t = n.before.before.before in
-    let even = sym t.is_odd.ensures ∙ n.before.before.if2.false in
-    let number = handed_on n.number_of.type_inv n.number_of.ensures in
-    written_row _ _ _ t.before.before.if1.false t.before.field_of.ensures even n.before.kind_at.ensures number c.write.ensures
 
 pub returns-then-row-eq-WORD : goal.returns-then-row-eq-WORD
 returns-then-row-eq-WORD c = shows_word c.gives.ensures (word_row _ _ _ c.if-row-eq-WORD.true)
@@ -35,7 +23,9 @@ unfolding written
 returns-in-Word c =
     shows_word
     c.gives-in-Word.ensures
-    (sym (ap (λ w. written (shown_writing w)) c.in-Word.is) ∙ written_is c)
+    (sym (ap (λ w. written (shown_writing w)) c.in-Word.is)
+    ∙ written_row _ _ _ c.if-row-eq-WORD.false c.field_of-field.ensures (sym c.is_odd.ensures ∙ c.if-is_odd.false) c.kind_at.ensures
+    (handed_on c.number_of.type_inv c.number_of.ensures) c.write-written.ensures)
 
 pub returns-in-Refused : goal.returns-in-Refused
 unfolding written
@@ -43,4 +33,6 @@ returns-in-Refused c =
     shows_bad
     (omega arith)
     c.turned_away-in-Refused.ensures
-    (sym (ap (λ w. written (shown_writing w)) c.in-Refused.is) ∙ written_is c)
+    (sym (ap (λ w. written (shown_writing w)) c.in-Refused.is)
+    ∙ written_row _ _ _ c.if-row-eq-WORD.false c.field_of-field.ensures (sym c.is_odd.ensures ∙ c.if-is_odd.false) c.kind_at.ensures
+    (handed_on c.number_of.type_inv c.number_of.ensures) c.write-written.ensures)

@@ -11,9 +11,9 @@ returns-then-row-ge-ROWS c = no_row _ _ _ c.if-row-ge-ROWS.true
 pub returns-then-not-parts : goal.returns-then-not-parts
 returns-then-not-parts c =
     a_row _ _ _ (omega arith)
-    (shows_bad (omega arith) c.turned_away.ensures (unknown_row _ _ _ c.if-not-parts.true))
+    (shows_bad (omega arith) c.turned_away.ensures (unknown_row _ _ _ (not-true _ c.if-not-parts.true)))
 
 pub returns : goal.returns
 returns c =
     let e = c.encoded.ensures in
-    a_row _ _ _ (omega arith) (e.0 ∙ known_row _ _ _ c.if-not-parts.false, e.1)
+    a_row _ _ _ (omega arith) (e.0 ∙ known_row _ _ _ (not-false _ c.if-not-parts.false), e.1)

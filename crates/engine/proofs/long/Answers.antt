@@ -7,4 +7,4 @@ pub run-ran-requires : goal.run-ran-requires
 run-ran-requires c = zeros 17408
 
 pub returns : goal.returns
-returns c = counts_long _ _ c.run-ran.new.1.1.1.1.1.1.1.1.1.1.1.0 c.run-ran.result.usage c.run-ran.ensures (search rules) c.fold.ensures
+returns c = counts_long _ _ c.run-ran.new.counts c.run-ran.result.usage c.run-ran.ensures (search rules) c.fold.ensures

@@ -12,9 +12,9 @@ pub run_accepted-requires : goal.run_accepted-requires
 run_accepted-requires c =
     let a = c.args in
     let verdict = sym (ap shown_verdict c.in-Accepted.is) ∙ c.checked.ensures in
-    -- by `good`: the count of entries and the journal's length have 64 bits
-    let count = count_fits a.keeps a.journal.now a.state a.budget (omega (arith, c.well_formed.1.1.0.1.1.1.1.1.0.1)) (omega (arith, c.well_formed.1.1.1.1.1.1.1.1.1.1.0.0)) (omega (arith, c.ranges.budget)) in
-    (c.requires, can_run _ verdict (c.starting.ensures _) c.allowed.ensures count)
+    -- the count of entries and the journal's length have 64 bits
+    let count = count_fits a.keeps a.journal.now a.state a.budget (omega arith) (omega arith) (omega (arith, c.ranges.budget)) in
+    record { cleared = c.requires; can_run = can_run _ verdict (c.starting.ensures _) c.allowed.ensures count }
 
 pub returns-in-Accepted : goal.returns-in-Accepted
 returns-in-Accepted c =

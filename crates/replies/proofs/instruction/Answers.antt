@@ -18,20 +18,16 @@ in_numbers : (i : Instruction) (z : Masks) {k : ℕ} {n : ℤ} → k ≡ kind_nu
     → record { assigned = 1; kind = k; a = i.a; b = i.b; d = i.d; n = n; reads = z.reads; writes = z.writes } ≡ instruction_in_numbers (instruction i) z
 in_numbers i z e m = λ j. record { assigned = 1; kind = e j; a = i.a; b = i.b; d = i.d; n = m j; reads = z.reads; writes = z.writes }
 
--- the instruction that was read, and the masks beside it
-abbrev read_as : tie.After-struct-told → Instruction
-read_as c = c.before.before.before.reading.given.0.0
-
+-- the masks beside it
 abbrev masks_of_lem : Decoded → Masks
 masks_of_lem r = record { reads = r.reads; writes = r.writes }
-
-same_n : (c : tie.After-struct-told) → to_z w16 (of_z w16 (read_as c).n) ≡ (read_as c).n
-same_n c = search rules
 
 pub returns-in-Instruction : goal.returns-in-Instruction
 returns-in-Instruction c =
     let z = masks_of_lem c.args.decoded in
-    in_numbers (read_as c) z c.kind_number.ensures (same_n c)
+    let i = c.in-Instruction.i in
+    let same : to_z w16 (of_z w16 i.n) ≡ i.n = search rules in
+    in_numbers i z c.kind_number.ensures same
     ∙ sym (ap (λ (x : Reading). instruction_in_numbers (shown_reading x) z) c.in-Instruction.is)
 
 pub returns-in-Unassigned : goal.returns-in-Unassigned

@@ -7,9 +7,6 @@ use borrow.Author.Rules.{rules}
 use Rattle.replies.proofs.Numbers.{write_refused, write_meets}
 use Rattle.replies.proofs.write.Goals as goal
 
-same_n : (c : tie.After-write) → to_z w16 (of_z w16 c.before.before.before.args.n) ≡ c.before.before.before.args.n
-same_n c = search rules
-
 pub returns-then-kind-gt33 : goal.returns-then-kind-gt33
 returns-then-kind-gt33 c =
     let a = c.args in
@@ -18,4 +15,5 @@ returns-then-kind-gt33 c =
 pub returns : goal.returns
 returns c =
     let a = c.args in
-    write_meets a.kind a.a a.b a.d a.n c.kind_at-kind.result _ (omega arith) c.kind_at-kind.ensures (same_n c) c.write.ensures c.word.ensures
+    let same : to_z w16 (of_z w16 a.n) ≡ a.n = search rules in
+    write_meets a.kind a.a a.b a.d a.n c.kind_at-kind.result _ (omega arith) c.kind_at-kind.ensures same c.write.ensures c.word.ensures

@@ -1,5 +1,5 @@
 -- Line after line: what stands at each beginning is `Scanning`, and `Writing` where no line is turned away.
-use mathlib.Core.Bool.{Bool, false}
+use mathlib.Core.Bool.{Bool}
 use mathlib.Core.Path.{refl, subst, sym, ◌∙◌}
 use native.Mathlib.Omega.{arith}
 use borrow.Author.Rules.{rules}

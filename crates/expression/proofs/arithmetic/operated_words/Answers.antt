@@ -2,7 +2,7 @@
 use Rattle.std.proofs.Common.{◌≡◌, ◌+◌, ◌-◌, ◌%◌, sym, ap, arith}
 use Rattle.expression.specs.Operands.{operated_of}
 use Rattle.expression.specs.Reading.{operator_by}
-use Rattle.expression.proofs.Operators.{last_operator}
+use Rattle.expression.proofs.Operators.{NoneOfFive, last_operator}
 use Rattle.expression.proofs.arithmetic.operated_words.Goals as goal
 
 pub returns-in-42 : goal.returns-in-42
@@ -27,4 +27,7 @@ returns-in-38 c = rw c.in-38.is
 
 pub returns-in_default : goal.returns-in_default
 unfolding operated_of operator_by
-returns-in_default c = let a = c.args in sym (ap (λ o. operated_of o a.x a.y) (last_operator c.in_default.in_default-own.rest))
+returns-in_default c =
+    let a = c.args in
+    let n : NoneOfFive a.symbol = (((((tt, omega arith), omega arith), omega arith), omega arith), omega arith) in
+    sym (ap (λ o. operated_of o a.x a.y) (last_operator n))

@@ -1,7 +1,7 @@
 -- Arm by arm.
-use Rattle.std.proofs.Common.{sym}
+use Rattle.std.proofs.Common.{sym, arith}
 use Rattle.expression.specs.Reading.{rank_by}
-use Rattle.expression.proofs.Operators.{no_rank}
+use Rattle.expression.proofs.Operators.{NoneOfFive, no_rank}
 use Rattle.expression.proofs.arithmetic.rank_of.Goals as goal
 
 pub returns-in-42 : goal.returns-in-42
@@ -30,4 +30,6 @@ returns-in-124 c = rw c.in-124.is
 
 pub returns-in_default : goal.returns-in_default
 unfolding rank_by
-returns-in_default c = sym (no_rank c.in_default.in_default-own.rest)
+returns-in_default c =
+    let n : NoneOfFive c.args.symbol = (((((tt, omega arith), omega arith), omega arith), omega arith), omega arith) in
+    sym (no_rank (n, omega arith))

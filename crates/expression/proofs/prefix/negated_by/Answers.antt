@@ -10,4 +10,4 @@ pub returns-then-minus-eq1 : goal.returns-then-minus-eq1
 returns-then-minus-eq1 c = signed_once _ c.in-Read.is c.if-minus-eq1.true c.negated.ensures
 
 pub returns : goal.returns
-returns c = signed_even _ c.in-Read.is c.requires c.if-minus-eq1.false (omega (arith, c.in-Read.known_told-1-own.given.0))
+returns c = signed_even _ c.in-Read.is c.requires c.if-minus-eq1.false (omega arith)

@@ -8,24 +8,21 @@ use Rattle.statement.specs.Syntax.{table}
 use Rattle.listing.proofs.Rows.{row_small, name_short, bare_written, operands_written}
 use Rattle.listing.proofs.text.with_instruction.Goals as goal
 
-small : (c : tie.After-kind-number) → c.kind-number.result < length table
-small c = row_small c.before.args.i.kind c.kind-number.ensures
-
 pub mnemonic_length-requires : goal.mnemonic_length-requires
-mnemonic_length-requires c = small c
+mnemonic_length-requires c = row_small c.args.i.kind c.kind_number-row.ensures
 
 pub overflow_add-to : goal.overflow_add-to
-overflow_add-to c = omega (arith, name_short (small c) c.mnemonic_length.ensures)
+overflow_add-to c = omega (arith, name_short (row_small c.args.i.kind c.kind_number-row.ensures) c.mnemonic_length.ensures)
 
 pub slice_bounds-with_word-end : goal.slice_bounds-with_word-end
 slice_bounds-with_word-end c =
-    let few = small c in
+    let few : c.kind_number-row.result < length table = row_small c.args.i.kind c.kind_number-row.ensures in
     let short = name_short few c.mnemonic_length.ensures in
     search rules
 
 pub bounds-table-operands : goal.bounds-table-operands
 bounds-table-operands c =
-    let few = small c in
+    let few : c.kind_number-row.result < length table = row_small c.args.i.kind c.kind_number-row.ensures in
     search rules
 
 pub returns-then-table-operands-eq32 : goal.returns-then-table-operands-eq32
@@ -34,10 +31,10 @@ returns-then-table-operands-eq32 c =
     c.if-table-operands-eq32.true
 
 pub field_of-requires : goal.field_of-requires
-field_of-requires c = small c
+field_of-requires c = row_small c.args.i.kind c.kind_number-row.ensures
 
 pub with_items-requires : goal.with_items-requires
-with_items-requires c = (omega (arith, small c, ap length c.table-table.ensures), c.requires)
+with_items-requires c = (omega (arith, row_small c.args.i.kind c.kind_number-row.ensures, ap length c.table-table.ensures), c.requires)
 
 pub returns : goal.returns
 returns c =

@@ -2,5 +2,5 @@
 use Rattle.printing.proofs.Writing.{◌then◌}
 use Rattle.listing.proofs.text.with_value.Goals as goal
 
-pub with_hex-requires : goal.with_hex-requires
-with_hex-requires c = c.with_word.ensures then c.with_hex.ensures
+pub returns : goal.returns
+returns c = c.with_word.ensures then c.with_hex.ensures

@@ -4,7 +4,7 @@ use Rattle.page.proofs.Rounds.{start, can_turn, few, goes_on, as_long_as, ends}
 use Rattle.page.proofs.turns.round.Goals as goal
 
 pub loop-i-init : goal.loop-i-init
-loop-i-init c = start _ _ _ _ _ x
+loop-i-init c = λ x. start _ _ _ _ _ x
 
 pub offset_bounds-states-i : goal.offset_bounds-states-i
 offset_bounds-states-i c = omega (arith, c.requires.few, c.loop-i-test.true)
@@ -58,4 +58,4 @@ pub shape_of-log : goal.shape_of-log
 shape_of-log c = let x = c.requires in (as_long_as _ _ _ _ _ (c.loop-i.invariant x) x.stands x.number).parts
 
 pub returns : goal.returns
-returns c = ends _ _ _ _ _ (c.loop-i.invariant x) (omega (arith, c.loop-i-test.false))
+returns c = λ x. ends _ _ _ _ _ (c.loop-i.invariant x) (omega (arith, c.loop-i-test.false))

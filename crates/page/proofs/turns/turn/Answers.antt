@@ -68,13 +68,13 @@ slice_bounds-run-end-5 c = let k = rooms c.requires in omega arith
 
 pub with_run-requires : goal.with_run-requires
 with_run-requires c =
-    let k = c.run-ran.auto.1.1.1 in
-    has_room c.requires (engine_of c.args.by_table) (lawful c.args.by_table) c.run-ran.result c.run-ran.ensures k.0 k.1.0 k.1.1.0 k.1.1.1.1.0
-    c.report_of-report.ensures (omega (arith, c.well_formed.1.1.1.1.1.1.1.1.1.1.1.0.0))
+    let k = c.run-ran.auto in
+    has_room c.requires (engine_of c.args.by_table) (lawful c.args.by_table) c.run-ran.result c.run-ran.ensures k.memory k.inputs k.outputs k.log
+    c.report_of-report.ensures (omega arith)
 
 pub returns : goal.returns
 returns c =
-    let k = c.run-ran.auto.1.1.1 in
+    let k = c.run-ran.auto in
     λ x.
-    turned x (engine_of c.args.by_table) (lawful c.args.by_table) c.run-ran.result c.run-ran.ensures k.0 k.1.0 k.1.1.0 k.1.1.1.1.0
+    turned x (engine_of c.args.by_table) (lawful c.args.by_table) c.run-ran.result c.run-ran.ensures k.memory k.inputs k.outputs k.log
     c.report_of-report.ensures c.with_run.ensures c.args.again (sym c.is_left_out.ensures ∙ c.if-is_left_out.false)

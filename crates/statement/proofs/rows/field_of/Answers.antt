@@ -1,4 +1,5 @@
 -- By the row; `field_row` compares the others.
+use native.Mathlib.Omega.{arith}
 use borrow.Author.Tests.{ne_eqb}
 use Rattle.statement.specs.Table.{field_of}
 use Rattle.statement.proofs.Tables.{field_row}
@@ -19,5 +20,4 @@ returns-in-21 c = rw c.in-21.is
 pub returns-in_default : goal.returns-in_default
 unfolding field_of
 returns-in_default c =
-    let r = c.in_default.in_default-own.rest in
-    rw (ne_eqb _ _ r.0.0.1, ne_eqb _ _ r.0.1, ne_eqb _ _ r.1) at (field_row _ c.requires)
+    rw (ne_eqb c.args.row 19 (omega arith), ne_eqb c.args.row 20 (omega arith), ne_eqb c.args.row 21 (omega arith)) at (field_row _ c.requires)
