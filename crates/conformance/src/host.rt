@@ -1,5 +1,4 @@
-// The host step by value. It is called over a state by reference, which the borrow checker does not cover, and the proof of
-// `host_step` walks the code by hand: so it only lends the state and hands back what there is then.
+// The host step by value: it lends a state, as a C host does, and hands back what there is then.
 use machine::State;
 use replies::SisaRun;
 

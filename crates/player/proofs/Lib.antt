@@ -1,3 +1,4 @@
 pub mod Digests
 pub mod Places
 pub mod Tests
+mod Prints

@@ -3,3 +3,4 @@ pub mod Digest
 pub mod Lent
 pub mod File
 pub mod Runs
+pub mod Print

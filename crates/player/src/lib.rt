@@ -1,4 +1,4 @@
-// What the conformance programs share (docs/CONFORMANCE.md). A function without a contract only prints.
+// What the conformance programs share (docs/CONFORMANCE.md).
 #![tactic(auto)]
 
 pub mod digest;

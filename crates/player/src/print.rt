@@ -1,7 +1,8 @@
 // Printing to a writer.
-ghost use Rattle.std.specs.Prelude.{[], ◌∷◌, ◌++◌, OnOk};
-ghost use Rattle.std.specs.Fmt.{decimal};
+ghost use Rattle.std.specs.Prelude.{OnOk};
 ghost use Rattle.std.specs.Io.KnownBytes.{Appends};
+ghost use Rattle.player.specs.Digest.{digest_of_left};
+ghost use Rattle.player.specs.Print.{field, fields, last_field, lines};
 
 use crate::digest;
 use crate::lent::{Log, Memory, Ports};
@@ -17,13 +18,15 @@ pub fn text<W: Write>(out: &mut W, bytes: &[u8]) -> io::Result<()>
 
 // A space and a number.
 pub fn field<W: Write>(out: &mut W, n: u64) -> io::Result<()>
-    ensures { OnOk result (Appends (W.contents out.old) (W.contents out.new) (32 ∷ decimal n)) }
+    ensures { OnOk result (Appends (W.contents out.old) (W.contents out.new) (field n)) }
 {
     write!(out, " {n}")
 }
 
 // The fields of a line, but for its last.
-pub fn fields<W: Write>(out: &mut W, numbers: &[u64]) -> io::Result<()> {
+pub fn fields<W: Write>(out: &mut W, numbers: &[u64]) -> io::Result<()>
+    ensures { OnOk result (Appends (W.contents out.old) (W.contents out.new) (fields numbers.now)) }
+{
     for n in numbers {
         field(out, *n)?;
     }
@@ -32,7 +35,7 @@ pub fn fields<W: Write>(out: &mut W, numbers: &[u64]) -> io::Result<()> {
 
 // The last field of a line.
 pub fn last_field<W: Write>(out: &mut W, n: u64) -> io::Result<()>
-    ensures { OnOk result (Appends (W.contents out.old) (W.contents out.new) ((32 ∷ decimal n) ++ 10 ∷ [])) }
+    ensures { OnOk result (Appends (W.contents out.old) (W.contents out.new) (last_field n)) }
 {
     writeln!(out, " {n}")
 }
@@ -46,13 +49,17 @@ pub fn left<W: Write>(
     inputs: &Ports,
     outputs: &Ports,
     log: &Log,
-) -> io::Result<()> {
+) -> io::Result<()>
+    ensures { OnOk result (Appends (W.contents out.old) (W.contents out.new) (last_field (digest_of_left state program.now memory.now inputs.now outputs.now log.now))) }
+{
     let digest = digest::of_all(state, program, memory, inputs, outputs, log);
     last_field(out, digest as u64)
 }
 
 // The line of what a state has for interrupts, after call i.
-pub fn lines<W: Write>(out: &mut W, c: u16, i: u16, state: State) -> io::Result<()> {
+pub fn lines<W: Write>(out: &mut W, c: u16, i: u16, state: State) -> io::Result<()>
+    ensures { OnOk result (Appends (W.contents out.old) (W.contents out.new) (lines c i state)) }
+{
     text(out, b"lines")?;
     let numbers = [
         c as u64,

@@ -1,5 +1,8 @@
 // The runs of both programs: what is handed and lent, what is printed, and what the host keeps.
-ghost use Rattle.std.specs.Prelude.{◌≡◌, IfOk};
+ghost use Rattle.std.specs.Prelude.{◌≡◌, ◌++◌, IfOk, OnOk};
+ghost use Rattle.std.specs.Io.KnownBytes.{Appends};
+ghost use Rattle.player.specs.Digest.{digest_of_left};
+ghost use Rattle.player.specs.Print.{last_field, reply_fields};
 ghost use Rattle.player.specs.Runs.{of_call, handed_of, request_by, request_of, kept_after};
 
 use crate::lent::{Log, Memory, Ports, all_but};
@@ -94,7 +97,9 @@ pub fn kept_after(kept: State, reply: Reply) -> State
 }
 
 // What follows the engine's name on the line of a run, but for its digests.
-pub fn print_reply<W: Write>(out: &mut W, c: u16, i: u16, reply: Reply) -> io::Result<()> {
+pub fn print_reply<W: Write>(out: &mut W, c: u16, i: u16, reply: Reply) -> io::Result<()>
+    ensures { OnOk result (Appends (W.contents out.old) (W.contents out.new) (reply_fields c i reply)) }
+{
     let numbers = [
         c as u64,
         i as u64,
@@ -119,7 +124,8 @@ pub fn finish<W: Write>(
     outputs: &Ports,
     log: &Log,
 ) -> io::Result<State>
-    ensures { IfOk result (λ state. state ≡ kept_after kept reply) }
+    ensures kept { IfOk result (λ state. state ≡ kept_after kept reply) }
+    ensures printed { OnOk result (Appends (W.contents out.old) (W.contents out.new) (reply_fields c i reply ++ last_field (digest_of_left reply.state program.now memory.now inputs.now outputs.now log.now))) }
 {
     print_reply(out, c, i, reply)?;
     print::left(out, reply.state, program, memory, inputs, outputs, log)?;

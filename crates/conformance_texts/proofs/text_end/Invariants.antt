@@ -1,6 +1,5 @@
 -- The end stays in the input.
-use Prim.Native.Nat.{◌-◌, ◌≤◌}
-use lib.ListN.{length}
+use Rattle.std.proofs.Common.{◌-◌, ◌≤◌, length}
 use Rattle.conformance_texts.proofs.text_end.Given as goal
 
 abbrev pub invariant-loop-i : goal.invariant-loop-i

@@ -1,11 +1,7 @@
 -- The text is a part of its array.
-use mathlib.Core.Path.{sym}
-use lib.Seq.{length-take-le}
+use Rattle.std.proofs.Common.{arith}
 use Rattle.printing.proofs.Writing.{count_fits}
 use Rattle.panelrun.proofs.main.Goals as goal
 
-pub slice_bounds-bytes-end : goal.slice_bounds-bytes-end
-slice_bounds-bytes-end c = count_fits _ c.report-printed.ensures
-
-pub slice_bounds-write_all-end : goal.slice_bounds-write_all-end
-slice_bounds-write_all-end c = sym (length-take-le _ _ (count_fits _ c.report-printed.ensures))
+pub shared_ref_as_front-write_all : goal.shared_ref_as_front-write_all
+shared_ref_as_front-write_all c = omega (arith, count_fits _ c.report-printed.ensures)
