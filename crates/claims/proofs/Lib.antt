@@ -3,9 +3,9 @@ pub mod Answers
 pub mod Boards
 pub mod CReplies
 pub mod Chains
-pub mod Contracts
 pub mod Counts
 pub mod Decided
+pub mod EntryContracts
 pub mod Exports
 pub mod Feeding
 pub mod HostSteps

@@ -58,14 +58,14 @@ page_not_0 g k e z = by_tests (leb 1 g.count && leb g.count 8) (joined_fit g) e
 
 -- ---- As many trims as before
 
-second_long : (v : Stepper) (rest : ℕ) (cs : List CountedLeft) → length (second_round v rest cs) ≡ length cs
+second_long : (v : Stepper) (cs : List CountedLeft) (rest : ℕ) → length (second_round v rest cs) ≡ length cs
 unfolding second_round
-second_long v rest [] = refl
-second_long v rest (c ∷ cs) = ap suc (second_long v _ cs)
+second_long v [] rest = refl
+second_long v (c ∷ cs) rest = ap suc (second_long v cs _)
 
 ends_long : (v : Stepper) (g : PageGiven) → length (trims_end v g) ≡ g.count
 unfolding trims_end
-ends_long v g = second_long v _ (first_round v g) ∙ each_long (λ k. counted_left v (trim g (share g) k)) 0 g.count
+ends_long v g = second_long v (first_round v g) _ ∙ each_long (λ k. counted_left v (trim g (share g) k)) 0 g.count
 
 -- ---- The count of journal entries
 
@@ -93,10 +93,10 @@ module _ (v : Stepper) (law : Lawful v) where
   on_is_0 zero c h = h
   on_is_0 (suc n) c h = let l = c.left in run_is_0 l.state l.P l.D l.I l.O (suc n) _ (inr h)
 
-  second_0 : (rest : ℕ) (cs : List CountedLeft) → Each Is0 cs → Each Is0 (second_round v rest cs)
+  second_0 : (cs : List CountedLeft) (rest : ℕ) → Each Is0 cs → Each Is0 (second_round v rest cs)
   unfolding second_round
-  second_0 rest [] h = tt
-  second_0 rest (c ∷ cs) h = (on_is_0 rest c h.0, second_0 _ cs h.1)
+  second_0 [] rest h = tt
+  second_0 (c ∷ cs) rest h = (on_is_0 rest c h.0, second_0 cs _ h.1)
 
   module _ (g : PageGiven) where
     first_0 : (ks : List ℕ) → Each (λ k. verdict_on (trim g g.budget k) ≡ accepted) ks → Each Is0 (map (λ k. counted_left v (trim g (share g) k)) ks)
@@ -109,7 +109,7 @@ module _ (v : Stepper) (law : Lawful v) where
 
     ends_0 : accepted ≡ page_verdict g → Each Is0 (trims_end v g)
     unfolding trims_end
-    ends_0 e = second_0 _ (first_round v g) (first_0 (up_from 0 g.count) (accepts g e).trims)
+    ends_0 e = second_0 (first_round v g) _ (first_0 (up_from 0 g.count) (accepts g e).trims)
 
 each_at : (cs : List CountedLeft) (past : List State) → Each Is0 cs → (k : ℕ) → k < length cs → (get_or (map (λ c. c.left.state) cs ++ past) k reset).journaled ≡ 0
 each_at [] past h k l = absurd (omega arith)

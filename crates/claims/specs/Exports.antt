@@ -1,4 +1,4 @@
--- What the check itself reads in the contracts of the C interface, as specs/Contracts.antt has it for the functions below it.
+-- What the check itself reads in the contracts of the C interface, as specs/EntryContracts.antt has it for the functions below it.
 -- sisa_host_step takes the state by reference and has no such reading; specs/HostSteps.antt has its relation.
 use contract.Lifetimes.{Lfts}
 use Rattle.std.specs.Prelude.{not, ◌↔◌, ◌≡◌, eqb}
@@ -27,7 +27,7 @@ use Rattle.sisa.proofs.sisa_feed.Reads as feed
 use Rattle.sisa.proofs.sisa_read.Reads as read
 use Rattle.sisa.proofs.sisa_write.Reads as write
 use Rattle.sisa.proofs.sisa_window.Reads as window
-use Rattle.claims.specs.Contracts.{RunArguments, no_journal_of, with_journal, given_by, PageArguments, page_given_by, back_given_by}
+use Rattle.claims.specs.EntryContracts.{RunArguments, no_journal_of, with_journal, given_by, PageArguments, page_given_by, back_given_by}
 
 -- what a run that goes by v says
 abbrev pub RunSays : {X : Type 0} → (X → Journal) → Stepper → RunArguments X → SisaRun → RunArguments X → Type 0

@@ -1,7 +1,7 @@
 pub mod Answers
 pub mod Boards
 pub mod CReplies
-pub mod Contracts
+pub mod EntryContracts
 pub mod Exports
 pub mod HostSteps
 pub mod Refusals

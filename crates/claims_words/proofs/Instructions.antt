@@ -8,8 +8,8 @@ use Rattle.word.specs.Word.{pick}
 use Rattle.word.proofs.Tests.{clash, never}
 use Rattle.isa.specs.declared.Instruction.{Instruction}
 use Rattle.isa.specs.Sheet.{sheet_line}
-use Rattle.isa.specs.Instructions.{Read, instruction, unassigned, read_of, WriteReply, word, write_refused, fits, write_of}
-use Rattle.claims_words.specs.Instructions.{Unassigned, InRange, Instructions}
+use Rattle.isa.specs.Instructions.{Read, instruction, unassigned, read_of, word, write_refused, fits, write_of}
+use Rattle.claims_words.specs.Instructions.{InRange, Instructions}
 use Rattle.claims_words.proofs.Computed.{read_then_written}
 use Rattle.claims_words.proofs.Decides.{Decides}
 use Rattle.claims_words.proofs.Ranges.{stays_in_range}

@@ -1,8 +1,8 @@
 -- The writer's test is the statement's InRange.
 -- Assumes nothing.
-use mathlib.Core.Path.{◌≡◌, refl, sym, subst}
-use mathlib.Core.Bool.{Bool, true, false, ◌&&◌, ◌||◌}
-use mathlib.Core.Logic.{◌⊎◌, ⊎_elim, ◌↔◌}
+use mathlib.Core.Path.{◌≡◌, sym, subst}
+use mathlib.Core.Bool.{Bool, ◌||◌}
+use mathlib.Core.Logic.{⊎_elim}
 use Prim.Native.Nat.{ℕ, ◌^◌, ◌<◌}
 use native.Mathlib.Omega.{arith}
 use lib.Dec.{T, eqb, ltb}
@@ -12,7 +12,7 @@ use Rattle.word.specs.Word.{pick}
 use Rattle.word.proofs.Computed.{both, both_split, all}
 use Rattle.kinds.specs.declared.Kind.{Kind}
 use Rattle.isa.specs.declared.Instruction.{Instruction}
-use Rattle.isa.specs.Sheet.{Number, signed_n, unsigned_n, Line, sheet_line}
+use Rattle.isa.specs.Sheet.{Number, signed_n, unsigned_n, sheet_line}
 use Rattle.isa.specs.Instructions.{in_range, fits}
 use Rattle.isa.proofs.Every.{every}
 use Rattle.claims_words.specs.Instructions.{RegisterRange, Range, InRange}

@@ -1,9 +1,9 @@
 -- The unassigned words, by one test over opcode, e and f.
 -- Assumes nothing.
-use mathlib.Core.Path.{◌≡◌, refl, sym, ◌∙◌, ap}
+use mathlib.Core.Path.{◌≡◌, refl, sym, ◌∙◌}
 use mathlib.Core.Bool.{Bool, true, false, beq, ◌&&◌, ◌||◌}
 use mathlib.Core.Logic.{◌⊎◌, ◌↔◌}
-use Prim.Native.Nat.{ℕ, ◌/◌, ◌%◌, ◌<◌}
+use Prim.Native.Nat.{ℕ, ◌<◌}
 use native.Mathlib.Omega.{arith}
 use lib.Dec.{T, eqb, leb}
 use Rattle.word.specs.Fields.{opcode, e_of, f_of}
@@ -12,7 +12,7 @@ use Rattle.word.proofs.Tests.{clash, never, same_test}
 use Rattle.isa.specs.declared.rows.Entry.{Entry}
 use Rattle.isa.specs.declared.rows.Entry.TheVariants.{Unassigned as Empty, Assigned}
 use Rattle.isa.specs.Sheet.{kind_at}
-use Rattle.isa.specs.Instructions.{Read, instruction, unassigned, read_as, read_of}
+use Rattle.isa.specs.Instructions.{unassigned, read_as, read_of}
 use Rattle.claims_words.specs.Instructions.{Unassigned}
 use Rattle.claims_words.proofs.Decides.{Decides, decides_eq, decides_le, decides_and, decides_or}
 

@@ -5,8 +5,8 @@ use Rattle.word.specs.Fields.{Bits, field, opcode, f_of}
 use Rattle.word.specs.Word.{pick}
 use Rattle.kinds.specs.declared.Kind.{Kind}
 use Rattle.isa.specs.declared.Instruction.{Instruction}
-use Rattle.isa.specs.Sheet.{Number, signed_n, unsigned_n, Line, sheet_line}
-use Rattle.isa.specs.Instructions.{Read, instruction, unassigned, read_of, WriteReply, word, write_refused, placed, write_of}
+use Rattle.isa.specs.Sheet.{Number, signed_n, unsigned_n, sheet_line}
+use Rattle.isa.specs.Instructions.{instruction, unassigned, read_of, word, write_refused, placed, write_of}
 
 -- the unassigned words: opcode 1 with f = 2, 6 or 7, opcode 11 with f = 3, 6 or 7, opcode 12 with f = 4 to 7, and opcodes 13 to 15
 abbrev pub Unassigned : ℕ → Type 0

@@ -1,6 +1,6 @@
--- Each contract, as the check reads it, is the relation that stands in specs/Contracts.antt, word for word.
+-- Each contract, as the check reads it, is the relation that stands in specs/EntryContracts.antt, word for word.
 -- Assumes nothing.
-use Rattle.claims.specs.Contracts.{Contracts}
+use Rattle.claims.specs.EntryContracts.{Contracts}
 
 pub contracts : Contracts
 contracts =

@@ -1,7 +1,7 @@
 -- What the check itself reads in each entry point's contract: that the caller is asked nothing (Asked), and what the caller
 -- learns (Learnt). κs are the lifetimes, a the arguments in their order, r the result, s the arguments at exit.
 use contract.Lifetimes.{Lfts}
-use Rattle.std.specs.Borrow.{Bor}
+use Rattle.std.specs.Borrow.{Bor, MutBor}
 use Rattle.std.specs.Prelude.{◌↔◌, ◌≡◌, List, ℕ}
 use Rattle.refusal.specs.Refusals.{refusal_number}
 use Rattle.machine.specs.declared.State.{State}
@@ -53,19 +53,22 @@ use Rattle.listing.proofs.line_at.Reads as line_at
 use Rattle.diagnostic.proofs.diagnostic.Reads as diagnostic
 use Rattle.trimfile.proofs.from_text.Reads as from_text
 
--- a lent slice
+-- a slice that is lent by &, and one that is lent by &mut
 abbrev pub LentSlice : Type 0
 LentSlice = Bor (List ℕ)
 
+abbrev pub LentMutSlice : Type 0
+LentMutSlice = MutBor (List ℕ)
+
 -- a run's arguments: state, program, memory, inputs, outputs, budget, log, and what follows the log
 abbrev pub RunArguments : Type 0 → Type 0
-RunArguments X = State × (LentSlice × (LentSlice × (LentSlice × (LentSlice × (ℕ × (LentSlice × X))))))
+RunArguments X = State × (LentSlice × (LentMutSlice × (LentMutSlice × (LentMutSlice × (ℕ × (LentMutSlice × X))))))
 
 -- the journal that follows it: none, or one
 abbrev pub no_journal_of : Unit {0} → Journal
 no_journal_of x = no_journal
 
-abbrev pub with_journal : LentSlice × Unit {0} → Journal
+abbrev pub with_journal : LentMutSlice × Unit {0} → Journal
 with_journal x = lent_journal x.0.now
 
 -- what it is given
@@ -87,7 +90,7 @@ RunSays journal v a r s =
 
 -- a page's arguments: trims, count, programs, memories, inputs, outputs, budget, log
 abbrev pub PageArguments : Type 0
-PageArguments = Trims × (ℕ × (LentSlice × (LentSlice × (LentSlice × (LentSlice × (ℕ × (LentSlice × Unit {0})))))))
+PageArguments = Trims × (ℕ × (LentSlice × (LentMutSlice × (LentMutSlice × (LentMutSlice × (ℕ × (LentMutSlice × Unit {0})))))))
 
 abbrev pub page_given_by : PageArguments → PageGiven
 page_given_by a =
@@ -111,7 +114,7 @@ PageSays v a r s =
 
 -- the arguments of going back: state, program, memory, inputs, outputs, journal, k
 abbrev pub BackArguments : Type 0
-BackArguments = State × (LentSlice × (LentSlice × (LentSlice × (LentSlice × (LentSlice × (ℕ × Unit {0}))))))
+BackArguments = State × (LentSlice × (LentMutSlice × (LentMutSlice × (LentMutSlice × (LentSlice × (ℕ × Unit {0}))))))
 
 abbrev pub back_given_by : BackArguments → BackGiven
 back_given_by a =
