@@ -3,7 +3,7 @@
 use mathlib.Core.Path.{◌≡◌, refl, sym, ap, subst, ◌∙◌}
 use mathlib.Core.Bool.{Bool, true, false, not, ◌&&◌, ◌||◌}
 use mathlib.Core.List.{List, [], ◌∷◌}
-use Prim.Native.Nat.{ℕ, zero, suc, ◌+◌, ◌*◌, ◌<◌, ◌≤◌}
+use Prim.Native.Nat.{ℕ, zero, suc, ◌+◌, ◌<◌}
 use native.Mathlib.Nat.{zero-add}
 use native.Mathlib.Omega.{arith}
 use borrow.Author.Tests.{eqb-true}
@@ -11,16 +11,15 @@ use lib.Dec.{eqb}
 use lib.ListN.{length, get_or}
 use Rattle.word.specs.Word.{pick, flag}
 use Rattle.word.specs.Fields.{opcode, e_of, f_of}
-use Rattle.kinds.specs.declared.Kind.{Kind}
 use Rattle.kinds.specs.Kinds.{kinds, kind_number}
 use Rattle.isa.specs.declared.rows.Entry.{Entry}
 use Rattle.isa.specs.declared.rows.Entry.TheVariants.{Unassigned, Assigned}
 use Rattle.isa.specs.Sheet.{kind_at}
 use Rattle.machine.specs.Machine.{Machine, takes_line}
 use Rattle.machine.specs.Step.{fetched}
-use Rattle.usage.specs.Usage.{is_kind, does_kind, added_from, usage_of, ticks_at, ticks_of}
+use Rattle.usage.specs.Usage.{is_kind, does_kind, added_from, usage_of, ticks_of}
 use Rattle.usage.specs.Counting.{ticks_counted}
-use Rattle.usage.proofs.Sums.{Sized, trace_sized}
+use Rattle.usage.proofs.Sums.{trace_sized}
 
 -- the place k, from number n on
 added_at : (n k : ℕ) (t : ℕ → Bool) (xs : List ℕ) → k < length xs → get_or (added_from n t xs) k 0 ≡ get_or xs k 0 + flag (t (n + k))
