@@ -91,13 +91,13 @@ undone_is {xs} {m} k ms h z =
 -- those of them that are an output's are of OUTs
 pub fallen_is : {xs : List ℕ} {m : Machine} (k : ℕ) (ms : List Machine) → k ≤ length ms → History xs m ms → fallen k (length ms) xs ≡ outs (take k ms)
 unfolding fallen outs
-fallen_is zero ms h z = refl
-fallen_is (suc k) [] h z = absurd (omega arith)
-fallen_is {xs} (suc k) (p ∷ ms) h z =
+fallen_is {m = m} zero ms h z = refl
+fallen_is {m = m} (suc k) [] h z = absurd (omega arith)
+fallen_is {xs = xs} {m = m} (suc k) (p ∷ ms) h z =
     let l = last z in
     let here = ap is_output l.entry ∙ (taken_back p l.next (known l.before).sound.stays_in_range l.stepped).output in
     ap (λ i. flag (is_output (get_or xs i 0)) + fallen k i xs) (one_less (length ms))
-    ∙ (λ i. flag (here i) + fallen_is k ms (omega arith) l.before i)
+    ∙ (λ i. flag (here i) + fallen_is {m = p} k ms (omega arith) l.before i)
 
 -- ---- The call
 
