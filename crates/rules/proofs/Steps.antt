@@ -1,7 +1,7 @@
 -- What is held after the step of a word: at no port, IN, and OUT.
 -- Assumes nothing.
 use mathlib.Core.Path.{◌≡◌, refl, sym, ap, ap₂, ◌∙◌}
-use mathlib.Core.Bool.{Bool, true, false, ◌&&◌}
+use mathlib.Core.Bool.{true, false, ◌&&◌}
 use mathlib.Core.List.{List}
 use Prim.Native.Nat.{ℕ, ◌+◌, ◌*◌, ◌%◌, ◌≤◌, ◌<◌}
 use native.Mathlib.Omega.{arith}
@@ -13,7 +13,7 @@ use Rattle.machine.specs.declared.Stepped.{Stepped}
 use Rattle.machine.specs.Machine.{put_r, read_from}
 use Rattle.machine.specs.Step.{d11_9, rule, choice, Next, cannot, to, step_by, input, output}
 use Rattle.machine.specs.Run.{is_out, unless}
-use Rattle.machine.specs.Held.{Held, held, machine_of, is_full, outcome_of, StepMeets}
+use Rattle.machine.specs.Held.{Held, held, machine_of, is_full, outcome_of}
 use Rattle.machine.proofs.Answers.{Leaves, answered}
 use Rattle.machine.proofs.Log.{put_take, put_drop}
 use Rattle.rules.specs.Parts.{advanced_of, RuleMeets, ra_of}

@@ -1,5 +1,5 @@
 -- What a run replies and leaves, of what it is given (01, "Runs", "Refusal table"), by the rules or by a control table.
-use Rattle.std.specs.Prelude.{◌≡◌, Bool, true, false, List, [], ◌++◌, map, ℕ, ◌+◌, ◌-◌, min, eqb, leb, length, take, drop}
+use Rattle.std.specs.Prelude.{◌≡◌, Bool, true, false, List, [], ◌++◌, map, ℕ, ◌+◌, ◌-◌, min, leb, length, take, drop}
 use Rattle.refusal.specs.Refusals.{refusal_number, Verdict, accepted, refused}
 use Rattle.word.specs.Word.{pick}
 use Rattle.machine.specs.declared.State.{State}
@@ -10,7 +10,6 @@ use Rattle.machine.specs.Run.{Stepper, Outcome, run, trace}
 use Rattle.journal.specs.Journal.{entry_of}
 use Rattle.usage.specs.declared.Usage.{Usage}
 use Rattle.usage.specs.Usage.{unused, usage_of, ticks_of}
-use Rattle.run.specs.declared.Report.{Report}
 use Rattle.run.specs.declared.Answer.{Answer}
 use Rattle.run.specs.declared.Answer.TheVariants.{Stopped, Refused}
 use Rattle.run.specs.declared.Ran.{Ran}

@@ -1,5 +1,5 @@
 -- The loop undoes the entries (`Undoing`); the measure is how many are left.
-use Rattle.back.proofs.Turns.{Undoing, start}
+use Rattle.back.proofs.Turns.{Undoing}
 use Rattle.back.proofs.go_back.Given as goal
 
 abbrev pub invariant-loop-left : goal.invariant-loop-left

@@ -1,21 +1,18 @@
 -- The loops' turns and ends, by the laws of proofs/Loop.antt.
-use mathlib.Core.Logic.{⊎_elim, inl, inr}
+use mathlib.Core.Logic.{inl, inr}
 use mathlib.Core.Path.{◌≡◌, refl, sym, ap, ◌∙◌}
 use mathlib.Core.Bool.{false}
 use Prim.Native.Nat.{◌<◌}
 use native.Mathlib.Omega.{arith}
-use borrow.Author.Tests.{not-false, eqb-true}
 use Rattle.word.proofs.Tests.{never}
 use Rattle.machine.specs.Machine.{takes_line}
 use Rattle.usage.specs.Counting.{usage_with}
 use Rattle.places.specs.Places.{with_taken}
-use Rattle.run.specs.Runs.{given, journal_if}
-use Rattle.machine.specs.Held.{held}
 use Rattle.journal.proofs.Undone.{is_line_entry}
 use Rattle.machine.proofs.Lines.{takes_none}
-use Rattle.cycle.proofs.Chosen.{takes_both, Free}
+use Rattle.cycle.proofs.Chosen.{takes_both}
 use Rattle.cycle.proofs.Counts.{counts_at_once, counts_by_place}
-use Rattle.cycle.proofs.Loop.{start, ends_budget, ends_locked, room, place_room, journal_room, ready, takes_turns, journaled_stopped, ends_stopped, turns, clear_without, clear_once, Turning, in_budget, turned_on, free_here}
+use Rattle.cycle.proofs.Loop.{start, ends_budget, ends_locked, room, place_room, journal_room, ready, takes_turns, journaled_stopped, ends_stopped, turns, clear_without, clear_once, in_budget, turned_on, free_here}
 use Rattle.cycle.proofs.run_accepted.Goals as goal
 use Rattle.cycle.proofs.run_accepted.Goals.{then-state-ne0+else-is_locked, else-state-ne0, then-keeps, else-keeps, then-waits+then-state-ne0-2+else-state-ne0-3, then-waits+else-state-ne0-2, else-waits, then-keeps-2, else-keeps-2, then-keeps-3, else-keeps-3, then-counts-ge-PLACES, else-counts-ge-PLACES}
 

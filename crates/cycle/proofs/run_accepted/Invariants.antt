@@ -1,8 +1,5 @@
 -- The loops' turns and ends, by the laws of proofs/Loop.antt.
-use mathlib.Core.Path.{◌≡◌}
-use mathlib.Core.List.{List}
-use Prim.Native.Nat.{ℕ, ◌-◌}
-use Rattle.machine.specs.declared.State.{State}
+use Prim.Native.Nat.{◌-◌}
 use Rattle.usage.specs.Counting.{usage_with}
 use Rattle.run.specs.Runs.{given, journal_if}
 use Rattle.cycle.specs.Loops.{chosen}

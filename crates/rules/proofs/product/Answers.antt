@@ -1,6 +1,5 @@
 -- `rules::product` meets its contract: f chooses between the rule and stop 1, and a zero divisor is stop 3.
 use mathlib.Core.Path.{refl, sym, ◌∙◌}
-use mathlib.Core.Bool.{true, false}
 use Rattle.word.specs.Codes.{below6_but}
 use Rattle.word.specs.Fields.{f_of}
 use Rattle.muldiv.specs.Muldiv.{muldiv}

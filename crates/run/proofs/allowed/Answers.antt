@@ -1,6 +1,5 @@
 -- The lesser of the budget and the places left.
 use native.Mathlib.Omega.{arith}
-use borrow.Author.Tests.{not-true, not-false}
 use Rattle.run.proofs.Journals.{allowed_without, allowed_with}
 use Rattle.run.proofs.allowed.Goals as goal
 

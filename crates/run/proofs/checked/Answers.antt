@@ -1,7 +1,6 @@
 -- Test after test.
 use mathlib.Core.Path.{sym, ◌∙◌}
 use native.Mathlib.Omega.{arith}
-use borrow.Author.Tests.{not-true, not-false}
 use Rattle.run.proofs.Refusals.{refuse_1, refuse_5, refuse_6, accepts}
 use Rattle.run.proofs.checked.Goals as goal
 

@@ -1,6 +1,5 @@
 -- `rules::rule::divides_by_zero` meets its contract: f / 2 is 2 for 4 and 5 alone.
 use mathlib.Core.Path.{sym, ap, ◌∙◌}
-use mathlib.Core.Bool.{true, false}
 use borrow.Author.Tests.{eq-eqb, ne_eqb}
 use lib.Dec.{eqb}
 use Rattle.rules.proofs.Choices.{divisions}
