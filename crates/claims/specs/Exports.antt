@@ -1,5 +1,5 @@
 -- What the check itself reads in the contracts of the C interface, as specs/EntryContracts.antt has it for the functions below it.
--- sisa_host_step takes the state by reference and has no such reading; specs/HostSteps.antt has its relation.
+-- sisa_host_step takes the state by reference: what stands behind the reference is its first argument.
 use contract.Lifetimes.{Lfts}
 use Rattle.std.specs.Prelude.{not, ◌↔◌, ◌≡◌, eqb}
 use Rattle.machine.specs.Machine.{board_of}
@@ -10,7 +10,7 @@ use Rattle.control.specs.Control.{by_the_table}
 use Rattle.run.specs.Runs.{Journal}
 use Rattle.replies.specs.declared.SisaRun.{SisaRun}
 use Rattle.replies.specs.declared.SisaPage.{SisaPage}
-use Rattle.replies.specs.Sisa.{SisaLoadLeft, sisa_load_left, SisaSaveLeft, sisa_save_left, SisaAssembleLeft, sisa_assemble_left, SisaSetLeft, sisa_set_left, sisa_raise, sisa_left, SisaRunMeets, SisaPageMeets, SisaBackLeft, sisa_back_left, sisa_instruction, sisa_write, sisa_feed, is_hidden, sisa_window, chosen, bytes_of}
+use Rattle.replies.specs.Sisa.{SisaLoadLeft, sisa_load_left, SisaSaveLeft, sisa_save_left, SisaAssembleLeft, sisa_assemble_left, SisaSetLeft, sisa_set_left, sisa_raise, sisa_left, SisaRunMeets, SisaPageMeets, SisaBackLeft, sisa_back_left, HostStepMeets, host_lent, sisa_instruction, sisa_write, sisa_feed, is_hidden, sisa_window, chosen, bytes_of}
 use Rattle.sisa.proofs.sisa_load.Reads as load
 use Rattle.sisa.proofs.sisa_save.Reads as save
 use Rattle.sisa.proofs.sisa_assemble.Reads as assemble
@@ -24,6 +24,7 @@ use Rattle.sisa.proofs.sisa_page_by_rules.Reads as page_by_rules
 use Rattle.sisa.proofs.sisa_page_by_table.Reads as page_by_table
 use Rattle.sisa.proofs.sisa_step_back.Reads as step_back
 use Rattle.sisa.proofs.sisa_feed.Reads as feed
+use Rattle.sisa.proofs.host.sisa_host_step.Reads as host_step
 use Rattle.sisa.proofs.sisa_read.Reads as read
 use Rattle.sisa.proofs.sisa_write.Reads as write
 use Rattle.sisa.proofs.sisa_window.Reads as window
@@ -110,6 +111,13 @@ pub record Exports : Type 1 where
   pub run_by_table_with_journal_asks : (κs : Lfts 6) (a : _) → run_by_table_with_journal.Asked κs a
   pub run_by_table_with_journal :
       (κs : Lfts 6) (a : _) (r : _) (s : _) → run_by_table_with_journal.Learnt κs a r s ↔ RunSays with_journal by_the_table a r s
+  -- sisa_host_step(state, program, memory, inputs, outputs, log)
+  pub host_step_asks : (κs : Lfts 6) (a : _) → host_step.Asked κs a
+  pub host_step :
+      (κs : Lfts 6) (a : _) (r : _) (s : _)
+      → host_step.Learnt κs a r s
+      ↔ HostStepMeets (host_lent a.0.now a.1.0.now a.1.1.0.now a.1.1.1.0.now a.1.1.1.1.0.now a.1.1.1.1.1.0.now) r
+      (host_lent s.0.now s.1.0.now s.1.1.0.now s.1.1.1.0.now s.1.1.1.1.0.now s.1.1.1.1.1.0.now)
   -- sisa_page_by_rules(trims, count, programs, memories, inputs, outputs, budget, log)
   pub page_by_rules_asks : (κs : Lfts 5) (a : _) → page_by_rules.Asked κs a
   pub page_by_rules : (κs : Lfts 5) (a : _) (r : _) (s : _) → page_by_rules.Learnt κs a r s ↔ PageSays by_rules a r s
