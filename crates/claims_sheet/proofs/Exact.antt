@@ -1,12 +1,10 @@
 -- The masks have just the registers that they are said to have.
 -- Assumes nothing.
-use mathlib.Core.Path.{◌≡◌, refl, sym, ap, ap₂, subst, ◌∙◌}
+use mathlib.Core.Path.{◌≡◌, refl, ap, ap₂, subst, ◌∙◌}
 use mathlib.Core.Bool.{Bool, true, false, not, ◌&&◌, ◌||◌}
 use mathlib.Core.Option.{none, some}
 use Prim.Native.Nat.{ℕ, ◌^◌, ◌<◌}
 use native.Mathlib.Omega.{arith}
-use borrow.Author.Tests.{eqb-true, eqb-false}
-use lib.Bits.{bit_or}
 use lib.Dec.{T, eqb, eqb→eq}
 use Rattle.word.specs.Fields.{Bits, field, opcode, e_of, f_of}
 use Rattle.word.specs.Word.{pick}
@@ -21,7 +19,7 @@ use Rattle.isa.specs.declared.rows.Entry.{Entry}
 use Rattle.isa.specs.declared.rows.Entry.TheVariants.{Unassigned, Assigned}
 use Rattle.isa.specs.Sheet.{sheet_line, kind_at}
 use Rattle.isa.specs.Instructions.{Register, a_register, b_register, d_register, instruction, parts_of, read_as, read_of}
-use Rattle.isa.specs.Masks.{in_mask, register_mask, reads_destination, reads_of, writes_of, masks_as, masks_of}
+use Rattle.isa.specs.Masks.{in_mask, register_mask, reads_destination, reads_of, masks_as, masks_of}
 use Rattle.isa.proofs.Every.{every}
 use Rattle.claims_sheet.specs.Masks.{has, is_used, Exact}
 use Rattle.claims_sheet.proofs.Touched.{mask_of, in_one, in_or}

@@ -6,13 +6,11 @@ use mathlib.Core.Logic.{◌⊎◌, inl, inr}
 use Prim.Native.Nat.{ℕ, zero, suc, ◌+◌, ◌-◌, ◌*◌, ◌/◌, ◌%◌, ◌<◌}
 use native.Mathlib.Nat.{div-add-mod', mod-lt, zero-mul}
 use native.Mathlib.Omega.{arith}
-use borrow.Author.Tests.{ltb-true}
 use lib.Dec.{ltb}
 use lib.IntN.{ℤ, pos, negsuc, neg_ℤ, nat_abs, ◌+ℤ◌, ◌*ℤ◌, neg_ℤ-+ℤ}
 use lib.Signed.{non_neg, quot_z, rem_z}
 use Rattle.word.specs.Word.{pick, signed}
 use Rattle.word.proofs.Signed.{signed_is}
-use Rattle.word.proofs.Tests.{clash}
 use Rattle.claims_sheet.specs.Quotients.{TowardZero, Quotients}
 
 -- in ℕ

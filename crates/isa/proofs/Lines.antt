@@ -3,16 +3,15 @@
 use mathlib.Core.Path.{◌≡◌, refl, sym, ◌∙◌, ap}
 use mathlib.Core.Bool.{Bool, true, false, ◌&&◌}
 use mathlib.Core.List.{List, map}
-use Prim.Native.Nat.{ℕ, suc, ◌+◌, ◌-◌, ◌*◌, ◌/◌, ◌%◌, ◌^◌, ◌<◌, ◌≤◌}
+use Prim.Native.Nat.{ℕ, suc, ◌-◌, ◌*◌, ◌/◌, ◌%◌, ◌^◌, ◌<◌}
 use native.Mathlib.Nat.{mod-lt, div-one}
 use native.Mathlib.Omega.{arith}
 use borrow.Author.Tests.{ltb-true}
-use lib.Dec.{T, eqb, ltb, ltb→lt, eqb→eq}
+use lib.Dec.{eqb, ltb, ltb→lt, eqb→eq}
 use lib.IntN.{ℤ, pos, negsuc}
 use lib.Pow.{pow_pos}
 use lib.ListN.{get_or, get_or-map}
 use Rattle.refusal.specs.declared.Refusal.TheVariants.{InstructionPart}
-use Rattle.word.specs.Fields.{bits, field}
 use Rattle.word.specs.Word.{pick, signed, low_bits}
 use Rattle.word.proofs.Computed.{both, both_split, all}
 use Rattle.word.proofs.Signed.{signed_is, low_lt}
@@ -26,7 +25,7 @@ use Rattle.isa.specs.declared.layout.Layout.{Layout}
 use Rattle.isa.specs.declared.parts.Low.TheVariants.{Nothing, Bits}
 use Rattle.kinds.specs.Kinds.{kinds, kind_number}
 use Rattle.isa.specs.Sheet.{Format, R3, R3-NOT, R2-ab, R2-ad, R2-JALR, R1-a, R1-d, R0, R1-GETIID, Code, F, E, only, Number, signed_n, unsigned_n, Line, sheet_line}
-use Rattle.isa.specs.Instructions.{parts_of, WriteReply, word, write_refused, shown_writing, in_range, word_of, write_as}
+use Rattle.isa.specs.Instructions.{parts_of, word, write_refused, shown_writing, in_range, word_of, write_as}
 use Rattle.isa.specs.Layouts.{forms, form_of, layout_of, word_sum, Sound, number_of, bits_of, fields_of, write_bits, write_in}
 use Rattle.isa.proofs.Every.{listed, every}
 use Rattle.isa.proofs.Numbers.{unsigned_is, unsigned_bits, signed_bits}

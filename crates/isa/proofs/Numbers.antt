@@ -12,7 +12,6 @@ use lib.IntN.{ℤ, pos, negsuc}
 use lib.Signed.{le_z, lt_z}
 use Rattle.word.specs.Word.{pick, low_bits}
 use Rattle.word.proofs.Tests.{clash}
-use Rattle.isa.specs.declared.parts.Low.{Low}
 use Rattle.isa.specs.declared.parts.Low.TheVariants.{Nothing, Bits}
 use Rattle.isa.specs.Layouts.{number_of, bits_of}
 

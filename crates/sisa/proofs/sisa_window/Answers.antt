@@ -8,5 +8,5 @@ returns c =
     let a = c.args in
     let P = a.program.now in
     let D = a.memory.now in
-    shows a.state P D a.of-data a.start a.count
-    (c.window.ensures ∙ numbers a.state P D a.of-data a.start a.count _ c.window-part.ensures)
+    shows a.state P D a.of_data a.start a.count
+    (c.window.ensures ∙ numbers a.state P D a.of_data a.start a.count _ c.window-part.ensures)

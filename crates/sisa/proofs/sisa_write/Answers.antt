@@ -6,8 +6,8 @@ use borrow.Author.Rules.{rules}
 use Rattle.replies.specs.Sisa.{sisa_write}
 use Rattle.sisa.proofs.sisa_write.Goals as goal
 
-same_n : (c : tie.After-write) → to_z w16 (of_z w16 c.before.args.n) ≡ c.before.args.n
-same_n c = search rules
-
 pub returns : goal.returns
-returns c = let a = c.args in c.write.ensures ∙ ap (λ n. sisa_write a.kind a.a a.b a.d n) (same_n c)
+returns c =
+    let a = c.args in
+    let same : to_z w16 (of_z w16 a.n) ≡ a.n = search rules in
+    c.write.ensures ∙ ap (λ n. sisa_write a.kind a.a a.b a.d n) same

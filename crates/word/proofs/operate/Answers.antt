@@ -2,7 +2,6 @@
 use Rattle.std.proofs.Common.{sym, arith}
 use lib.ListN.{get_or-eq_default}
 use Rattle.word.specs.Word.{operations, operation}
-use Rattle.word.proofs.Tables.{past}
 use Rattle.word.proofs.operate.Goals as goal
 
 pub returns-in-0 : goal.returns-in-0
