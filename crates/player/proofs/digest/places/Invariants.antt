@@ -5,7 +5,7 @@ use Rattle.player.proofs.Digests.{Taking}
 use Rattle.player.proofs.digest.places.Given as goal
 
 abbrev pub invariant-loop-i : goal.invariant-loop-i
-invariant-loop-i l = (l.i_end ≡ length l.log) × Taking halves l.digest l.log l.after l.i
+invariant-loop-i l = (l.i-end ≡ length l.log) × Taking halves l.digest l.log l.after l.i
 
 abbrev pub decreases-loop-i : goal.decreases-loop-i
-decreases-loop-i l = l.i_end - l.i
+decreases-loop-i l = l.i-end - l.i
