@@ -1,17 +1,11 @@
 -- The definition that gives the paper's number and values for each case of an answer fixes the answer: two answers that
 -- it shows alike are one.
-use Rattle.std.specs.Prelude.{◌≡◌, ℕ}
-use Rattle.refusal.specs.declared.Refusal.{Refusal}
+use Rattle.std.specs.Prelude.{◌≡◌}
 use Rattle.refusal.specs.Refusals.{refusal_number}
-use Rattle.kinds.specs.declared.Kind.{Kind}
-use Rattle.isa.specs.declared.Writing.{Writing}
-use Rattle.panel.specs.declared.Setting.{Setting}
 use Rattle.panel.specs.Calls.{shown_setting, shown_raising}
-use Rattle.image.specs.declared.Loading.{Loading}
 use Rattle.image.specs.Image.{shown_loading}
 use Rattle.save.specs.Saved.{shown_saving}
 use Rattle.assembler.specs.Passes.{shown_assembly}
-use Rattle.run.specs.declared.Answer.{Answer}
 use Rattle.run.specs.Runs.{shown_answer, shown_verdict}
 use Rattle.back.specs.Backs.{shown_going}
 use Rattle.sheet.specs.Sheet.{shown_feeding}

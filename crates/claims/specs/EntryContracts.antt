@@ -22,7 +22,6 @@ use Rattle.page.specs.declared.Trims.{Trims}
 use Rattle.page.specs.declared.Paged.{Paged}
 use Rattle.page.specs.Pages.{PageGiven, page_of, PageMeets}
 use Rattle.back.specs.Backs.{BackGiven, BackLeft, shown_going, back_left}
-use Rattle.sheet.specs.declared.Sheet.{Sheet}
 use Rattle.sheet.specs.Sheet.{empty, FeedLeft, shown_feeding, feed_left}
 use Rattle.printing.specs.Text.{in_array}
 use Rattle.report.specs.Printed.{printed}

@@ -1,5 +1,5 @@
 -- The table that is lent is the paper's; a short run lends no places (`counts_short`).
-use mathlib.Core.Path.{ap, ◌∙◌}
+use mathlib.Core.Path.{ap}
 use native.Mathlib.Omega.{arith}
 use Rattle.run.specs.Runs.{lent_journal}
 use Rattle.run.proofs.Ticks.{few_counted}

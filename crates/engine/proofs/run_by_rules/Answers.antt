@@ -1,8 +1,7 @@
 -- The table that is lent is the paper's, no journal is kept, and a short run lends no places (`counts_short`).
 use mathlib.Core.Bool.{false}
-use mathlib.Core.Path.{refl, ap, ◌∙◌}
+use mathlib.Core.Path.{refl}
 use native.Mathlib.Omega.{arith}
-use lib.ListN.{length}
 use Rattle.run.proofs.Ticks.{few_counted}
 use Rattle.engine.proofs.Refusals.{by_paper, counts_short, same_handed, ticks_handed}
 use Rattle.engine.proofs.run_by_rules.Goals as goal
