@@ -16,7 +16,7 @@ use Rattle.usage.specs.Usage.{usage_of, ticks_of, plus_counts}
 use Rattle.usage.proofs.Sums.{trace_sized}
 use Rattle.usage.proofs.Traces.{usage_append, ticks_append}
 use Rattle.image.specs.Image.{loaded}
-use Rattle.run.specs.Runs.{left, outcome_on, run_left_by, run_left}
+use Rattle.run.specs.Runs.{outcome_on, run_left_by, run_left}
 use Rattle.claims.specs.Session.{stepper_of, Host, host_of, given_to}
 use Rattle.claims_back.specs.Longer.{lent_only, AcceptedRun, written, NoMore, Shorter, Longer}
 use Rattle.claims.proofs.Counts.{plus_at}
