@@ -100,8 +100,8 @@ pub data Calls : Host → List Call → List Reply → Host → Type 0 where
 
 -- the joining, in the order of the calls, of what the accepted runs wrote, each taken as its run returned
 abbrev pub wrote : Reply → List ℕ
-wrote (of_run (stopped q steps entries) u t log journal) = take entries log
-wrote (of_run (run_refused k) u t log journal) = []
+wrote (of_run (stopped q steps entries) u t log j) = take entries log
+wrote (of_run (run_refused k) u t log j) = []
 wrote (of_set r) = []
 wrote (of_raise r) = []
 
@@ -186,8 +186,8 @@ pub record Mirrors (file : List ℕ) (board : Board) (range : Range) (cs : List 
 
 -- a refused run in a list is refused with 6, a refused raising with 16, and no setting is refused
 abbrev pub Only6 : Reply → Type 0
-Only6 (of_run (stopped q s k) u t log journal) = Unit {0}
-Only6 (of_run (run_refused k) u t log journal) = k ≡ 6
+Only6 (of_run (stopped q s k) u t log j) = Unit {0}
+Only6 (of_run (run_refused k) u t log j) = k ≡ 6
 Only6 (of_set r) = r ≡ accepted
 Only6 (of_raise accepted) = Unit {0}
 Only6 (of_raise (refused k)) = k ≡ 16

@@ -95,7 +95,7 @@ pub data AnyCalls : Host → List AnyCall → List AnyReply → Host → Type 0 
 -- what a sheet is fed from the replies: the reply of each run and host step, and its counts
 unfoldable pub fed_of : List AnyReply → List Fed
 fed_of [] = []
-fed_of (did (of_run reply usage ticks log journal) ∷ rs) = record { reply = reply; usage = usage } ∷ fed_of rs
+fed_of (did (of_run reply usage ticks log j) ∷ rs) = record { reply = reply; usage = usage } ∷ fed_of rs
 fed_of (did (of_set v) ∷ rs) = fed_of rs
 fed_of (did (of_raise v) ∷ rs) = fed_of rs
 fed_of (went_back r journal ∷ rs) = fed_of rs
