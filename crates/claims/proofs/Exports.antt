@@ -1,4 +1,4 @@
--- Each export's contract, as the check reads it, is the relation that stands in specs/Exports.antt, word for word.
+-- Each function's contract, as the check reads it, is the relation that stands in specs/Exports.antt, word for word.
 -- Assumes nothing.
 use Rattle.claims.specs.Exports.{Exports}
 

@@ -1,4 +1,5 @@
--- What the check itself reads in the contracts of the C interface, as specs/EntryContracts.antt has it for the functions below it.
+-- What the check itself reads in the contracts of crate sisa's functions, which sisa_c exports to C under the same names, parameters and
+-- clauses, as specs/EntryContracts.antt has it for the functions below them.
 -- sisa_host_step takes the state by reference: what stands behind the reference is its first argument.
 use contract.Lifetimes.{Lfts}
 use Rattle.std.specs.Prelude.{not, ◌↔◌, ◌≡◌, eqb}
