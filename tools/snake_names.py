@@ -11,9 +11,10 @@ backticks in README.md and docs/. Two names that would fall together are told ap
 import collections
 import os
 import re
+from collections.abc import Iterator
 
-# Names whose snake form is taken, or that would fall together with another of ours.
-CHOSEN = {
+# Names whose snake form is taken or would fall together with another of ours. A row that is the rule's own answer keeps that name from `_lem`.
+CHOSEN: dict[str, str] = {
     "afterRun": "after_one_run",
     "freePart": "free_part_of",
     "goOn": "go_on_with",
@@ -46,12 +47,12 @@ CHOSEN = {
     "program-part": "the_program_part",
 }
 DECLARED = re.compile(r"(?m)^(\s*)((?:pub|abbrev|unfoldable|record|data|opaque) )*([^\s(){}\[\]:.,;@\"]+)((?: [^\s(){}\[\]:.,;@\"→=]+)*) :(?= |$)([^\n]*)")
-CASES = re.compile(r"(?m)^\s*(?:pub )?data [^\n]*where\n((?:[ \t]+[^\n]*\n|\s*\n)*)")
 TYPES = re.compile(r"(?m)^\s*(?:pub )?(?:record|data) ([^\s(){}]+)")
 TOKEN = re.compile(r"\"(?:[^\"\\\n]|\\.)*\"|[^\s(){}\[\].,;@\"«»]+")
 
 
-def files(*endings):
+def files(*endings: str) -> Iterator[str]:
+    """The files of the crates with one of these endings, in order."""
     for folder, dirs, names in os.walk("crates"):
         dirs[:] = sorted(d for d in dirs if d != "out")
         for name in sorted(names):
@@ -59,26 +60,29 @@ def files(*endings):
                 yield os.path.join(folder, name)
 
 
-def read(path):
+def read(path: str) -> str:
+    """The text of a file."""
     with open(path, encoding="utf-8") as f:
         return f.read()
 
 
-def snake(name):
+def snake(name: str) -> str:
     """camelCase to snake_case; a run of capitals that ends a part is one word."""
     name = re.sub(r"(?<=[a-z0-9])([A-Z]+)(?=$|[-_'0-9])", lambda m: "_" + m[1].lower(), name)
     return re.sub(r"(?<=[a-z0-9])([A-Z])", lambda m: "_" + m[1].lower(), name)
 
 
-def names():
-    declared, types = set(), set()
+def names() -> dict[str, str]:
+    """What each name that the .antt files declare, and that is not spelled so yet, is called."""
+    declared: set[str] = set()
+    types: set[str] = set()
     for path in files(".antt"):
         text = read(path)
         types |= set(TYPES.findall(text))
         for m in DECLARED.finditer(text):
             if not re.match(r"\s*(tie\.)?Need-", m[5]):
                 declared |= {m[3], *m[4].split()}
-    new = {}
+    new: dict[str, str] = {}
     for name in declared - types:
         if not re.match(r"[a-z]", name) or name.endswith(("-Inv-loop",)):
             continue
@@ -91,23 +95,24 @@ def names():
     for name, to in list(new.items()):
         if name in CHOSEN:
             new[name] = CHOSEN[name]
-        elif "-" in name and (together[to] > 1 or to in declared and "-" not in to and to in new.values() and together[to] > 1):
+        elif "-" in name and together[to] > 1:
             new[name] = to + "_lem"
     return new
 
 
-def main():
+def main() -> None:
+    """Rewrites the files."""
     new = names()
     camel = {a: b for a, b in new.items() if re.search("[a-z0-9][A-Z]", a) and "-" not in a}
 
-    def word(m):
+    def word(m: re.Match[str]) -> str:
         return new.get(m[0], m[0])
 
-    def comment(text):
+    def comment(text: str) -> str:
         text = re.sub(r"(?<![\w-])[a-z]\w*[A-Z]\w*(?![\w-])", lambda m: camel.get(m[0], m[0]), text)
         return re.sub(r"`([^`\s]+)`", lambda m: "`" + TOKEN.sub(word, m[1]) + "`", text)
 
-    def line(text, mark):
+    def line(text: str, mark: str) -> str:
         at = re.search(r"(^|\s)--(\s|$)" if mark == "--" else r"//", text)
         cut = at.start() if at else len(text)
         return TOKEN.sub(word, text[:cut]) + comment(text[cut:])
