@@ -1,5 +1,4 @@
 pub mod LineEnds
-pub mod Stores
 pub mod Taking
 pub mod Widths
 pub mod Scanning

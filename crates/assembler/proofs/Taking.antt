@@ -1,65 +1,40 @@
 -- What taking in a line changes: the place, and the reply.
 use Prim.Native.Nat.{ℕ, suc, ◌+◌, ◌*◌, ◌≤◌}
 use mathlib.Core.Bool.{Bool, true, false}
-use mathlib.Core.Path.{◌≡◌, refl, sym, ap, ◌∙◌}
+use mathlib.Core.Path.{◌≡◌, refl, ap}
 use mathlib.Core.List.{List, ◌∷◌, ◌++◌}
 use native.Mathlib.Omega.{arith}
-use lib.Dec.{eqb}
-use borrow.Author.Tests.{eqb-true, eqb-false, ne_eqb}
+use Rattle.std.proofs.Common.{Option, Result, Some, None, Ok, Err, IfOk}
 use Rattle.word.specs.Word.{pick}
 use Rattle.expression.specs.declared.Value.{Value}
 use Rattle.expression.specs.Grammar.{Tree}
-use Rattle.encoding.specs.declared.Judged.{Judged as Outcome}
-use Rattle.assembler.specs.declared.passes.Progress.{Progress}
+use Rattle.refusal.specs.declared.Refusal.{Refusal}
+use Rattle.assembler.specs.declared.Rejected.{Rejected}
 use Rattle.statement.specs.Syntax.{Statement, no_statement, of_row}
 use Rattle.statement.specs.Reading.{ReadLine, outside, reads, valued, valued_statement}
-use Rattle.assembler.specs.Text.{Place, crowded, admitted, new_labels, after, text_refused, reply_from}
-use Rattle.encoding.specs.Words.{words_in, Judged, bad, nothing, gives}
-use Rattle.encoding.specs.Numbers.{shown_judged}
-use Rattle.assembler.specs.Passes.{finish, moved}
+use Rattle.assembler.specs.Text.{Place, crowded, admitted, new_labels, after, reply_from}
+use Rattle.encoding.specs.Words.{words_in, Judged}
+use Rattle.encoding.specs.Numbers.{shown_word}
+use Rattle.assembler.specs.Passes.{finish_by, counted}
 
 -- ---- The reply
 
--- what `moved` does to the reply, by whether a line was turned away before, and whether this one is
-module _ (p : Progress) (count : ℕ) (j : Outcome) (js : List Judged) (started : 1 ≤ p.line) (one : j.words ≤ 1) where
-  line_on : suc p.line ≡ p.line + 1
-  line_on = omega arith
+pub counted_reply : (k : ℕ) (r : Result ℕ Rejected) (w : Result (Option ℕ) Refusal) (js : List Judged)
+    → finish_by k (shown_word w ∷ js) r ≡ finish_by (k + 1) js (counted k r w)
+unfolding reply_from
+counted_reply k (Err r) w js = refl
+counted_reply k (Ok n) (Err f) js = refl
+counted_reply k (Ok n) (Ok None) js = let e : suc k ≡ k + 1 = omega arith in rw e
+counted_reply k (Ok n) (Ok (Some w)) js =
+    let e : suc k ≡ k + 1 = omega arith in
+    let f : suc n ≡ n + 1 = omega arith in
+    rw (e, f)
 
-  fine : (b : Bool) → eqb j.words 0 ≡ b
-      → reply_from p.line p.words (pick b nothing (gives j.word) ∷ js) ≡ reply_from (p.line + 1) (p.words + j.words) js
-  unfolding reply_from
-  fine true e =
-      let z : p.words ≡ p.words + j.words = omega (arith, eqb-true j.words 0 e) in
-      ap (λ (k : ℕ). reply_from k p.words js) line_on ∙ ap (λ (k : ℕ). reply_from (p.line + 1) k js) z
-  fine false e =
-      let n : j.words ≡ 0 → ⊥ = eqb-false j.words 0 e in
-      let z : suc p.words ≡ p.words + j.words = omega arith in
-      ap (λ (k : ℕ). reply_from k (suc p.words) js) line_on ∙ ap (λ (k : ℕ). reply_from (p.line + 1) k js) z
-
-  pub moved_reply : finish p (shown_judged j ∷ js) ≡ finish (moved p count j) js
-  unfolding finish moved shown_judged reply_from
-  moved_reply = go (eqb p.first 0) refl (eqb j.number 0)
-    where
-      nonzero : eqb p.line 0 ≡ false
-      nonzero = let n : p.line ≡ 0 → ⊥ = λ e. omega arith in ne_eqb _ _ n
-
-      Stands : Bool → Bool → Type 0
-      Stands f n =
-          pick f (reply_from p.line p.words (pick n (pick (eqb j.words 0) nothing (gives j.word)) (bad j.number) ∷ js)) (text_refused p.first p.number)
-          ≡ finish
-          (pick f
-          (pick n
-          (record { line = p.line + 1; labels = count; words = p.words + j.words; address = p.address + 2 * j.words; first = 0; number = 0 })
-          (record { line = p.line + 1; labels = count; words = p.words; address = p.address + 2 * j.words; first = p.line; number = j.number }))
-          (record { line = p.line + 1; labels = count; words = p.words; address = p.address + 2 * j.words; first = p.first; number = p.number }))
-          js
-
-      go : (f : Bool) → eqb p.first 0 ≡ f → (n : Bool) → Stands f n
-      go true e true = fine (eqb j.words 0) refl
-      go true e false =
-          sym (ap (λ (b : Bool). pick b (reply_from (p.line + 1) p.words js) (text_refused p.line j.number)) nonzero)
-      go false e n =
-          sym (ap (λ (b : Bool). pick b (reply_from (p.line + 1) p.words js) (text_refused p.first p.number)) e)
+pub counted_few : (k m : ℕ) (r : Result ℕ Rejected) (w : Result (Option ℕ) Refusal) → IfOk r (λ n. n ≤ m) → IfOk (counted k r w) (λ n. n ≤ m + 1)
+counted_few k m (Err r) w h = tt
+counted_few k m (Ok n) (Err f) h = tt
+counted_few k m (Ok n) (Ok None) h = omega arith
+counted_few k m (Ok n) (Ok (Some w)) h = omega arith
 
 -- ---- The place: it goes by the line alone, not by its values
 

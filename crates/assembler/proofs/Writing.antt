@@ -5,30 +5,32 @@ use mathlib.Core.Path.{◌≡◌, refl, sym, ap, ◌∙◌, subst}
 use mathlib.Core.List.{List, [], ◌∷◌, ◌++◌, append_assoc, append-nil}
 use native.Mathlib.Omega.{arith}
 use lib.Dec.{eqb}
-use lib.ListN.{length, take, drop, length-append}
+use lib.ListN.{length, take, drop, get_or, length-append}
+use Rattle.std.proofs.Common.{Option, Some, None, Ok, Err}
 use lib.Seq.{take_at, drop_at, drop-drop}
-use borrow.Author.Tests.{eq-eqb, ne_eqb}
 use Rattle.word.specs.Word.{pick}
-use Rattle.word.proofs.Tests.{clash}
+use Rattle.word.proofs.Tests.{clash, either}
+use Rattle.refusal.specs.declared.Refusal.{Refusal}
+use Rattle.kinds.specs.declared.Kind.TheVariants.{And}
+use Rattle.kinds.specs.Kinds.{kinds}
+use Rattle.isa.specs.declared.Instruction.{Instruction}
+use Rattle.isa.specs.Instructions.{WriteReply, word, write_refused, write_of}
 use Rattle.token.specs.Scan.{first_line, tokens_at}
+use Rattle.expression.specs.declared.Label.{Label as Held}
 use Rattle.expression.specs.declared.Value.{Value}
 use Rattle.expression.specs.Operands.{operand_value}
 use Rattle.expression.specs.Grammar.{Tree, value_of}
 use Rattle.expression.specs.Reading.{labels}
 use Rattle.statement.specs.declared.line.Content.{Content}
-use Rattle.statement.specs.declared.line.Line.{Line as Found}
-use Rattle.statement.specs.declared.line.Line.TheVariants.{Outside, Reads}
 use Rattle.encoding.specs.declared.Judged.{Judged as Outcome}
-use Rattle.statement.specs.Syntax.{Line, line}
+use Rattle.statement.specs.Syntax.{row_at, Parts, Statement, no_statement, of_row, Line, line}
 use Rattle.statement.specs.Reading.{ReadLine, outside, reads, line_of, valued}
 use Rattle.assembler.specs.Text.{Place, start, crowded, repeated, admitted, after, judged, verdicts, words, reply_from, words_of, bytes_of, stored}
-use Rattle.encoding.specs.Words.{words_in, stated, Judged, bad, nothing, gives}
-use Rattle.statement.specs.Parts.{shown_parts, shown_statement, shown_content, shown_line, label_of, expression_of, blank_value}
-use Rattle.encoding.specs.Numbers.{shown_judged}
-use Rattle.encoding.specs.Numbers.{OneWord}
-use Rattle.assembler.specs.Passes.{LineEnd, LineRead, line_bytes, lines_from, Wrote, no_line, no_word, one_word, WordRoom, WroteLine, WrittenBy}
+use Rattle.encoding.specs.Words.{words_in, odd, number_of, written, encoded, stated, Judged, bad, nothing, gives}
+use Rattle.statement.specs.Parts.{shown_statement, shown_content, shown_line, label_of, expression_of, blank_value}
+use Rattle.encoding.specs.Numbers.{shown_word, OneWord}
+use Rattle.assembler.specs.Passes.{LineEnd, LineRead, line_bytes, lines_from, Wrote, no_line, no_word, bad_word, one_word, WordRoom, WroteLine, WrittenBy}
 use Rattle.assembler.proofs.LineEnds.{line_bytes_lem, next_line, last_line}
-use Rattle.assembler.proofs.Lines.{words_few}
 use Rattle.statement.proofs.Valued.{read_valued}
 use Rattle.assembler.proofs.Widths.{line_wide}
 use Rattle.assembler.proofs.Taking.{after_valued, admitted_valued}
@@ -46,6 +48,37 @@ all_fine k n m [] e = tt
 all_fine k n m (bad r ∷ js) e = clash (cc)
 all_fine k n m (nothing ∷ js) e = all_fine (suc k) n m js e
 all_fine k n m (gives w ∷ js) e = all_fine (suc k) (suc n) m js e
+
+-- ---- How many words a statement takes the place of
+
+abbrev Placed : ℕ → Judged → Type 0
+Placed n (bad r) = Unit
+Placed n nothing = n ≡ 0
+Placed n (gives w) = n ≡ 1
+
+written_placed : (w : WriteReply) → Placed 1 (written w)
+unfolding written
+written_placed (word w) = refl
+written_placed (write_refused r) = tt
+
+-- the instruction of row k
+abbrev instruction_of : ℕ → ℕ → Parts Value → Instruction
+instruction_of k address p =
+    record { kind = get_or kinds k And; a = p.a; b = p.b; d = p.d; n = number_of (row_at k).field address p.n.word }
+
+stated_placed : (address : ℕ) (s : Statement Value) → Placed (words_in s) (stated address s)
+unfolding stated encoded words_in
+stated_placed address no_statement = refl
+stated_placed address (of_row k p) =
+    either (Placed 1) p.n.known {x = encoded k address p} {y = bad 11}
+    (either (Placed 1) (eqb k (length kinds)) refl (either (Placed 1) (odd (row_at k).field address p.n.word) tt (written_placed (write_of (instruction_of k address p)))))
+    tt
+
+none_placed : (address : ℕ) (s : Statement Value) → stated address s ≡ nothing → words_in s ≡ 0
+none_placed address s e = subst (Placed (words_in s)) e (stated_placed address s)
+
+one_placed : (address w : ℕ) (s : Statement Value) → stated address s ≡ gives w → words_in s ≡ 1
+one_placed address w s e = subst (Placed (words_in s)) e (stated_placed address s)
 
 -- ---- A line that is not turned away
 
@@ -71,23 +104,6 @@ fine_line p l js f = go (crowded p l.label) refl (repeated p l.label) refl
 pub outside_bad : (p : Place) (js : List Judged) → AllFine (judged p (admitted p outside) ∷ js) → ⊥
 unfolding judged admitted
 outside_bad p js f = f
-
--- what a line that is not turned away gives
-pub gave_none : (j : Outcome) (js : List Judged) → AllFine (shown_judged j ∷ js) → j.words ≡ 0 → words_of (shown_judged j ∷ js) ≡ words_of js
-unfolding shown_judged words_of
-gave_none j js f e = go (eqb j.number 0) refl
-  where
-    go : (b : Bool) → eqb j.number 0 ≡ b → words_of (shown_judged j ∷ js) ≡ words_of js
-    go true q = rw (q, eq-eqb j.words 0 e)
-    go false q = absurd (subst (λ (x : Bool). AllFine (pick x (pick (eqb j.words 0) nothing (gives j.word)) (bad j.number) ∷ js)) q f)
-
-pub gave_one : (j : Outcome) (js : List Judged) → AllFine (shown_judged j ∷ js) → j.words ≡ 1 → words_of (shown_judged j ∷ js) ≡ j.word ∷ words_of js
-unfolding shown_judged words_of
-gave_one j js f e = go (eqb j.number 0) refl
-  where
-    go : (b : Bool) → eqb j.number 0 ≡ b → words_of (shown_judged j ∷ js) ≡ j.word ∷ words_of js
-    go true q = let n : j.words ≡ 0 → ⊥ = λ z. omega arith in rw (q, ne_eqb j.words 0 n)
-    go false q = absurd (subst (λ (x : Bool). AllFine (pick x (pick (eqb j.words 0) nothing (gives j.word)) (bad j.number) ∷ js)) q f)
 
 rest_fine : (j : Judged) (js : List Judged) → AllFine (j ∷ js) → AllFine js
 rest_fine (bad r) js f = absurd f
@@ -121,48 +137,48 @@ module _ (program done : List ℕ) (address w : ℕ) (e : length (bytes_of done)
 
 -- ---- One line, as the code hands it on
 
-module _ (text names : List ℕ) (at address : ℕ) (program : List ℕ) (f : Found) (end : ℕ) (q : LineRead false text names at end f) where
-  told_line : valued (value_of (operand_value (labels text names))) (line_of (tokens_at text at)) ≡ shown_line text f
+module _ (text : List ℕ) (names : List Held) (at address : ℕ) (program : List ℕ) (f : Option Content) (end : ℕ) (q : LineRead false text names at end f) where
+  told_line : valued (value_of (operand_value (labels names))) (line_of (tokens_at text at)) ≡ shown_line f
   told_line = sym q.same
 
-  pub wrote_nothing : f ≡ Outside → WroteLine text names at address program program address
+  pub wrote_nothing : f ≡ None → WroteLine text names at address program program address
   unfolding shown_line
-  wrote_nothing e = no_line (told_line ∙ ap (shown_line text) e)
+  wrote_nothing e = no_line (told_line ∙ ap shown_line e)
 
-  module _ (c : Content) (e : f ≡ Reads c) (j : Outcome) (o : OneWord c.row (shown_parts c.parts) address j) where
-    content : valued (value_of (operand_value (labels text names))) (line_of (tokens_at text at))
-        ≡ reads (line (label_of text c.label c.until) (shown_statement c.row (shown_parts c.parts)))
+  module _ (c : Content) (e : f ≡ Some c) (j : Outcome) (o : OneWord c.statement address j) where
+    content : valued (value_of (operand_value (labels names))) (line_of (tokens_at text at))
+        ≡ reads (line (label_of c.label) (shown_statement c.statement))
     unfolding shown_line shown_content
-    content = told_line ∙ ap (shown_line text) e
+    content = told_line ∙ ap shown_line e
 
-    pub wrote_no_word : j.words ≡ 0 → WroteLine text names at address program program address
-    wrote_no_word z = no_word _ j content o.comes_to o.places z
+    pub wrote_no_word : j.word ≡ Ok None → WroteLine text names at address program program address
+    wrote_no_word z = no_word _ content (sym o.comes_to ∙ ap shown_word z)
 
-    module _ (n : j.words ≡ 0 → ⊥) where
-      one : j.words ≡ 1
-      one =
-          let q : words_in (shown_statement c.row (shown_parts c.parts)) ≤ 1 = words_few (shown_statement c.row (shown_parts c.parts)) in
-          omega (arith, o.places)
+    pub wrote_bad_word : {r : Refusal} → j.word ≡ Err r → WroteLine text names at address program program address
+    wrote_bad_word z = bad_word _ _ content (sym o.comes_to ∙ ap shown_word z)
+
+    module _ {w : ℕ} (z : j.word ≡ Ok (Some w)) where
+      stands : stated address (shown_statement c.statement) ≡ gives w
+      stands = sym o.comes_to ∙ ap shown_word z
 
       pub wide : 2 ≤ length (first_line (drop at text))
       wide =
-          line_wide (expression_of text names) blank_value text at _
-          (read_valued text names (tokens_at text at) ∙ content) (sym o.places ∙ one)
+          line_wide (expression_of names) blank_value text at _
+          (read_valued names (tokens_at text at) ∙ content) (one_placed address w _ stands)
 
-      pub wrote_word : (program' : List ℕ) → program' ≡ take address program ++ (j.word % 256 ∷ j.word / 256 ∷ drop (address + 2) program)
+      pub wrote_word : (program' : List ℕ) → program' ≡ take address program ++ (w % 256 ∷ w / 256 ∷ drop (address + 2) program)
           → WroteLine text names at address program program' (address + 2)
       wrote_word program' s =
-          subst (λ (x : List ℕ). WroteLine text names at address program x (address + 2)) (sym s)
-          (one_word _ j content o.comes_to o.places one wide)
+          subst (λ (x : List ℕ). WroteLine text names at address program x (address + 2)) (sym s) (one_word _ w content stands wide)
 
 -- ---- The pass
 
-module _ (text names program : List ℕ) where
+module _ (text : List ℕ) (names : List Held) (program : List ℕ) where
   abbrev values_of : Tree → Value
-  values_of = value_of (operand_value (labels text names))
+  values_of = value_of (operand_value (labels names))
 
   abbrev rest : Place → ℕ → List Judged
-  rest p at = verdicts (labels text names) p (lines_from false text at)
+  rest p at = verdicts (labels names) p (lines_from false text at)
 
   -- at the beginning of a line: the words so far stand in the program, and no line from here is turned away
   pub record Writing (at address : ℕ) (now : List ℕ) : Type 0 where
@@ -188,32 +204,19 @@ module _ (text names program : List ℕ) where
     here = w.place
 
     abbrev onward : List Judged
-    onward = verdicts (labels text names) (after here (admitted here L)) ls
+    onward = verdicts (labels names) (after here (admitted here L)) ls
 
     split : rest here at ≡ judged here (admitted here L) ∷ onward
     unfolding verdicts
     split =
         let q : admitted here L ≡ valued values_of (admitted here l) = ap (admitted here) v ∙ admitted_valued values_of here l in
-        ap (verdicts (labels text names) here) c
-        ∙ ap (λ (x : ReadLine Value). judged here x ∷ verdicts (labels text names) (after here (admitted here l)) ls) (sym q)
-        ∙ ap (λ (x : Place). judged here (admitted here L) ∷ verdicts (labels text names) x ls)
+        ap (verdicts (labels names) here) c
+        ∙ ap (λ (x : ReadLine Value). judged here x ∷ verdicts (labels names) (after here (admitted here l)) ls) (sym q)
+        ∙ ap (λ (x : Place). judged here (admitted here L) ∷ verdicts (labels names) x ls)
         (sym (ap (after here) q ∙ after_valued values_of here (admitted here l)))
 
     pub fine_here : AllFine (judged here (admitted here L) ∷ onward)
     fine_here = subst AllFine split w.fine
-
-    -- a line that is read is not turned away
-    module _ (m : Line Value) (j : Outcome) (e : L ≡ reads m) where
-      fine_m : FineLine here m
-      fine_m = fine_line here m onward (subst (λ (x : ReadLine Value). AllFine (judged here (admitted here x) ∷ onward)) e fine_here)
-
-      verdict_of_lem : shown_judged j ≡ stated address m.statement → judged here (admitted here L) ≡ shown_judged j
-      verdict_of_lem r =
-          ap (λ (x : ReadLine Value). judged here (admitted here x)) e ∙ fine_m.verdict ∙ ap (λ (a : ℕ). stated a m.statement) w.there ∙ sym r
-
-      moves_of : j.words ≡ words_in m.statement → (after here (admitted here L)).address ≡ here.address + 2 * j.words
-      moves_of o =
-          ap (λ (x : ReadLine Value). (after here (admitted here x)).address) e ∙ fine_m.moves ∙ ap (λ (k : ℕ). here.address + 2 * k) (sym o)
 
     -- what the line gave: nothing, or one word, and the program with it
     pub record Gave (address' : ℕ) (now' : List ℕ) : Type 0 where
@@ -223,54 +226,68 @@ module _ (text names program : List ℕ) where
       pub stands : now' ≡ bytes_of done ++ drop address' program
       pub words : done ++ words_of onward ≡ words_of (rest start 0)
 
-    module _ (j : Outcome) (verdict : judged here (admitted here L) ≡ shown_judged j) (moves : (after here (admitted here L)).address ≡ here.address + 2 * j.words) where
-      fine_j : AllFine (shown_judged j ∷ onward)
-      fine_j = subst (λ (x : Judged). AllFine (x ∷ onward)) verdict fine_here
+    -- a line that is read is not turned away
+    module _ (m : Line Value) (e : L ≡ reads m) where
+      fine_m : FineLine here m
+      fine_m = fine_line here m onward (subst (λ (x : ReadLine Value). AllFine (judged here (admitted here x) ∷ onward)) e fine_here)
 
-      words_j : w.done ++ words_of (shown_judged j ∷ onward) ≡ words_of (rest start 0)
-      words_j =
-          ap (λ (x : List Judged). w.done ++ words_of x) (sym (split ∙ ap (λ (x : Judged). x ∷ onward) verdict)) ∙ w.words
+      verdict_of_lem : judged here (admitted here L) ≡ stated address m.statement
+      verdict_of_lem =
+          ap (λ (x : ReadLine Value). judged here (admitted here x)) e ∙ fine_m.verdict ∙ ap (λ (a : ℕ). stated a m.statement) w.there
 
-      pub gave_nothing : j.words ≡ 0 → Gave address now
-      gave_nothing e =
+      moves_of : (after here (admitted here L)).address ≡ here.address + 2 * words_in m.statement
+      moves_of = ap (λ (x : ReadLine Value). (after here (admitted here x)).address) e ∙ fine_m.moves
+
+      words_on : {j : Judged} → stated address m.statement ≡ j → w.done ++ words_of (j ∷ onward) ≡ words_of (rest start 0)
+      words_on q =
+          ap (λ (x : List Judged). w.done ++ words_of x) (sym (split ∙ ap (λ (x : Judged). x ∷ onward) (verdict_of_lem ∙ q))) ∙ w.words
+
+      gave_nothing : stated address m.statement ≡ nothing → Gave address now
+      unfolding words_of
+      gave_nothing q =
+          let z : words_in m.statement ≡ 0 = none_placed address m.statement q in
           record {
-            there = moves ∙ (let q : here.address + 2 * j.words ≡ address = omega (arith, w.there) in q);
+            there = moves_of ∙ (let k : here.address + 2 * words_in m.statement ≡ address = omega (arith, w.there) in k);
             done = w.done;
             count = w.count;
             stands = w.stands;
-            words = ap (λ (x : List ℕ). w.done ++ x) (sym (gave_none j onward fine_j e)) ∙ words_j;
+            words = words_on q;
           }
 
-      pub gave_word : j.words ≡ 1 → (now' : List ℕ) → now' ≡ take address now ++ (j.word % 256 ∷ j.word / 256 ∷ drop (address + 2) now) → Gave (address + 2) now'
-      gave_word e now' s =
+      not_bad : {r : ℕ} → stated address m.statement ≡ bad r → ⊥
+      not_bad q = subst (λ (x : Judged). AllFine (x ∷ onward)) (verdict_of_lem ∙ q) fine_here
+
+      gave_word : {v : ℕ} → stated address m.statement ≡ gives v → Gave (address + 2) (take address now ++ (v % 256 ∷ v / 256 ∷ drop (address + 2) now))
+      unfolding words_of
+      gave_word {v} q =
+          let z : words_in m.statement ≡ 1 = one_placed address v m.statement q in
           record {
-            there = moves ∙ (let q : here.address + 2 * j.words ≡ address + 2 = omega (arith, w.there) in q);
-            done = w.done ++ (j.word ∷ []);
+            there = moves_of ∙ (let k : here.address + 2 * words_in m.statement ≡ address + 2 = omega (arith, w.there) in k);
+            done = w.done ++ (v ∷ []);
             count =
-                bytes_length (w.done ++ (j.word ∷ []))
-                ∙ (let k : length (w.done ++ (j.word ∷ [])) ≡ length w.done + 1 = length-append w.done (j.word ∷ []) in
+                bytes_length (w.done ++ (v ∷ []))
+                ∙ (let k : length (w.done ++ (v ∷ [])) ≡ length w.done + 1 = length-append w.done (v ∷ []) in
                 let m : length (bytes_of w.done) ≡ 2 * length w.done = bytes_length w.done in
-                let q : 2 * length (w.done ++ (j.word ∷ [])) ≡ address + 2 = omega (arith, w.count) in
+                let q : 2 * length (w.done ++ (v ∷ [])) ≡ address + 2 = omega (arith, w.count) in
                 q);
             stands =
-                s ∙ ap (λ (x : List ℕ). take address x ++ (j.word % 256 ∷ j.word / 256 ∷ drop (address + 2) x)) w.stands
-                ∙ word_more program w.done address j.word w.count;
-            words =
-                append_assoc w.done (j.word ∷ []) (words_of onward)
-                ∙ ap (λ (x : List ℕ). w.done ++ x) (sym (gave_one j onward fine_j e))
-                ∙ words_j;
+                ap (λ (x : List ℕ). take address x ++ (v % 256 ∷ v / 256 ∷ drop (address + 2) x)) w.stands
+                ∙ word_more program w.done address v w.count;
+            words = append_assoc w.done (v ∷ []) (words_of onward) ∙ words_on q;
           }
 
     -- as `write_line` says it
     pub gave : {bytes address' : ℕ} {now' : List ℕ} → Wrote L bytes address now now' address' → Gave address' now'
     gave (no_line e) = absurd (outside_bad here onward (subst (λ (x : ReadLine Value). AllFine (judged here (admitted here x) ∷ onward)) e fine_here))
-    gave (no_word m j e r o z) = gave_nothing j (verdict_of_lem m j e r) (moves_of m j e o) z
-    gave (one_word m j e r o z h) = gave_word j (verdict_of_lem m j e r) (moves_of m j e o) z _ refl
+    gave (no_word m e q) = gave_nothing m e q
+    gave (bad_word m r e q) = absurd (not_bad m e q)
+    gave (one_word m v e q h) = gave_word m e q
 
     pub behind : {bytes address' : ℕ} {now' : List ℕ} → Wrote L bytes address now now' address' → address' ≤ address + bytes
     behind (no_line e) = omega arith
-    behind (no_word m j e r o z) = omega arith
-    behind (one_word m j e r o z h) = omega arith
+    behind (no_word m e q) = omega arith
+    behind (bad_word m r e q) = omega arith
+    behind (one_word m v e q h) = omega arith
 
     module _ (address' : ℕ) (now' : List ℕ) (g : Gave address' now') where
       pub write_on : (end : ℕ) → ls ≡ lines_from false text (end + 1) → address' ≤ end + 1 → end < length text → Writing (end + 1) address' now'
@@ -278,11 +295,11 @@ module _ (text names program : List ℕ) where
           record {
             place = after here (admitted here L);
             there = g.there;
-            fine = subst (λ (x : List (ReadLine Tree)). AllFine (verdicts (labels text names) (after here (admitted here L)) x)) q (rest_fine (judged here (admitted here L)) onward fine_here);
+            fine = subst (λ (x : List (ReadLine Tree)). AllFine (verdicts (labels names) (after here (admitted here L)) x)) q (rest_fine (judged here (admitted here L)) onward fine_here);
             done = g.done;
             count = g.count;
             stands = g.stands;
-            words = ap (λ (x : List (ReadLine Tree)). g.done ++ words_of (verdicts (labels text names) (after here (admitted here L)) x)) (sym q) ∙ g.words;
+            words = ap (λ (x : List (ReadLine Tree)). g.done ++ words_of (verdicts (labels names) (after here (admitted here L)) x)) (sym q) ∙ g.words;
             behind = b;
             inside = omega arith;
           }
@@ -291,7 +308,7 @@ module _ (text names program : List ℕ) where
       unfolding verdicts words_of stored
       write_last q =
           let all : g.done ≡ words_of (rest start 0) =
-          sym (append-nil g.done) ∙ ap (λ (x : List (ReadLine Tree)). g.done ++ words_of (verdicts (labels text names) (after here (admitted here L)) x)) (sym q) ∙ g.words in
+          sym (append-nil g.done) ∙ ap (λ (x : List (ReadLine Tree)). g.done ++ words_of (verdicts (labels names) (after here (admitted here L)) x)) (sym q) ∙ g.words in
           g.stands
           ∙ ap (λ (k : ℕ). bytes_of g.done ++ drop k program) (sym g.count ∙ bytes_length g.done)
           ∙ ap (λ (x : List ℕ). bytes_of x ++ drop (2 * length x) program) all

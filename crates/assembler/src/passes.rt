@@ -1,229 +1,185 @@
 // The passes over a text's lines.
-ghost use Rattle.std.specs.Prelude.{◌≡◌, false, List, ◌∷◌, ◌++◌, ℕ, ◌+◌, ◌*◌, ◌/◌, ◌%◌, ◌<◌, ◌≤◌, length, take, drop};
+ghost use Rattle.std.specs.Prelude.{◌≡◌, false, List, ◌∷◌, ◌++◌, ℕ, ◌+◌, ◌*◌, ◌/◌, ◌%◌, ◌<◌, ◌≤◌, IfOk, length, take, drop};
+ghost use Rattle.expression.specs.declared.Label.{Label as Held};
 ghost use Rattle.statement.specs.Parts.{shown_line};
-ghost use Rattle.assembler.specs.Passes.{LineEnd, Labelled, Ready, Taken, moved, LineRead, Scanned, WordRoom, WroteLine, Fine, WrittenBy};
+ghost use Rattle.assembler.specs.Passes.{LineEnd, Labelled, Ready, Taken, counted, moved, LineRead, Scanned, WordRoom, WroteLine, Fine, WrittenBy};
 
+use crate::Rejected;
 use encoding::Judged;
-use statement::line::Line;
+use expression::{Label, names};
+use refusal::Refusal;
+use statement::line::Content;
 
-// Room for the names: three numbers each.
+// Room for the names.
 pub const NAMES: usize = 64;
-
-pub const TABLE: usize = 192;
 
 // Where the line that begins at a position ends: at its newline, or at the end of the text.
 pub fn line_end(text: &[u8], at: usize) -> usize
     requires { at ≤ length text.now }
     ensures { LineEnd text.now at result }
 {
-    let mut i = at;
-    while i < text.len() {
+    for i in at..text.len() {
         if text[i] == b'\n' {
             return i;
         }
-        i += 1;
     }
-    i
+    text.len()
 }
 
-// The names given so far, and the number that a line is turned away with for the name that it gives, or 0.
-#[derive(Clone, Copy)]
-pub struct Given {
-    pub labels: usize,
-    pub number: u8,
-}
-
-// Gives the name from label to until, if there is one, the address.
-fn give(
-    text: &[u8],
-    table: &mut [usize],
+// Gives a name, if there is one, the address: how many names are given then.
+fn give<'a>(
+    table: &mut [Label<'a>],
     labels: usize,
-    label: usize,
-    until: usize,
+    label: Option<&'a [u8]>,
     address: usize,
-) -> Given
-    requires { (length table.old ≡ 192) × (labels ≤ 64) × (until ≤ length text.now) }
-    ensures { Labelled text.now table.old labels label until address table.new result }
+) -> Result<usize, Refusal>
+    requires { (length table.old ≡ 64) × (labels ≤ 64) }
+    ensures { Labelled table.old labels label.entry address table.new result }
 {
-    if until <= label {
-        return Given { labels, number: 0 };
-    }
-    let end = 3 * labels;
-    let known = expression::names::name_value(text, &table[0..end], label, until).known;
-    if known {
-        return Given {
-            labels,
-            number: encoding::BAD_NAME,
-        };
+    let Some(name) = label else {
+        return Ok(labels);
+    };
+    if names::name_value(&table[0..labels], name).known {
+        return Err(Refusal::TextName);
     }
     if labels == NAMES {
-        return Given {
-            labels,
-            number: encoding::BAD_LINE,
-        };
+        return Err(Refusal::TextLine);
     }
-    table[end] = label;
-    table[end + 1] = until;
-    table[end + 2] = address;
-    Given {
-        labels: labels + 1,
-        number: 0,
-    }
+    table[labels] = Label { name, address };
+    Ok(labels + 1)
 }
 
-// Where a pass stands: the number of the next line; how many labels and words were given, and the next word's address; the first
-// line that was turned away, 0 where there is none, and the number.
+// Where a pass stands: the number of the next line; how many labels were given; the next word's address; and how many words were
+// given, or the first line that was turned away.
 #[derive(Clone, Copy)]
 pub struct Progress {
     pub line: u32,
     pub labels: usize,
-    pub words: u32,
     pub address: usize,
-    pub first: u32,
-    pub number: u8,
+    pub reply: Result<u32, Rejected>,
 }
 
 impl Progress {
     fn start() -> Self
-        ensures { result ≡ record { line = 1; labels = 0; words = 0; address = 0; first = 0; number = 0 } }
+        ensures { result ≡ record { line = 1; labels = 0; address = 0; reply = Ok 0 } }
     {
         Self {
             line: 1,
             labels: 0,
-            words: 0,
             address: 0,
-            first: 0,
-            number: 0,
+            reply: Ok(0),
+        }
+    }
+
+    // The reply after a line that comes to a word.
+    fn counted(self, word: Result<Option<u16>, Refusal>) -> Result<u32, Rejected>
+        requires { IfOk self.reply (λ n. n < 70000) }
+        ensures { result ≡ counted self.line self.reply word }
+    {
+        let words = self.reply?;
+        match word {
+            Ok(None) => Ok(words),
+            Ok(Some(_)) => Ok(words + 1),
+            Err(refusal) => Err(Rejected {
+                line: self.line,
+                refusal,
+            }),
         }
     }
 
     // After a line that gives so many labels and comes to j.
     fn after(self, labels: usize, j: Judged) -> Self
-        requires { (self.line < 70000) × (self.words < 70000) × (self.address < 140000) × (j.words ≤ 1) }
+        requires { (self.line < 70000) × IfOk self.reply (λ n. n < 70000) × (self.address < 140000) × (j.words ≤ 1) }
         ensures { result ≡ moved self labels j }
     {
-        let line = self.line + 1;
-        let address = self.address + 2 * j.words;
-        if self.first != 0 {
-            return Self {
-                line,
-                labels,
-                words: self.words,
-                address,
-                first: self.first,
-                number: self.number,
-            };
-        }
-        if j.number != 0 {
-            return Self {
-                line,
-                labels,
-                words: self.words,
-                address,
-                first: self.line,
-                number: j.number,
-            };
-        }
         Self {
-            line,
+            line: self.line + 1,
             labels,
-            words: self.words + (j.words as u32),
-            address,
-            first: 0,
-            number: 0,
+            address: self.address + 2 * j.words,
+            reply: self.counted(j.word),
         }
     }
 }
 
 // Takes in a line: its name and what it comes to.
-fn take_line(text: &[u8], table: &mut [usize], l: Line, p: Progress) -> Progress
-    requires { Ready text.now table.old l p }
-    ensures { Taken text.now table.old (shown_line text.now l) p table.new result }
+fn take_line<'a>(table: &mut [Label<'a>], l: Option<Content<'a>>, p: Progress) -> Progress
+    requires { Ready table.old p }
+    ensures { Taken table.old (shown_line l.entry) p table.new result }
 {
-    let Line::Reads(c) = l else {
-        return p.after(p.labels, encoding::turned_away(encoding::BAD_LINE, 0));
+    let outside = Judged {
+        words: 0,
+        word: Err(Refusal::TextLine),
     };
-    let parts = c.parts;
-    let given = give(text, table, p.labels, c.label, c.until, p.address);
-    if given.number == encoding::BAD_LINE {
-        return p.after(given.labels, encoding::turned_away(encoding::BAD_LINE, 0));
+    let Some(c) = l else {
+        return p.after(p.labels, outside);
+    };
+    let given = give(table, p.labels, c.label, p.address);
+    let j = encoding::stated(c.statement, p.address);
+    match given {
+        Ok(labels) => p.after(labels, j),
+        Err(Refusal::TextLine) => p.after(p.labels, outside),
+        Err(refusal) => p.after(
+            p.labels,
+            Judged {
+                word: Err(refusal),
+                ..j
+            },
+        ),
     }
-    let j = encoding::stated(c.row, p.address, parts);
-    if given.number == encoding::BAD_NAME {
-        return p.after(
-            given.labels,
-            encoding::turned_away(encoding::BAD_NAME, j.words),
-        );
-    }
-    p.after(given.labels, j)
 }
 
 fn put_word(program: &mut [u8], address: usize, word: u16)
     requires { address + 2 ≤ length program.old }
     ensures { program.new ≡ take address program.old ++ (word % 256 ∷ word / 256 ∷ drop (address + 2) program.old) }
 {
-    program[address] = (word % 256) as u8;
-    program[address + 1] = (word / 256) as u8;
+    program[address..address + 2].copy_from_slice(&word.to_le_bytes());
 }
 
 // Reads the line from `at` to `end`; the last line of a text that is too long is outside the grammar.
-fn read_line(text: &[u8], names: &[usize], long: bool, at: usize, end: usize) -> Line
+fn read_line<'a>(
+    text: &'a [u8],
+    names: &[Label],
+    long: bool,
+    at: usize,
+    end: usize,
+) -> Option<Content<'a>>
     ensures { LineRead long text.now names.now at end result }
 {
     if long & (end == text.len()) {
-        return Line::Outside;
+        return None;
     }
     statement::line::line_at(text, names, at)
 }
 
-// Goes over the lines: gathers in `table` the names that they give, and finds the first line that is turned away by `names`.
-pub fn scan(text: &[u8], names: &[usize], table: &mut [usize], long: bool) -> Progress
-    requires { (length table.old ≡ 192) × (length text.now ≤ 65536) }
-    ensures { Scanned long text.now names.now table.new result }
-{
-    let mut p = Progress::start();
-    let mut at = 0;
-    loop {
-        let end = line_end(text, at);
-        let l = read_line(text, names, long, at, end);
-        p = take_line(text, table, l, p);
-        if end == text.len() {
-            return p;
-        }
-        at = end + 1;
-    }
-}
-
 // Writes the word of a line, if it gives one that has room, and hands back the next word's address.
-fn write_line(program: &mut [u8], l: Line, address: usize) -> usize
-    requires { (address ≤ 65536) × (length program.old ≡ 65536) }
-    ensures { ((text names : List ℕ) (at end : ℕ) → LineRead false text names at end l → WordRoom text at address program.old → WroteLine text names at address program.old program.new result) × (result ≤ 65536) }
+fn write_line(program: &mut [u8], l: Option<Content>, address: usize) -> usize
+    requires { (address ≤ 65536) × (length program.old ≤ 65536) }
+    ensures { ((text : List ℕ) (names : List Held) (at end : ℕ) → LineRead false text names at end l.entry → WordRoom text at address program.old → WroteLine text names at address program.old program.new result) × (result ≤ 65536) }
 {
-    let Line::Reads(c) = l else {
+    let Some(c) = l else {
         return address;
     };
-    let parts = c.parts;
-    let j = encoding::stated(c.row, address, parts);
-    if j.words == 0 {
+    let Ok(Some(word)) = encoding::stated(c.statement, address).word else {
         return address;
-    }
+    };
     let next = address + 2;
     if program.len() < next {
         return address;
     }
-    put_word(program, address, j.word);
+    put_word(program, address, word);
     next
 }
 
-// Goes over the lines as `scan` does, and writes their words: all of them, where no line is turned away.
-pub fn write(
-    text: &[u8],
-    names: &[usize],
-    table: &mut [usize],
+// Goes over the lines: gathers in `table` the names that they give, finds the first line that is turned away by `names`, and writes
+// the words that have room in the program: all of them, where it is whole and no line is turned away.
+pub fn pass<'a>(
+    text: &'a [u8],
+    names: &[Label],
+    table: &mut [Label<'a>],
     program: &mut [u8],
     long: bool,
 ) -> Progress
-    requires { (length table.old ≡ 192) × (length text.now ≤ 65536) × (length program.old ≡ 65536) }
+    requires { (length table.old ≡ 64) × (length text.now ≤ 65536) × (length program.old ≤ 65536) }
     ensures { Scanned long text.now names.now table.new result × (long ≡ false → Fine text.now names.now program.old → WrittenBy text.now names.now program.old program.new) }
 {
     let mut p = Progress::start();
@@ -232,7 +188,7 @@ pub fn write(
     loop {
         let end = line_end(text, at);
         let l = read_line(text, names, long, at, end);
-        p = take_line(text, table, l, p);
+        p = take_line(table, l, p);
         address = write_line(program, l, address);
         if end == text.len() {
             return p;

@@ -18,17 +18,14 @@ module _ (s : State) (journal : List ℕ) where
   holds_all h = rw (le-leb _ _ h)
 
   module _ {k : ℕ} (h : k ≤ steps_held s journal) where
-    -- k is within count and n, and the journal is as long as the count where k is not 0
+    -- k is within the count, and the journal is as long as the count where k is not 0
     within : (b : Bool) → leb s.journaled (length journal) ≡ b → k ≤ pick b (min s.journaled s.n) 0
-        → (k ≤ s.journaled) × (k ≤ s.n) × (0 < k → s.journaled ≤ length journal)
-    within true e h = (omega arith, omega arith, λ some. leb-true _ _ e)
-    within false e h = (omega arith, omega arith, λ some. absurd (omega arith))
+        → (k ≤ s.journaled) × (0 < k → s.journaled ≤ length journal)
+    within true e h = (omega arith, λ some. leb-true _ _ e)
+    within false e h = (omega arith, λ some. absurd (omega arith))
 
     pub held_counted : k ≤ s.journaled
     held_counted = (within (leb s.journaled (length journal)) refl h).0
 
-    pub held_done : k ≤ s.n
-    held_done = (within (leb s.journaled (length journal)) refl h).1
-
     pub held_within : 0 < k → s.journaled ≤ length journal
-    held_within = (within (leb s.journaled (length journal)) refl h).2
+    held_within = (within (leb s.journaled (length journal)) refl h).1

@@ -1,15 +1,17 @@
--- The verdict from the tests on the way, and what a call leaves by it.
+-- What a call that passes every test leaves, and one that is refused.
 -- Assumes nothing.
 use mathlib.Core.Path.{◌≡◌, sym, ap, ◌∙◌}
-use mathlib.Core.Bool.{Bool, true, false, and-eq-true_iff}
+use mathlib.Core.Bool.{true, and-eq-true_iff}
 use mathlib.Core.List.{List, []}
-use Prim.Native.Nat.{ℕ, ◌<◌, ◌≤◌}
+use Prim.Native.Nat.{ℕ, ◌≤◌}
 use lib.Dec.{eqb, leb}
 use lib.ListN.{length}
-use borrow.Author.Tests.{eqb-true, le-leb, lt-leb, leb-true}
+use borrow.Author.Tests.{eqb-true, le-leb, leb-true}
 use Rattle.refusal.specs.Refusals.{accepted, refused}
 use Rattle.word.proofs.Tests.{clash, passed}
+use Rattle.machine.specs.declared.State.{State}
 use Rattle.machine.specs.Machine.{Machine, even_places}
+use Rattle.journal.specs.Parts.{machine_with}
 use Rattle.machine.specs.Lengths.{lengths_fit}
 use Rattle.machine.proofs.Runs.{Even, even_places_lem, places_even}
 use Rattle.back.specs.declared.Backed.{Backed}
@@ -22,28 +24,12 @@ pub record Passes (g : BackGiven) : Type 0 where
   pub even : Even g.state
   pub held : g.k ≤ steps_held g.state g.journal
 
--- ---- By what the functions reply that make the tests, `answer`, `even` and `held`
-
-module _ (g : BackGiven) {answer : Bool} (lengths : answer ≡ lengths_fit g.P g.D g.I g.O) where
-  pub refuses_1 : answer ≡ false → refused 1 ≡ back_verdict g
-  unfolding back_verdict
-  refuses_1 h = rw (sym lengths ∙ h)
-
-  module _ (fit : answer ≡ true) {even : Bool} (places : even ≡ even_places g.state) where
-    pub refuses_5 : even ≡ false → refused 5 ≡ back_verdict g
-    unfolding back_verdict
-    refuses_5 h = rw (sym lengths ∙ fit, sym places ∙ h)
-
-    module _ (both : even ≡ true) {held : ℕ} (steps : held ≡ steps_held g.state g.journal) where
-      pub refuses_14 : held < g.k → refused 14 ≡ back_verdict g
-      unfolding back_verdict
-      refuses_14 h = rw (sym lengths ∙ fit, sym places ∙ both, lt-leb _ _ (rw steps at h))
-
-      pub passing : g.k ≤ held → Passes g
-      passing h =
-          record { lengths = sym lengths ∙ fit; even = places_even g.state (sym places ∙ both); held = rw steps at h }
-
 -- ---- By the verdict
+
+-- what is lent to the loop by another name is left so
+pub gone_by : {s : State} {D₀ I₀ O₀ journal D I O D' I' O' : List ℕ} {k : ℕ} {r : Backed} → D' ≡ D → I' ≡ I → O' ≡ O
+    → GoneBack s D₀ I₀ O₀ journal k r D I O → GoneBack s D₀ I₀ O₀ journal k r D' I' O'
+gone_by {r = r} d i o h = record { reply = h.reply; machine = λ P L. h.machine P L ∙ (λ j. machine_with r.state (sym d j) (sym i j) (sym o j) P L) }
 
 module _ (g : BackGiven) where
   pub accepts : Passes g → accepted ≡ back_verdict g

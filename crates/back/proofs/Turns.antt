@@ -12,7 +12,7 @@ use Rattle.machine.specs.declared.State.{State}
 use Rattle.machine.specs.Machine.{put_journaled, on_state}
 use Rattle.journal.specs.Journal.{is_output}
 use Rattle.journal.specs.Parts.{machine_with, IsUndone}
-use Rattle.back.specs.declared.Going.TheVariants.{Gone}
+use Rattle.std.specs.declared.result.Result.TheVariants.{Ok}
 use Rattle.back.specs.Backs.{undone, fallen}
 use Rattle.back.specs.Parts.{CanGo, GoneBack}
 use Rattle.back.proofs.Held.{held_counted, held_within}
@@ -87,12 +87,12 @@ pub ends : {s₀ s : State} {D₀ I₀ O₀ D I O journal : List ℕ} {k at left
     → Undoing s₀ D₀ I₀ O₀ journal k s D I O at left gone
     → left ≡ 0
     → s' ≡ put_journaled (s₀.journaled - k) s
-    → GoneBack s₀ D₀ I₀ O₀ journal k (record { state = s'; reply = Gone gone }) D I O
+    → GoneBack s₀ D₀ I₀ O₀ journal k (record { state = s'; reply = Ok gone }) D I O
 unfolding undone fallen
 ends {s₀} {s} {D = D} {I = I} {O = O} {journal = journal} {k = k} {at = at} {gone = gone} v e q =
     let z : gone + 0 ≡ fallen k s₀.journaled journal = ap (λ l. gone + fallen l at journal) (sym e) ∙ v.outs in
     record {
-      reply = ap Gone (omega (arith, z));
+      reply = ap Ok (omega (arith, z));
       machine =
           λ P L. ap (on_state (put_journaled (s₀.journaled - k))) (sym (v.machine P L) ∙ ap (λ l. undone l at journal (machine_with s D I O P L)) e)
           ∙ ap (λ t. machine_with t D I O P L) (sym q);

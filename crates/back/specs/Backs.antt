@@ -1,5 +1,7 @@
 -- Going back k steps by a journal (02, L7): what the call is given, refuses, replies and leaves.
-use Rattle.std.specs.Prelude.{◌≡◌, List, [], ℕ, zero, suc, ◌+◌, ◌-◌, min, leb, length, get_or}
+use Rattle.std.specs.Prelude.{◌≡◌, List, [], ℕ, zero, suc, ◌+◌, ◌-◌, min, leb, length, get_or, Result}
+use Rattle.std.specs.declared.result.Result.TheVariants.{Ok, Err}
+use Rattle.refusal.specs.declared.Refusal.{Refusal}
 use Rattle.refusal.specs.Refusals.{refusal_number, Verdict, accepted, refused}
 use Rattle.word.specs.Word.{pick, flag}
 use Rattle.machine.specs.declared.State.{State}
@@ -8,8 +10,6 @@ use Rattle.machine.specs.Lengths.{lengths_fit}
 use Rattle.machine.specs.Slices.{MutSlice, Slice, before, after, read_before, read_after}
 use Rattle.journal.specs.Journal.{undo, is_output}
 use Rattle.back.specs.declared.Backed.{Backed}
-use Rattle.back.specs.declared.Going.{Going}
-use Rattle.back.specs.declared.Going.TheVariants.{Gone, Refused}
 
 -- ---- The call
 
@@ -27,9 +27,9 @@ pub data BackReply : Type 0 where
   gone_back : ℕ → BackReply
   back_refused : ℕ → BackReply
 
-abbrev pub shown_going : Going → BackReply
-shown_going (Gone n) = gone_back n
-shown_going (Refused r) = back_refused (refusal_number r)
+abbrev pub shown_going : Result ℕ Refusal → BackReply
+shown_going (Ok n) = gone_back n
+shown_going (Err r) = back_refused (refusal_number r)
 
 pub record BackLeft : Type 0 where
   pub reply : BackReply

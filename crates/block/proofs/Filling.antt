@@ -1,12 +1,12 @@
 -- A loop that stores the elements of a list, place after place, over a list of the same length.
 -- Assumes nothing.
 use Prim.Native.Nat.{ℕ, zero, suc, ◌+◌, ◌≤◌, ◌<◌}
-use mathlib.Core.Path.{◌≡◌, refl, sym, ap, ◌∙◌}
+use mathlib.Core.Path.{◌≡◌, refl, ap, ◌∙◌}
 use mathlib.Core.List.{List, [], ◌∷◌, ◌++◌, append-nil}
 use native.Mathlib.Nat.{le_of_suc-le-suc, not-suc-le-zero}
 use native.Mathlib.Numerals.{add-one}
 use native.Mathlib.Omega.{arith}
-use lib.ListN.{length, get_or, take, drop, set, replicate, length-set, length-replicate, get_or-replicate}
+use lib.ListN.{length, get_or, take, drop, set, length-set}
 use lib.Seq.{take-length, drop-length}
 
 -- the target is `old` with the first i elements of `list` stored
@@ -41,13 +41,3 @@ module _ {list old target : List ℕ} {i : ℕ} (f : Filled list old target i) w
   whole h =
       let e : i ≡ length old = omega (arith, f) in
       f.stored ∙ rw (e, drop-length, ← f.lengths, take-length) (append-nil list)
-
--- the list of zeros
-abbrev pub Zeroed : List ℕ → List ℕ → ℕ → Type 0
-Zeroed old target i = Filled (replicate (length old) 0) old target i
-
-pub zero_start : {old : List ℕ} → Zeroed old old 0
-zero_start = start (length-replicate _ 0)
-
-pub zero_turn : {old target : List ℕ} {i : ℕ} → Zeroed old target i → i < length target → Zeroed old (set target i 0) (i + 1)
-zero_turn {old} {target} {i} z h = turn z h (sym (get_or-replicate (length old) i 0 0 (omega (arith, z))))

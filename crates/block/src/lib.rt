@@ -7,9 +7,5 @@ pub fn copy(source: &[u8], target: &mut [u8])
     requires { length source.now ≡ length target.old }
     ensures { target.new ≡ source.now }
 {
-    let mut i = 0;
-    while i < target.len() {
-        target[i] = source[i];
-        i += 1;
-    }
+    target.copy_from_slice(source);
 }

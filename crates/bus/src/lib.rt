@@ -9,41 +9,34 @@ ghost use Rattle.machine.specs.Machine.{read_from, word_at, put_word, put_byte};
 
 use machine::{Address, Port, State};
 
+mod lent;
+mod stores;
+
+pub use lent::{Bus, Log};
+
 // The memories and ports have the lengths of refusal 1.
 pub fn lengths_fit(program: &[u8], memory: &[u8], inputs: &[u16], outputs: &[u16]) -> bool
     ensures { result ≡ lengths_fit program.now memory.now inputs.now outputs.now }
 {
-    if program.len() != State::MEMORY_BYTES {
-        return false;
-    }
-    if memory.len() != State::MEMORY_BYTES {
-        return false;
-    }
-    if inputs.len() != State::PORTS {
-        return false;
-    }
-    outputs.len() == State::PORTS
-}
-
-fn wide(x: u8) -> u16
-    ensures { (result ≡ x) × (result < 256) }
-{
-    x as u16
+    program.len() == State::MEMORY_BYTES
+        && memory.len() == State::MEMORY_BYTES
+        && inputs.len() == State::PORTS
+        && outputs.len() == State::PORTS
 }
 
 // The place of the word at an address.
 fn word_place(address: Address) -> usize
     ensures { result ≡ clear0 address.0 }
 {
-    (address.0 / 2 * 2) as usize
+    usize::from(word::clear_bit0(address.0))
 }
 
 pub fn load_byte(bytes: &[u8], address: Address) -> u16
     requires { length bytes.now ≡ 65536 }
     ensures { result ≡ get_or bytes.now address.0 0 }
 {
-    let from = address.0 as usize;
-    wide(bytes[from])
+    let from = usize::from(address.0);
+    u16::from(bytes[from])
 }
 
 // The word at two neighbouring places, low byte first.
@@ -51,8 +44,8 @@ pub fn word_from(bytes: &[u8], at: usize) -> u16
     requires { at + 1 < length bytes.now }
     ensures { result ≡ get_or bytes.now at 0 + 256 * get_or bytes.now (at + 1) 0 }
 {
-    let low = wide(bytes[at]);
-    let high = wide(bytes[at + 1]);
+    let low = u16::from(bytes[at]);
+    let high = u16::from(bytes[at + 1]);
     low + 256 * high
 }
 
@@ -61,10 +54,11 @@ fn word_at(bytes: &[u8], pc: u16) -> u16
     requires { (length bytes.now ≡ 65536) × (pc % 2 ≡ 0) }
     ensures { result ≡ word_at bytes.now pc }
 {
-    word_from(bytes, pc as usize)
+    word_from(bytes, usize::from(pc))
 }
 
 // The instruction word at an even PC, of program memory, or of data memory on the single-memory board.
+#[tactic(auto, unfolding(machine::specs::Step::fetched))]
 pub fn fetch(state: State, program: &[u8], memory: &[u8]) -> u16
     requires { (length program.now ≡ 65536) × (length memory.now ≡ 65536) × (state.pc % 2 ≡ 0) }
     ensures { Fetches state program.now memory.now result }
@@ -87,7 +81,7 @@ pub fn store_byte(bytes: &mut [u8], address: Address, v: u16)
     requires { length bytes.old ≡ 65536 }
     ensures { bytes.new ≡ put_byte address.0 v bytes.old }
 {
-    let to = address.0 as usize;
+    let to = usize::from(address.0);
     bytes[to] = (v % 256) as u8;
 }
 
@@ -104,7 +98,7 @@ pub fn read_port(ports: &[u16], port: Port) -> u16
     requires { length ports.now ≡ 256 }
     ensures { result ≡ get_or ports.now port.0 0 }
 {
-    let from = port.0 as usize;
+    let from = usize::from(port.0);
     ports[from]
 }
 
@@ -124,7 +118,7 @@ pub fn write_port(ports: &mut [u16], port: Port, v: u16)
     requires { length ports.old ≡ 256 }
     ensures { ports.new ≡ set ports.old port.0 v }
 {
-    let to = port.0 as usize;
+    let to = usize::from(port.0);
     ports[to] = v;
 }
 
@@ -132,5 +126,5 @@ pub fn write_port(ports: &mut [u16], port: Port, v: u16)
 pub fn entry_of(n: u32, port: Port, v: u16) -> u64
     ensures { result ≡ n * 16777216 + port.0 * 65536 + v }
 {
-    (n as u64) * 16777216 + (port.0 as u64) * 65536 + (v as u64)
+    u64::from(n) * 16777216 + u64::from(port.0) * 65536 + u64::from(v)
 }

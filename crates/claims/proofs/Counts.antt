@@ -13,8 +13,8 @@ use Rattle.word.specs.Word.{pick, flag}
 use Rattle.word.proofs.Tests.{clash}
 use Rattle.kinds.specs.declared.Kind.{Kind}
 use Rattle.kinds.specs.Kinds.{kind_number, kind_count}
-use Rattle.isa.specs.declared.rows.Entry.{Entry}
-use Rattle.isa.specs.declared.rows.Entry.TheVariants.{Unassigned, Assigned}
+use Rattle.std.specs.Prelude.{Option}
+use Rattle.std.specs.declared.option.Option.TheVariants.{Some, None}
 use Rattle.isa.specs.Sheet.{kind_at}
 use Rattle.isa.specs.Instructions.{read_as, read_of}
 use Rattle.isa.specs.Masks.{Masks, in_mask, masks_of}
@@ -139,7 +139,7 @@ added_within : (test : ℕ → Bool) (xs : List ℕ) (n k : ℕ) → Within xs n
 added_within test xs n k w = record { long = added_long 0 test xs ∙ w.long; at = λ j. omega (arith, added_at 0 test xs j, w.at j) }
 
 -- an instruction of a kind done,
-counts_step : (k : Kind) (masks : Masks) (u : Usage) (n : ℕ) → Counts u n → Counts (took_lines 0 (counted (is_kind (Assigned k)) masks u)) (n + 1)
+counts_step : (k : Kind) (masks : Masks) (u : Usage) (n : ℕ) → Counts u n → Counts (took_lines 0 (counted (is_kind (Some k)) masks u)) (n + 1)
 counts_step k masks u n c =
     record {
       kinds = added_long 0 (eqb (kind_number k)) u.kinds ∙ c.kinds;
@@ -161,13 +161,13 @@ counts_taking masks u n c =
 -- ---- The trace
 
 -- where the machine fetches and steps, its word has a kind
-assigned : (m next : Machine) → FetchesNow m → step m ≡ to next → (k : Kind) × (kind_at (opcode (fetched m)) (e_of (fetched m)) (f_of (fetched m)) ≡ Assigned k)
+assigned : (m next : Machine) → FetchesNow m → step m ≡ to next → (k : Kind) × (kind_at (opcode (fetched m)) (e_of (fetched m)) (f_of (fetched m)) ≡ Some k)
 unfolding read_of
 assigned m next fetches s = go (kind_at (opcode (fetched m)) (e_of (fetched m)) (f_of (fetched m))) refl
   where
-    go : (x : Entry) → kind_at (opcode (fetched m)) (e_of (fetched m)) (f_of (fetched m)) ≡ x → (k : Kind) × (kind_at (opcode (fetched m)) (e_of (fetched m)) (f_of (fetched m)) ≡ Assigned k)
-    go (Assigned k) e = (k, e)
-    go Unassigned e =
+    go : (x : Option Kind) → kind_at (opcode (fetched m)) (e_of (fetched m)) (f_of (fetched m)) ≡ x → (k : Kind) × (kind_at (opcode (fetched m)) (e_of (fetched m)) (f_of (fetched m)) ≡ Some k)
+    go (Some k) e = (k, e)
+    go None e =
         let stops = rules.unassigned_stops (fetched m) (ap (λ x. read_as x (fetched m)) e) m fetches refl in
         clash (cc)
 
@@ -208,7 +208,7 @@ later budget m next z u s t =
     by_line false e =
         let masks = masks_of (fetched m) in
         let k = assigned m next (fetches_too m next e s) s in
-        subst (λ (x : Entry). Counts (took_lines 0 (counted (is_kind x) masks u)) (t.steps + 1)) (sym k.1) (counts_step k.0 masks u t.steps t.counts)
+        subst (λ (x : Option Kind). Counts (took_lines 0 (counted (is_kind x) masks u)) (t.steps + 1)) (sym k.1) (counts_step k.0 masks u t.steps t.counts)
 
 pub traced : (budget full : ℕ) (m : Machine) → Traced budget m (run_from by_rules budget full m) (usage_of (trace_from by_rules budget full m))
 unfolding run_from trace_from usage_of

@@ -14,8 +14,9 @@ use Rattle.word.specs.Word.{pick, SE}
 use Rattle.word.proofs.Computed.{both, both_split}
 use Rattle.word.proofs.Tests.{clash}
 use Rattle.kinds.specs.declared.Kind.TheVariants.{Ld, St, Ldb, Stb}
-use Rattle.isa.specs.declared.rows.Entry.{Entry}
-use Rattle.isa.specs.declared.rows.Entry.TheVariants.{Assigned}
+use Rattle.std.specs.Prelude.{Option}
+use Rattle.std.specs.declared.option.Option.TheVariants.{Some}
+use Rattle.kinds.specs.declared.Kind.{Kind}
 use Rattle.isa.specs.Sheet.{kind_at}
 use Rattle.machine.specs.Machine.{Machine, takes_line, reset}
 use Rattle.machine.specs.Step.{addi, ld, choice, fetched, step}
@@ -32,7 +33,7 @@ use Rattle.claims.proofs.Together.{both as by-either}
 -- ---- Rows
 
 -- the ticks of a word of this entry
-abbrev ticks_in : Entry → ℕ
+abbrev ticks_in : Option Kind → ℕ
 ticks_in e = pick (is_kind e 14 || is_kind e 15 || is_kind e 16 || is_kind e 17) 4 3
 
 -- of what m does next, where t tells whether it takes a line
@@ -50,13 +51,13 @@ taking m t e = ap (λ b. ticks_by b m) e
 
 tests : List Row → Bool
 tests [] = true
-tests (x ∷ xs) = both (eqb (ticks_in (Assigned x.kind)) x.ticks) (tests xs)
+tests (x ∷ xs) = both (eqb (ticks_in (Some x.kind)) x.ticks) (tests xs)
 
 each : (xs : List Row) → T (tests xs) → Each xs
 unfolding tests
 each [] t = tt
 each (x ∷ xs) t =
-    let (a, b) = both_split (eqb (ticks_in (Assigned x.kind)) x.ticks) (tests xs) t in
+    let (a, b) = both_split (eqb (ticks_in (Some x.kind)) x.ticks) (tests xs) t in
     (λ m f e. fetching m (takes_line m.state) (unstopped m.state f).0 ∙ ap ticks_in e ∙ eqb→eq _ _ a, each xs b)
 
 tested : T (tests tick_rows)

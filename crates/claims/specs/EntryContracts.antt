@@ -2,28 +2,28 @@
 -- learns (Learnt). κs are the lifetimes, a the arguments in their order, r the result, s the arguments at exit.
 use contract.Lifetimes.{Lfts}
 use Rattle.std.specs.Borrow.{Bor, MutBor}
-use Rattle.std.specs.Prelude.{◌↔◌, ◌≡◌, List, ℕ}
-use Rattle.refusal.specs.Refusals.{refusal_number}
+use Rattle.std.specs.Prelude.{◌↔◌, ◌≡◌, List, ℕ, Result}
+use Rattle.refusal.specs.declared.Refusal.{Refusal}
+use Rattle.refusal.specs.Refusals.{refusal_number, shown_check}
 use Rattle.machine.specs.declared.State.{State}
 use Rattle.machine.specs.Machine.{reset}
 use Rattle.machine.specs.Run.{Stepper, by_rules}
-use Rattle.panel.specs.Calls.{SetLeft, shown_setting, set_left, RaiseLeft, shown_raising, raise_left, window_of}
+use Rattle.panel.specs.Calls.{SetLeft, set_left, RaiseLeft, raise_left, window_of}
 use Rattle.isa.specs.Instructions.{shown_writing, write_of}
 use Rattle.isa.specs.Masks.{shown_decoded, decoding_of}
-use Rattle.image.specs.Image.{LoadLeft, shown_loading, load_left}
+use Rattle.image.specs.Image.{LoadLeft, load_left}
 use Rattle.save.specs.Saved.{SaveLeft, shown_saving, save_left}
 use Rattle.assembler.specs.Text.{AssembleLeft, assemble_left}
 use Rattle.assembler.specs.Passes.{shown_assembly}
 use Rattle.control.specs.Control.{by_control, by_the_table}
-use Rattle.run.specs.declared.Answer.{Answer}
+use Rattle.run.specs.declared.Report.{Report}
 use Rattle.run.specs.declared.Counted.{Counted}
-use Rattle.run.specs.Runs.{Journal, no_journal, lent_journal, Given, given, Left, left, shown_answer, shown_verdict, RunMeets, CountedMeets}
+use Rattle.run.specs.Runs.{Journal, no_journal, lent_journal, Given, given, Left, left, shown_answer, RunMeets, CountedMeets}
 use Rattle.page.specs.declared.Trims.{Trims}
 use Rattle.page.specs.declared.Paged.{Paged}
 use Rattle.page.specs.Pages.{PageGiven, page_of, PageMeets}
 use Rattle.back.specs.Backs.{BackGiven, BackLeft, shown_going, back_left}
-use Rattle.sheet.specs.Sheet.{empty, FeedLeft, shown_feeding, feed_left}
-use Rattle.printing.specs.Text.{in_array}
+use Rattle.sheet.specs.Sheet.{empty, FeedLeft, feed_left}
 use Rattle.report.specs.Printed.{printed}
 use Rattle.diagnostic.specs.Diagnostic.{diagnostic_of}
 use Rattle.trimfile.specs.TrimFile.{FileLeft, file_left}
@@ -77,7 +77,7 @@ given_by journal a =
     a.1.1.1.1.1.1.0.now (journal a.1.1.1.1.1.1.1)
 
 -- what it leaves, with its answer and state
-abbrev pub left_after : {X : Type 0} → (X → Journal) → Answer → State → RunArguments X → Left
+abbrev pub left_after : {X : Type 0} → (X → Journal) → Result Report Refusal → State → RunArguments X → Left
 left_after journal r state s =
     left (shown_answer r) state s.1.0.now s.1.1.0.now s.1.1.1.0.now s.1.1.1.1.0.now
     s.1.1.1.1.1.1.0.now (journal s.1.1.1.1.1.1.1)
@@ -101,7 +101,7 @@ abbrev pub PageSays : Stepper → PageArguments → Paged → PageArguments → 
 PageSays v a r s =
     PageMeets v (page_given_by a)
     (record {
-      reply = shown_verdict r.check;
+      reply = shown_check r.check;
       states = r.trims.states;
       answers = r.answers;
       P = s.1.1.0.now;
@@ -144,7 +144,7 @@ pub record Contracts : Type 1 where
       → load.Learnt κs a r s
       ↔ (◌≡◌ {A = LoadLeft}
       (record {
-        reply = shown_loading r.reply;
+        reply = shown_check r.reply;
         state = r.state;
         P = s.1.1.1.0.now;
         D = s.1.1.1.1.0.now;
@@ -187,14 +187,14 @@ pub record Contracts : Type 1 where
       (κs : Lfts 1) (a : _) (r : _) (s : _)
       → set_input.Learnt κs a r s
       ↔ (◌≡◌ {A = SetLeft}
-      (record { reply = shown_setting r; I = s.0.now })
+      (record { reply = shown_check r; I = s.0.now })
       (set_left (record { I = a.0.now; port = a.1.0.0; value = a.1.1.0 })))
   -- raise(state, line)
   pub raise_asks : (κs : Lfts 0) (a : _) → raise.Asked κs a
   pub raise :
       (κs : Lfts 0) (a : _) (r : _) (s : _)
       → raise.Learnt κs a r s
-      ↔ (◌≡◌ {A = RaiseLeft} (record { reply = shown_raising r.reply; state = r.state }) (raise_left a.0 a.1.0))
+      ↔ (◌≡◌ {A = RaiseLeft} (record { reply = shown_check r.reply; state = r.state }) (raise_left a.0 a.1.0))
   -- window(state, program, memory, of_data, start, count)
   pub window_asks : (κs : Lfts 1) (a : _) → window.Asked κs a
   pub window :
@@ -248,16 +248,16 @@ pub record Contracts : Type 1 where
   pub feed :
       (κs : Lfts 0) (a : _) (r : _) (s : _)
       → feed.Learnt κs a r s
-      ↔ (◌≡◌ {A = FeedLeft} (record { reply = shown_feeding r.reply; sheet = r.sheet }) (feed_left a.0 (shown_answer a.1.0) a.1.1.0))
+      ↔ (◌≡◌ {A = FeedLeft} (record { reply = shown_check r.reply; sheet = r.sheet }) (feed_left a.0 (shown_answer a.1.0) a.1.1.0))
   -- report(file)
   pub report_asks : (κs : Lfts 1) (a : _) → report.Asked κs a
-  pub report : (κs : Lfts 1) (a : _) (r : _) (s : _) → report.Learnt κs a r s ↔ (r ≡ in_array (printed a.0.now))
+  pub report : (κs : Lfts 1) (a : _) (r : _) (s : _) → report.Learnt κs a r s ↔ (r ≡ printed a.0.now)
   -- line_at(file, k)
   pub line_at_asks : (κs : Lfts 1) (a : _) → line_at.Asked κs a
   pub line_at : (κs : Lfts 1) (a : _) (r : _) (s : _) → line_at.Learnt κs a r s ↔ (r ≡ listed_line (listing a.0.now) a.1.0)
   -- diagnostic(text, line, refusal)
   pub diagnostic_asks : (κs : Lfts 1) (a : _) → diagnostic.Asked κs a
-  pub diagnostic : (κs : Lfts 1) (a : _) (r : _) (s : _) → diagnostic.Learnt κs a r s ↔ (r ≡ in_array (diagnostic_of a.0.now a.1.0 (refusal_number a.1.1.0)))
+  pub diagnostic : (κs : Lfts 1) (a : _) (r : _) (s : _) → diagnostic.Learnt κs a r s ↔ (r ≡ diagnostic_of a.0.now a.1.0 (refusal_number a.1.1.0))
   -- from_text(text, destination)
   pub from_text_asks : (κs : Lfts 2) (a : _) → from_text.Asked κs a
   pub from_text :

@@ -5,7 +5,7 @@ use Rattle.word.specs.Fields.{opcode, e_of, f_of}
 use Rattle.kinds.specs.declared.Kind.{Kind}
 use Rattle.kinds.specs.declared.Kind.TheVariants.{And, Or, Xor, Not, Add, Sub, Sha, Shl, Cmplt, Cmple, Cmpeq, Cmpltu, Cmpleu, Addi, Ld, St, Ldb, Stb, Jalr, Bz, Bnz, Movi, Movhi, In, Out, Mul, Mulh, Mulhu, Div, Divu, Ei, Di, Reti, Getiid}
 use Rattle.kinds.specs.Kinds.{kinds}
-use Rattle.isa.specs.declared.rows.Entry.TheVariants.{Assigned}
+use Rattle.std.specs.declared.option.Option.TheVariants.{Some}
 use Rattle.isa.specs.Sheet.{kind_at}
 use Rattle.machine.specs.Machine.{Machine, takes_line}
 use Rattle.machine.specs.Step.{fetched}
@@ -64,7 +64,7 @@ tick_rows =
 
 -- every machine that fetches a word of the kind takes these ticks
 abbrev pub Holds : Row → Type 0
-Holds x = (m : Machine) → FetchesNow m → let w = fetched m in kind_at (opcode w) (e_of w) (f_of w) ≡ Assigned x.kind → ticks_at m ≡ x.ticks
+Holds x = (m : Machine) → FetchesNow m → let w = fetched m in kind_at (opcode w) (e_of w) (f_of w) ≡ Some x.kind → ticks_at m ≡ x.ticks
 
 abbrev pub Each : List Row → Type 0
 Each [] = Unit

@@ -4,7 +4,8 @@
 use mathlib.Core.Path.{◌≡◌, refl, sym, ap, ◌∙◌}
 use mathlib.Core.Bool.{Bool, true, false, ◌||◌}
 use mathlib.Core.List.{List, [], ◌∷◌}
-use mathlib.Core.Option.{Option, none, some}
+use Rattle.std.specs.Prelude.{Option}
+use Rattle.std.specs.declared.option.Option.TheVariants.{Some, None}
 use Prim.Native.Nat.{ℕ, zero, suc, ◌<◌}
 use native.Mathlib.Omega.{arith}
 use borrow.Author.Tests.{eqb-true, eqb-false}
@@ -33,25 +34,25 @@ chosen_few c w = looked_up Few (destinations w) (tt, (omega arith, (omega arith,
 pub few : (c f w : ℕ) → Few (destination c f w)
 few c f w =
     let h = chosen_few c w in
-    either Few (by_interrupt c) (looked_up Few (none ∷ none ∷ none ∷ chosen c w ∷ []) (tt, (tt, (tt, (h, tt)))) tt f) h
+    either Few (by_interrupt c) (looked_up Few (None ∷ None ∷ None ∷ chosen c w ∷ []) (tt, (tt, (tt, (h, tt)))) tt f) h
 
 -- u is written there
 abbrev put : ℕ → State → Option ℕ → State
-put u s none = s
-put u s (some d) = put_r d u s
+put u s None = s
+put u s (Some d) = put_r d u s
 
 written_is : (c w u : ℕ) (s : State) → written c w u s ≡ put u s (chosen c w)
 unfolding written
-written_is c w u s = get_or-map (put u s) (destinations w) (field (bits 1 0) c) none
+written_is c w u s = get_or-map (put u s) (destinations w) (field (bits 1 0) c) None
 
 put_other : (u : ℕ) (s : State) (o : Option ℕ) (k : ℕ) → is o k ≡ false → R (put u s o) k ≡ R s k
-put_other u s none k e = refl
-put_other u s (some d) k e = get_or-set_other s.r d k u 0 (λ z. eqb-false d k e (sym z))
+put_other u s None k e = refl
+put_other u s (Some d) k e = get_or-set_other s.r d k u 0 (λ z. eqb-false d k e (sym z))
 
 -- z put in Rk first is lost where Rk is written
 put_after : (k z u : ℕ) (s : State) (o : Option ℕ) → put u (put_r k z s) o ≡ pick (is o k) (put u s o) (put_r k z (put u s o))
-put_after k z u s none = refl
-put_after k z u s (some d) = go (eqb d k) refl
+put_after k z u s None = refl
+put_after k z u s (Some d) = go (eqb d k) refl
   where
     go : (t : Bool) → eqb d k ≡ t → put_r d u (put_r k z s) ≡ pick t (put_r d u s) (put_r k z (put_r d u s))
     go true e = rw (eqb-true d k e, set-set s.r k z u)
@@ -108,8 +109,8 @@ counted : (c w u : ℕ) (s : State) → count (written c w u s) ≡ written c w 
 counted c w u s = ap count (written_is c w u s) ∙ go (chosen c w) ∙ sym (written_is c w u (count s))
   where
     go : (o : Option ℕ) → count (put u s o) ≡ put u (count s) o
-    go none = refl
-    go (some d) = refl
+    go None = refl
+    go (Some d) = refl
 
 -- GETIID, which writes the line number
 abbrev getiid : ℕ → ℕ → Machine → Machine
@@ -146,7 +147,7 @@ does_writes c f w x y = go (by_interrupt c)
     go false = fields_write c f w x y
 
 -- a line taken
-pub taking_writes : WritesOnly none after_taking
+pub taking_writes : WritesOnly None after_taking
 taking_writes = record { other = λ m k e. refl; after = λ k z m. refl }
 
 -- ---- Registers outside a mask

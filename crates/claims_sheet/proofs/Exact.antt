@@ -2,7 +2,6 @@
 -- Assumes nothing.
 use mathlib.Core.Path.{◌≡◌, refl, ap, ap₂, subst, ◌∙◌}
 use mathlib.Core.Bool.{Bool, true, false, not, ◌&&◌, ◌||◌}
-use mathlib.Core.Option.{none, some}
 use Prim.Native.Nat.{ℕ, ◌^◌, ◌<◌}
 use native.Mathlib.Omega.{arith}
 use lib.Dec.{T, eqb, eqb→eq}
@@ -15,8 +14,8 @@ use Rattle.kinds.specs.declared.Kind.TheVariants.{And}
 use lib.ListN.{length, get_or}
 use Rattle.kinds.specs.declared.Kind.{Kind}
 use Rattle.isa.specs.declared.Instruction.{Instruction}
-use Rattle.isa.specs.declared.rows.Entry.{Entry}
-use Rattle.isa.specs.declared.rows.Entry.TheVariants.{Unassigned, Assigned}
+use Rattle.std.specs.Prelude.{Option}
+use Rattle.std.specs.declared.option.Option.TheVariants.{Some, None}
 use Rattle.isa.specs.Sheet.{sheet_line, kind_at}
 use Rattle.isa.specs.Instructions.{Register, a_register, b_register, d_register, instruction, parts_of, read_as, read_of}
 use Rattle.isa.specs.Masks.{in_mask, register_mask, reads_destination, reads_of, masks_as, masks_of}
@@ -52,8 +51,8 @@ unfolding mask_of
 in_part p w j t h = go (eqb p.count 0) refl t
   where
     go : (z : Bool) → eqb p.count 0 ≡ z → T (pick (not z) (eqb p.count 3) true) → in_mask (pick z 0 (2 ^ field p w)) j ≡ (not z && eqb (field p w) j)
-    go true e t = in_one none j tt h
-    go false e t = in_one (some (field p w)) j (let c : p.count ≡ 3 = eqb→eq _ _ t in rw c (omega arith)) h
+    go true e t = in_one None j tt h
+    go false e t = in_one (Some (field p w)) j (let c : p.count ≡ 3 = eqb→eq _ _ t in rw c (omega arith)) h
 
 module _ (k : Kind) (w j : ℕ) (h : j < 8) where
   in_its : (p : Register) → in_mask (register_mask (bits_of k p) w) j ≡ (has (bits_of k p) && eqb (field (bits_of k p) w) j)
@@ -65,7 +64,7 @@ module _ (k : Kind) (w j : ℕ) (h : j < 8) where
     where
       go : (t : Bool) → T (pick t (has (bits_of k d_register)) true) → in_mask (pick t (register_mask (bits_of k d_register) w) 0) j ≡ (t && eqb (field (bits_of k d_register) w) j)
       go true t = in_its d_register ∙ ap (λ b. b && eqb (field (bits_of k d_register) w) j) (is_true (has (bits_of k d_register)) t)
-      go false t = in_one none j tt h
+      go false t = in_one None j tt h
 
   in_reads : in_mask (reads_of k w) j ≡ (let i = parts_of (sheet_line k) k w in is_used i j a_register || is_used i j b_register || is_used i j d_register)
   in_reads =
@@ -76,8 +75,8 @@ pub exact : (w : ℕ) (i : Instruction) → read_of w ≡ instruction i → (j :
 unfolding read_of masks_of
 exact w i e j h = go (kind_at (opcode w) (e_of w) (f_of w)) e
   where
-    go : (x : Entry) → read_as x w ≡ instruction i → Exact (masks_as x w) i j
-    go (Assigned k) e =
+    go : (x : Option Kind) → read_as x w ≡ instruction i → Exact (masks_as x w) i j
+    go (Some k) e =
         let z : parts_of (sheet_line k) k w ≡ i = cc in
-        subst (λ (i : Instruction). Exact (masks_as (Assigned k) w) i j) z (record { reads = in_reads k w j h; writes = in_its k w j h d_register })
-    go Unassigned e = clash (cc)
+        subst (λ (i : Instruction). Exact (masks_as (Some k) w) i j) z (record { reads = in_reads k w j h; writes = in_its k w j h d_register })
+    go None e = clash (cc)

@@ -4,7 +4,6 @@
 use mathlib.Core.Path.{◌≡◌, refl, sym, ap, ap₂, subst, ◌∙◌}
 use mathlib.Core.Bool.{Bool, true, false, not, ◌&&◌}
 use mathlib.Core.List.{[], ◌∷◌}
-use mathlib.Core.Option.{none}
 use Prim.Native.Nat.{ℕ, ◌<◌}
 use native.Mathlib.Omega.{arith}
 use lib.Bits.{bit_or}
@@ -12,8 +11,9 @@ use Rattle.word.specs.Fields.{opcode, a_of, b_of, e_of, f_of}
 use Rattle.word.specs.Word.{pick}
 use Rattle.word.proofs.Tables.{Each}
 use Rattle.word.proofs.Tests.{clash}
-use Rattle.isa.specs.declared.rows.Entry.{Entry}
-use Rattle.isa.specs.declared.rows.Entry.TheVariants.{Unassigned, Assigned}
+use Rattle.std.specs.Prelude.{Option}
+use Rattle.std.specs.declared.option.Option.TheVariants.{Some, None}
+use Rattle.kinds.specs.declared.Kind.{Kind}
 use Rattle.isa.specs.Sheet.{kind_at}
 use Rattle.isa.specs.Instructions.{unassigned, read_as, read_of}
 use Rattle.isa.specs.Masks.{Masks, in_mask, masks_as, masks_of}
@@ -147,15 +147,15 @@ others_stay false false m next k h e n = step_other (fetched m) m next k h e n
 alike_at : (t l : Bool) (m : Machine) (v : ℕ → ℕ)
     → step_at t l (with_outside (masks_if t m).reads v m) ≡ on_next (with_outside (bit_or (masks_if t m).reads (masks_if t m).writes) v) (step_at t l m)
 unfolding mask_of
-alike_at true l m v = ap to (goes_outside 0 v none tt _ taking_writes _ few_8 m)
+alike_at true l m v = ap to (goes_outside 0 v None tt _ taking_writes _ few_8 m)
 alike_at false true m v = refl
 alike_at false false m v = ap (λ w. step_of w (changed (fetched m) m v)) (fetched_outside (masks_of (fetched m)).reads v _ m) ∙ step_outside (fetched m) m v
 
 -- ---- The laws
 
-no_masks : (w : ℕ) (k : Entry) → read_as k w ≡ unassigned → masks_as k w ≡ record { reads = 0; writes = 0 }
-no_masks w (Assigned k) e = clash (cc)
-no_masks w Unassigned e = refl
+no_masks : (w : ℕ) (k : Option Kind) → read_as k w ≡ unassigned → masks_as k w ≡ record { reads = 0; writes = 0 }
+no_masks w (Some k) e = clash (cc)
+no_masks w None e = refl
 
 pub mask_laws : MaskLaws
 unfolding read_of masks_of

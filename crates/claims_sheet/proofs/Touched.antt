@@ -4,7 +4,6 @@
 use mathlib.Core.Path.{◌≡◌, refl, ap, ap₂, ◌∙◌}
 use mathlib.Core.Bool.{Bool, true, false, not, ◌&&◌, ◌||◌, or-true, beq}
 use mathlib.Core.List.{List, [], ◌∷◌, ◌++◌}
-use mathlib.Core.Option.{Option, none, some}
 use Prim.Native.Nat.{ℕ, ◌+◌, ◌-◌, ◌*◌, ◌/◌, ◌%◌, ◌^◌, ◌<◌}
 use native.Mathlib.Omega.{arith}
 use borrow.Author.Tests.{eq-eqb}
@@ -16,8 +15,9 @@ use Rattle.word.specs.Word.{pick, add, operation, comparison}
 use Rattle.muldiv.specs.Muldiv.{muldiv}
 use Rattle.word.proofs.Computed.{all, all_at}
 use Rattle.word.proofs.Tests.{never, same_test}
-use Rattle.isa.specs.declared.rows.Entry.{Entry}
-use Rattle.isa.specs.declared.rows.Entry.TheVariants.{Unassigned, Assigned}
+use Rattle.std.specs.Prelude.{Option}
+use Rattle.std.specs.declared.option.Option.TheVariants.{Some, None}
+use Rattle.kinds.specs.declared.Kind.{Kind}
 use Rattle.isa.specs.Sheet.{kind_at}
 use Rattle.isa.specs.Masks.{Masks, in_mask, masks_as, masks_of}
 use Rattle.isa.specs.Instructions.{Register, a_register, b_register, d_register}
@@ -34,18 +34,18 @@ use Rattle.claims_sheet.proofs.Rules.{table_of, at_word}
 
 -- of one register, or none
 unfoldable pub mask_of : Option ℕ → ℕ
-mask_of none = 0
-mask_of (some d) = 2 ^ d
+mask_of None = 0
+mask_of (Some d) = 2 ^ d
 
 -- Rk is that register
 abbrev pub is : Option ℕ → ℕ → Bool
-is none k = false
-is (some d) k = eqb d k
+is None k = false
+is (Some d) k = eqb d k
 
 -- it is one of the eight
 abbrev pub Few : Option ℕ → Type 0
-Few none = Unit {0}
-Few (some d) = d < 8
+Few None = Unit {0}
+Few (Some d) = d < 8
 
 -- two tests that are found alike at each i and j
 both_at : (m n : ℕ) (f g : ℕ → ℕ → Bool) → T (all m (λ i. all n (λ j. beq (f i j) (g i j)))) → (i j : ℕ) → i < m → j < n → f i j ≡ g i j
@@ -54,8 +54,8 @@ both_at m n f g t i j h l =
 
 pub in_one : (o : Option ℕ) (k : ℕ) → Few o → k < 8 → in_mask (mask_of o) k ≡ is o k
 unfolding mask_of all
-in_one none k f h = both_at 1 8 (λ d k. in_mask 0 k) (λ d k. false) tt 0 k (omega arith) h
-in_one (some d) k f h = both_at 8 8 (λ d k. in_mask (2 ^ d) k) eqb tt d k f h
+in_one None k f h = both_at 1 8 (λ d k. in_mask 0 k) (λ d k. false) tt 0 k (omega arith) h
+in_one (Some d) k f h = both_at 8 8 (λ d k. in_mask (2 ^ d) k) eqb tt d k f h
 
 pub in_or : (A B k : ℕ) → in_mask (bit_or A B) k ≡ (in_mask A k || in_mask B k)
 unfolding all
@@ -71,15 +71,15 @@ abbrev pub control_at : ℕ → ℕ → ℕ
 control_at op e = get_or controls (op * 2 + e) 0
 
 abbrev pub destinations : ℕ → List (Option ℕ)
-destinations w = none ∷ some (d5_3 w) ∷ some (d8_6 w) ∷ some (d11_9 w) ∷ []
+destinations w = None ∷ Some (d5_3 w) ∷ Some (d8_6 w) ∷ Some (d11_9 w) ∷ []
 
 -- the register that bits 1..0 of a control word choose
 abbrev pub chosen : ℕ → ℕ → Option ℕ
-chosen c w = get_or (destinations w) (field (bits 1 0) c) none
+chosen c w = get_or (destinations w) (field (bits 1 0) c) None
 
 -- with bit 15 (02, L12): EI, DI and RETI write none, GETIID that one
 abbrev pub chosen_by_f : ℕ → ℕ → ℕ → Option ℕ
-chosen_by_f c f w = get_or (none ∷ none ∷ none ∷ chosen c w ∷ []) f none
+chosen_by_f c f w = get_or (None ∷ None ∷ None ∷ chosen c w ∷ []) f None
 
 -- the register that a control word writes for this f
 abbrev pub destination : ℕ → ℕ → ℕ → Option ℕ
@@ -92,12 +92,12 @@ taken c f =
     pick (by_interrupt c) (bit-14 && among f (0 ∷ 1 ∷ 2 ∷ 3 ∷ [])) (bit-14 && takes (unit_field c) f)
 
 -- what the masks go by
-abbrev said : Entry → Register → Bool
-said (Assigned k) p = said_to_use k p
-said Unassigned p = false
+abbrev said : Option Kind → Register → Bool
+said (Some k) p = said_to_use k p
+said None p = false
 
 abbrev mask_if : Bool → ℕ → ℕ
-mask_if t k = mask_of (pick t (some k) none)
+mask_if t k = mask_of (pick t (Some k) None)
 
 -- The Rd that MOVHI uses stands where other words have a.
 through_control : ℕ → ℕ → ℕ → ℕ → Masks
@@ -106,7 +106,7 @@ through_control op e f w =
     let c = control_at op e in
     record {
       reads = bit_or (bit_or (mask_if (said k a_register) (a_of w)) (mask_if (said k b_register) (b_of w))) (mask_if (said k d_register) (a_of w));
-      writes = mask_of (pick (taken c f) (destination c f w) none);
+      writes = mask_of (pick (taken c f) (destination c f w) None);
     }
 
 same_masks : table_of (λ op e f. masks_as (kind_at op e f)) ≡ table_of through_control
@@ -136,14 +136,14 @@ unfoldable pub does : ℕ → ℕ → ℕ → ℕ → ℕ → Machine → Machin
 does c f w x y m = pick (by_interrupt c) (does_by_f c f w m) (does_by_fields c f w x y m)
 
 -- Ra and Rb are used
-abbrev pub uses_x : Entry → Bool
+abbrev pub uses_x : Option Kind → Bool
 uses_x k = said k a_register || said k d_register
 
-abbrev pub uses_y : Entry → Bool
+abbrev pub uses_y : Option Kind → Bool
 uses_y k = said k b_register
 
 -- the same, of 0 for what is not
-unfoldable pub does_used : Entry → ℕ → ℕ → ℕ → ℕ → ℕ → Machine → Machine
+unfoldable pub does_used : Option Kind → ℕ → ℕ → ℕ → ℕ → ℕ → Machine → Machine
 does_used k c f w x y m = does c f w (pick (uses_x k) x 0) (pick (uses_y k) y 0) m
 
 same_uses : table_of (λ op e f. does (control_at op e) f) ≡ table_of (λ op e f. does_used (kind_at op e f) (control_at op e) f)
@@ -195,13 +195,13 @@ or_right : (A B k : ℕ) → in_mask B k ≡ true → in_mask (bit_or A B) k ≡
 or_right A B k e = in_or A B k ∙ rw e (or-true (in_mask A k))
 
 alone : (d : ℕ) → d < 8 → in_mask (mask_if true d) d ≡ true
-alone d h = in_one (some d) d h h ∙ eq-eqb d d refl
+alone d h = in_one (Some d) d h h ∙ eq-eqb d d refl
 
 module _ (w : ℕ) where
   abbrev pub control : ℕ
   control = control_at (opcode w) (e_of w)
 
-  abbrev pub kind : Entry
+  abbrev pub kind : Option Kind
   kind = kind_at (opcode w) (e_of w) (f_of w)
 
   masks_at : masks_of w ≡ through_control (opcode w) (e_of w) (f_of w) w
@@ -240,7 +240,7 @@ module _ (w : ℕ) where
 
   pub writes_is : is_assigned_lem ≡ true → (masks_of w).writes ≡ mask_of (destination control (f_of w) w)
   unfolding through_control assigned interrupt_assigned
-  writes_is e = ap (λ M. M.writes) masks_at ∙ ap (λ t. mask_of (pick t (destination control (f_of w) w) none)) e
+  writes_is e = ap (λ M. M.writes) masks_at ∙ ap (λ t. mask_of (pick t (destination control (f_of w) w) None)) e
 
   pub used : (x y : ℕ) (m : Machine) → does control (f_of w) w x y m ≡ does_used kind control (f_of w) w x y m
   used x y m = ap (λ g. g w x y m) (at_word _ _ same_uses w)

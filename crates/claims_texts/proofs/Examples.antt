@@ -17,7 +17,7 @@ use Rattle.token.specs.Tokens.{between, is_digit, is_letter, is_letter_or_digit}
 use Rattle.token.specs.Scan.{goes_on_at, joins, ended, begun, scan, tokens, symbol_of, alike}
 use Rattle.expression.specs.Operands.{digit_of, all_digits, numeral, hexed, is_literal, literal_word, register_of, is_name, name_value, is_operand, operand_value, rank_of, shift_left, operated_of, operated, negated}
 use Rattle.expression.specs.Grammar.{value_of}
-use Rattle.expression.specs.Reading.{operator_by, rank_by, operator_of, rank, bind, mapped, closed, opening, start_of, leaf, prefixed, rest, follow, chain, ranked, inside, parse}
+use Rattle.expression.specs.Reading.{operator_by, rank_by, operator_of, rank, bind, mapped, closed, leaf, prefixed, rest, follow, chain, ranked, inside, parse}
 use Rattle.statement.specs.Reading.{row_from, row_of, one_register, a_punctuation, finished, read_item, read_items, statement_of, line_by, line_of, valued_parts, valued_statement, valued}
 use Rattle.encoding.specs.Words.{words_in, distance, odd, number_of, Judged, bad, nothing, gives, written, encoded, stated}
 use Rattle.assembler.specs.Text.{longer, lines, readings, text_lines, given, crowded, admitted, new_labels, after, names_from, repeated, judged, verdicts, text_verdicts, words_of, words, reply_from, assemble_left_by, assemble_left}
@@ -80,7 +80,7 @@ tested : T (both (tests sheet_rows) (both (tests value_rows) (tests name_rows)))
 unfolding tests come_to signed low_bits write_of between is_digit is_letter is_letter_or_digit goes_on_at joins ended begun scan tokens symbol_of alike
     digit_of all_digits numeral hexed is_literal literal_word register_of is_name name_value is_operand operand_value rank_of shift_left operated_of operated negated
     operator_by rank_by operator_of rank
-    value_of bind mapped closed opening start_of leaf prefixed rest follow chain ranked inside parse
+    value_of bind mapped closed leaf prefixed rest follow chain ranked inside parse
     row_from row_of one_register a_punctuation finished read_item read_items statement_of line_by line_of valued_parts valued_statement valued
     words_in distance odd number_of written encoded stated
     longer lines readings text_lines given crowded admitted new_labels after names_from repeated judged verdicts text_verdicts

@@ -1,12 +1,12 @@
 -- What some texts give: one for each kind and `.word`, as the sheet writes it, with its word worked out from the sheet's bits; and texts of 02
 -- (L2) for ranks, values and names. Mnemonics, the order of operands, ranks and the value of a name are each defined once, for printing
 -- and reading alike: this says them from a second side.
-use Rattle.std.specs.Prelude.{ℕ, ◌≡◌, List, [], ◌∷◌, ◌++◌, map, length, get_or}
+use Rattle.std.specs.Prelude.{ℕ, ◌≡◌, List, [], ◌∷◌, ◌++◌, map, length, get_or, Option}
 use Prim.Native.String.{String}
 use Rattle.word.specs.Fields.{opcode, e_of, f_of}
 use Rattle.kinds.specs.Kinds.{kinds}
-use Rattle.isa.specs.declared.rows.Entry.{Entry}
-use Rattle.isa.specs.declared.rows.Entry.TheVariants.{Unassigned, Assigned}
+use Rattle.std.specs.declared.option.Option.TheVariants.{Some, None}
+use Rattle.kinds.specs.declared.Kind.{Kind}
 use Rattle.isa.specs.Sheet.{kind_at}
 use Rattle.token.specs.Ascii.{ascii}
 use Rattle.assembler.specs.Text.{words, stored, assemble_left}
@@ -119,12 +119,12 @@ Each [] = Unit
 Each (x ∷ xs) = Gives x × Each xs
 
 -- the kind of its first word
-abbrev pub kind_of : Example → Entry
+abbrev pub kind_of : Example → Option Kind
 kind_of x = let w = get_or x.its_words 0 0 in kind_at (opcode w) (e_of w) (f_of w)
 
 pub record Examples : Type 0 where
   -- each of the kinds has a row, in their order, and `.word` the last, of an unassigned word
-  pub every_kind : map kind_of sheet_rows ≡ map Assigned kinds ++ (Unassigned ∷ [])
+  pub every_kind : map kind_of sheet_rows ≡ map Some kinds ++ (None ∷ [])
   pub sheet : Each sheet_rows
   pub values : Each value_rows
   pub names : Each name_rows

@@ -1,7 +1,7 @@
 -- The unassigned words, by one test over opcode, e and f.
 -- Assumes nothing.
 use mathlib.Core.Path.{◌≡◌, refl, sym, ◌∙◌}
-use mathlib.Core.Bool.{Bool, true, false, beq, ◌&&◌, ◌||◌}
+use mathlib.Core.Bool.{Bool, beq, ◌&&◌, ◌||◌}
 use mathlib.Core.Logic.{◌⊎◌, ◌↔◌}
 use Prim.Native.Nat.{ℕ, ◌<◌}
 use native.Mathlib.Omega.{arith}
@@ -9,29 +9,26 @@ use lib.Dec.{T, eqb, leb}
 use Rattle.word.specs.Fields.{opcode, e_of, f_of}
 use Rattle.word.proofs.Computed.{all, all_at}
 use Rattle.word.proofs.Tests.{clash, never, same_test}
-use Rattle.isa.specs.declared.rows.Entry.{Entry}
-use Rattle.isa.specs.declared.rows.Entry.TheVariants.{Unassigned as Empty, Assigned}
+use Rattle.std.specs.Prelude.{Option, is_none}
+use Rattle.std.specs.declared.option.Option.TheVariants.{Some, None}
+use Rattle.kinds.specs.declared.Kind.{Kind}
 use Rattle.isa.specs.Sheet.{kind_at}
 use Rattle.isa.specs.Instructions.{unassigned, read_as, read_of}
 use Rattle.claims_words.specs.Instructions.{Unassigned}
 use Rattle.claims_words.proofs.Decides.{Decides, decides_eq, decides_le, decides_and, decides_or}
-
-is_empty : Entry → Bool
-is_empty Empty = true
-is_empty (Assigned k) = false
 
 -- the statement, as a test of opcode and f
 listed : ℕ → ℕ → Bool
 listed op f = (eqb op 1 && (eqb f 2 || (eqb f 6 || eqb f 7))) || ((eqb op 11 && (eqb f 3 || (eqb f 6 || eqb f 7))) || ((eqb op 12 && leb 4 f) || leb 13 op))
 
 test : ℕ → ℕ → ℕ → Bool
-test op e f = beq (is_empty (kind_at op e f)) (listed op f)
+test op e f = beq (is_none (kind_at op e f)) (listed op f)
 
 tested : T (all 16 (λ op. all 2 (λ e. all 8 (λ f. test op e f))))
-unfolding all test is_empty listed kind_at
+unfolding all test listed kind_at
 tested = tt
 
-agrees : (w : ℕ) → w < 65536 → is_empty (kind_at (opcode w) (e_of w) (f_of w)) ≡ listed (opcode w) (f_of w)
+agrees : (w : ℕ) → w < 65536 → is_none (kind_at (opcode w) (e_of w) (f_of w)) ≡ listed (opcode w) (f_of w)
 unfolding test
 agrees w h =
     same_test _ _
@@ -49,10 +46,9 @@ says w =
     gap : (op f : ℕ) → Decides (eqb (opcode w) op && (eqb (f_of w) f || (eqb (f_of w) 6 || eqb (f_of w) 7))) ((opcode w ≡ op) × ((f_of w ≡ f) ⊎ (f_of w ≡ 6) ⊎ (f_of w ≡ 7)))
     gap op f = decides_and (decides_eq (opcode w) op) (decides_or (decides_eq (f_of w) f) (decides_or (decides_eq (f_of w) 6) (decides_eq (f_of w) 7)))
 
-reads : (x : Entry) (w : ℕ) → Decides (is_empty x) (read_as x w ≡ unassigned)
-unfolding is_empty
-reads Empty w = (λ e. refl, λ e. refl)
-reads (Assigned k) w = (never, λ e. clash (cc))
+reads : (x : Option Kind) (w : ℕ) → Decides (is_none x) (read_as x w ≡ unassigned)
+reads None w = (λ e. refl, λ e. refl)
+reads (Some k) w = (never, λ e. clash (cc))
 
 pub unassigned_words : (w : ℕ) → w < 65536 → (read_of w ≡ unassigned) ↔ Unassigned w
 unfolding read_of

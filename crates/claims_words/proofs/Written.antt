@@ -15,15 +15,13 @@ use Rattle.word.proofs.Tests.{clash}
 use Rattle.kinds.specs.declared.Kind.{Kind}
 use Rattle.kinds.specs.declared.Kind.TheVariants.{And}
 use Rattle.isa.specs.declared.Instruction.{Instruction}
-use Rattle.isa.specs.declared.Writing.{Writing}
-use Rattle.isa.specs.declared.Writing.TheVariants.{Word, Refused}
-use Rattle.isa.specs.declared.rows.Entry.{Entry}
-use Rattle.isa.specs.declared.rows.Entry.TheVariants.{Assigned}
+use Rattle.refusal.specs.declared.Refusal.{Refusal}
+use Rattle.std.specs.Prelude.{Option, Result}
+use Rattle.std.specs.declared.option.Option.TheVariants.{Some, None}
+use Rattle.std.specs.declared.result.Result.TheVariants.{Ok, Err}
 use Rattle.isa.specs.declared.layout.Form.{Form}
 use Rattle.isa.specs.declared.layout.Form.TheVariants.{Abd, Axd, AdSigned, AbSigned, Adx, ASigned, AUnsigned, DSigned, DUnsigned, Xxx, Xxd}
 use Rattle.isa.specs.declared.layout.Layout.{Layout}
-use Rattle.isa.specs.declared.parts.Low.{Low}
-use Rattle.isa.specs.declared.parts.Low.TheVariants.{Nothing, Bits}
 use Rattle.kinds.specs.Kinds.{kinds}
 use Rattle.isa.specs.Sheet.{kind_at}
 use Rattle.isa.specs.Instructions.{instruction, read_as, read_of, word, shown_writing, write_of}
@@ -46,17 +44,17 @@ unless false b = true
 test : Kind → ℕ → ℕ → ℕ → Bool
 test k op e f =
     unless (eqb op (base_of (form_of k) / 4096))
-    (unless (eqb (rest (form_of k) e f) (rest_of (form_of k) (base_of (form_of k)))) (eqb (entry_number (kind_at op e f)) (entry_number (Assigned k))))
+    (unless (eqb (rest (form_of k) e f) (rest_of (form_of k) (base_of (form_of k)))) (eqb (entry_number (kind_at op e f)) (entry_number (Some k))))
 
 tested : T (all (length kinds) (λ n. all 16 (λ op. all 2 (λ e. all 8 (λ f. test (get_or kinds n And) op e f)))))
 unfolding all test unless kind_at
 tested = tt
 
-kind_found : (k : Kind) (w : ℕ) → w < 65536 → Keyed (form_of k) w → kind_at (opcode w) (e_of w) (f_of w) ≡ Assigned k
+kind_found : (k : Kind) (w : ℕ) → w < 65536 → Keyed (form_of k) w → kind_at (opcode w) (e_of w) (f_of w) ≡ Some k
 unfolding test unless
 kind_found k w h q =
     let t = at_word (test k) (every (λ k. all 16 (λ op. all 2 (λ e. all 8 (λ f. test k op e f)))) tested k) w h in
-    sym (kind_same w h) ∙ entry_fixed _ (Assigned k) (rw (eq-eqb _ _ q.0, eq-eqb _ _ q.1) at t)
+    sym (kind_same w h) ∙ entry_fixed _ (Some k) (rw (eq-eqb _ _ q.0, eq-eqb _ _ q.1) at t)
 
 -- ---- The parts
 
@@ -94,18 +92,18 @@ record Accepted (m : Layout) (i : Instruction) (w : ℕ) : Type 0 where
   b_in : i.b < m.b
   d_in : i.d < m.d
   x : ℕ
-  bits : bits_of m.size m.negatives i.n ≡ Bits x
+  bits : bits_of m.size m.negatives i.n ≡ Some x
   is : word_sum m i.a i.b i.d x ≡ w
 
-pick_word : (t : Bool) (u : Writing) (w : ℕ) → pick t u (Refused InstructionPart) ≡ Word w → (t ≡ true) × (u ≡ Word w)
+pick_word : (t : Bool) (u : Result ℕ Refusal) (w : ℕ) → pick t u (Err InstructionPart) ≡ Ok w → (t ≡ true) × (u ≡ Ok w)
 pick_word true u w e = (refl, e)
 pick_word false u w e = clash (cc)
 
-word_bits : (m : Layout) (i : Instruction) (l : Low) (w : ℕ) → write_bits m i l ≡ Word w → (x : ℕ) × (l ≡ Bits x) × (word_sum m i.a i.b i.d x ≡ w)
-word_bits m i Nothing w e = clash (cc)
-word_bits m i (Bits x) w e = (x, refl, cc)
+word_bits : (m : Layout) (i : Instruction) (l : Option ℕ) (w : ℕ) → write_bits m i l ≡ Ok w → (x : ℕ) × (l ≡ Some x) × (word_sum m i.a i.b i.d x ≡ w)
+word_bits m i None w e = clash (cc)
+word_bits m i (Some x) w e = (x, refl, cc)
 
-accepted : (m : Layout) (i : Instruction) (w : ℕ) → write_in m i ≡ Word w → Accepted m i w
+accepted : (m : Layout) (i : Instruction) (w : ℕ) → write_in m i ≡ Ok w → Accepted m i w
 accepted m i w e =
     let p = pick_word (ltb i.a m.a) _ w e in
     let q = pick_word (ltb i.b m.b) _ w p.1 in
@@ -113,9 +111,9 @@ accepted m i w e =
     let l = word_bits m i _ w r.1 in
     record { a_in = ltb-true _ _ p.0; b_in = ltb-true _ _ q.0; d_in = ltb-true _ _ r.0; x = l.0; bits = l.1; is = l.2 }
 
-shown_word : (r : Writing) (w : ℕ) → shown_writing r ≡ word w → r ≡ Word w
-shown_word (Word v) w e = ap Word (cc)
-shown_word (Refused k) w e = clash (cc)
+shown_word : (r : Result ℕ Refusal) (w : ℕ) → shown_writing r ≡ word w → r ≡ Ok w
+shown_word (Ok v) w e = ap Ok (cc)
+shown_word (Err k) w e = clash (cc)
 
 -- the fields of a word that was placed are the parts
 fields_back : (y : Form) (i : Instruction) (w : ℕ) → Fixed y → (layout_of y).negatives < (layout_of y).size → Accepted (layout_of y) i w
@@ -137,5 +135,5 @@ written_then_read i w e =
     let small : w < 65536 = rw a.is at ((sound k).room i.a i.b i.d a.x a.a_in a.b_in a.d_in x.0) in
     let h = fields_back (form_of k) i w (fixed k) (sound k).negatives_few a in (
       small,
-      ap (λ (x : Entry). read_as x w) (kind_found k w small h.0) ∙ ap instruction (sym (parts_are k w) ∙ h.1),
+      ap (λ (x : Option Kind). read_as x w) (kind_found k w small h.0) ∙ ap instruction (sym (parts_are k w) ∙ h.1),
     )

@@ -1,10 +1,12 @@
 // Going back: sets, runs with a journal and steps back, after a load.
 use crate::calls::{set_port, start_line};
-use crate::journals::{JOURNAL_PLACES, Journal, change_of, journal_places, of_call, run_on};
+use crate::journals;
+use crate::journals::{Journal, change_of, journal_places, of_call, run_on};
+use crate::runs::Engine;
 use machine::State;
-use player::lent::{Log, Memory, Ports, least};
+use player::lent::Lent;
 use player::print;
-use player::runs::{Request, request_by};
+use player::runs::{Call, Request};
 use replies::SisaBack;
 use std::io;
 use std::io::Write;
@@ -26,84 +28,56 @@ pub const GOING_BACK: Calls = Calls {
 
 fn set<W: Write>(
     out: &mut W,
-    calls: Calls,
-    c: u16,
-    j: u16,
+    call: Call,
+    port_bits: u16,
     kept: State,
-    program: &Memory,
-    memory: &Memory,
-    inputs: &mut Ports,
-    outputs: &Ports,
-    log: &Log,
+    lent: &mut Lent,
 ) -> io::Result<()> {
-    let port = of_call(c, j, 1) & calls.port_bits;
-    let value = of_call(c, j, 2);
-    set_port(out, c, j, port, value, State::PORTS, inputs)?;
-    print::left(out, kept, program, memory, inputs, outputs, log)
+    let port = of_call(call, 1) & port_bits;
+    set_port(out, call, port, of_call(call, 2), &mut lent.inputs)?;
+    print::left(out, kept, lent)
 }
 
 // How many steps to go back. (A count is at most the journal's length: the sum does not wrap.)
-fn steps_of(c: u16, j: u16, journaled: u64) -> u64 {
-    match of_call(c, j, 2) % 4 {
+fn steps_of(call: Call, journaled: u64) -> u64 {
+    match of_call(call, 2) % 4 {
         0 => journaled,
         1 => wrapping_add_u64(journaled, 1),
-        _ => (of_call(c, j, 1) % 20) as u64,
+        _ => (of_call(call, 1) % 20) as u64,
     }
 }
 
 // A step back has no budget and no log.
-fn back_request(c: u16, j: u16, kept: State) -> Request {
-    let n = if kept.n < 3 { kept.n } else { 3 };
-    request_by(change_of(c, j), kept, n, 0, 0)
+fn back_request(call: Call, kept: State) -> Request {
+    Request::by_change(change_of(call), kept, kept.n.min(3), 0, 0)
 }
 
-fn step_back(
-    c: u16,
-    j: u16,
-    kept: State,
-    program: &[u8],
-    memory: &mut [u8],
-    inputs: &mut [u16],
-    outputs: &mut [u16],
-    journal: &[u64],
-) -> SisaBack {
-    let request = back_request(c, j, kept);
-    let bytes = least(request.bytes, memory.len());
-    let ports = least(request.ports, outputs.len());
-    let lent = least(journal_places(c, j), journal.len());
+fn step_back(call: Call, kept: State, lent: &mut Lent, journal: &Journal) -> SisaBack {
+    let request = back_request(call, kept);
     sisa::sisa_step_back(
         request.state,
-        program,
-        &mut memory[0..bytes],
-        inputs,
-        &mut outputs[0..ports],
-        &journal[0..lent],
-        steps_of(c, j, kept.journaled),
+        &lent.program,
+        &mut lent.memory[0..request.bytes.min(State::MEMORY_BYTES)],
+        &mut lent.inputs,
+        &mut lent.outputs[0..request.ports.min(State::PORTS)],
+        &journal[0..journal_places(call)],
+        steps_of(call, kept.journaled),
     )
-}
-
-fn print_back<W: Write>(out: &mut W, c: u16, j: u16, gone: SisaBack) -> io::Result<()> {
-    let state = gone.state;
-    start_line(out, b"back", c, j)?;
-    print::fields(out, &[gone.refusal as u64, gone.entries, state.journaled])
 }
 
 // Going back and its line. Answers what the call returned.
 pub fn back<W: Write>(
     out: &mut W,
-    c: u16,
-    j: u16,
+    call: Call,
     kept: State,
-    program: &Memory,
-    memory: &mut Memory,
-    inputs: &mut Ports,
-    outputs: &mut Ports,
-    log: &Log,
+    lent: &mut Lent,
     journal: &Journal,
 ) -> io::Result<SisaBack> {
-    let gone = step_back(c, j, kept, program, memory, inputs, outputs, journal);
-    print_back(out, c, j, gone)?;
-    print::left(out, gone.state, program, memory, inputs, outputs, log)?;
+    let gone = step_back(call, kept, lent, journal);
+    let state = gone.state;
+    start_line(out, b"back", call)?;
+    print::fields(out, &[gone.refusal as u64, gone.entries, state.journaled])?;
+    print::left(out, state, lent)?;
     Ok(gone)
 }
 
@@ -112,43 +86,26 @@ pub fn kept_after_back(kept: State, gone: SisaBack) -> State {
     if gone.refusal == 0 { gone.state } else { kept }
 }
 
-// Call j. Answers the state that the host keeps.
-fn call<W: Write>(
+// Plays a call. Answers the state that the host keeps.
+fn play_call<W: Write>(
     out: &mut W,
     calls: Calls,
-    c: u16,
-    j: u16,
+    call: Call,
     kept: State,
-    program: &Memory,
-    memory: &mut Memory,
-    inputs: &mut Ports,
-    outputs: &mut Ports,
-    log: &mut Log,
+    lent: &mut Lent,
     journal: &mut Journal,
 ) -> io::Result<State> {
-    let choice = of_call(c, j, 0) % 8;
-    if choice < calls.sets {
-        set(
-            out, calls, c, j, kept, program, memory, inputs, outputs, log,
-        )?;
-        return Ok(kept);
-    }
-    match choice {
-        6 | 7 => {
-            let gone = back(
-                out, c, j, kept, program, memory, inputs, outputs, log, journal,
-            )?;
+    match of_call(call, 0) % 8 {
+        choice if choice < calls.sets => {
+            set(out, call, calls.port_bits, kept, lent)?;
+            Ok(kept)
+        }
+        0..=3 => run_on(out, Engine::Rules, call, kept, lent, journal),
+        4 | 5 => run_on(out, Engine::Table, call, kept, lent, journal),
+        _ => {
+            let gone = back(out, call, kept, lent, journal)?;
             Ok(kept_after_back(kept, gone))
         }
-        _ => run_on(
-            out, choice, c, j, kept, program, memory, inputs, outputs, log, journal,
-        ),
-    }
-}
-
-pub fn fill(journal: &mut Journal) {
-    for i in 0..JOURNAL_PLACES {
-        journal[i] = i as u64;
     }
 }
 
@@ -157,29 +114,13 @@ pub fn play<W: Write>(
     calls: Calls,
     c: u16,
     loaded: State,
-    program: &Memory,
-    memory: &mut Memory,
-    inputs: &mut Ports,
-    outputs: &mut Ports,
-    log: &mut Log,
+    lent: &mut Lent,
 ) -> io::Result<()> {
-    let mut journal = [0u64; JOURNAL_PLACES];
-    fill(&mut journal);
+    let mut journal = journals::first();
     let mut kept = loaded;
-    for j in 0..calls.count {
-        kept = call(
-            out,
-            calls,
-            c,
-            j,
-            kept,
-            program,
-            memory,
-            inputs,
-            outputs,
-            log,
-            &mut journal,
-        )?;
+    for index in 0..calls.count {
+        let call = Call { case: c, index };
+        kept = play_call(out, calls, call, kept, lent, &mut journal)?;
     }
     Ok(())
 }

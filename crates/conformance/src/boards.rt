@@ -3,90 +3,63 @@
 use crate::cases::{load_whole, play_loaded};
 use crate::loads;
 use crate::loads::print_load;
+use machine::State;
 use numbers::number;
 use player::file::Sort;
-use player::lent::{Log, Memory, Ports};
-use replies::SisaLoad;
-use std::io;
+use player::lent::Lent;
 use std::io::Write;
+use std::ops::Range;
+use std::{array, io};
 
 const LARGE_BYTES: usize = 64016;
 
 type LargeFile = [u8; LARGE_BYTES];
 
-fn play<W: Write>(
-    out: &mut W,
-    sort: Sort,
-    c: u16,
-    program: &mut Memory,
-    memory: &mut Memory,
-    inputs: &mut Ports,
-    outputs: &mut Ports,
-    log: &mut Log,
-) -> io::Result<()> {
-    let load = load_whole(sort, c, program, memory, inputs, outputs);
-    play_loaded(out, c, load, program, memory, inputs, outputs, log)
+fn play<W: Write>(out: &mut W, sort: Sort, c: u16, lent: &mut Lent) -> io::Result<()> {
+    let load = load_whole(sort, c, lent);
+    play_loaded(out, c, load, lent)
 }
 
-// The header is 32,000, 16, C, 16.
-fn large_file(c: u16) -> LargeFile {
-    let mut file = [0u8; LARGE_BYTES];
-    for j in 16..LARGE_BYTES {
-        file[j] = (number(c, j as u16) % 256) as u8;
-    }
-    file[1] = 125;
-    file[4] = 16;
-    file[8] = match c {
-        87 | 88 | 109 => 1,
+// Byte `at` of the header, which is 32,000, 16, C, 16.
+fn header_byte(c: u16, at: usize) -> u8 {
+    match at {
+        1 => 125,
+        4 => 16,
+        8 => matches!(c, 87 | 88 | 109) as u8,
+        9 => 6,
+        12 => 16,
         _ => 0,
-    };
-    file[9] = 6;
-    file[12] = 16;
-    file
+    }
 }
 
-fn load_large(
-    c: u16,
-    program: &mut [u8],
-    memory: &mut [u8],
-    inputs: &mut [u16],
-    outputs: &mut [u16],
-) -> SisaLoad {
-    let file = large_file(c);
-    loads::load(c, &file, program, memory, inputs, outputs)
+fn large_file(c: u16) -> LargeFile {
+    array::from_fn(|at| {
+        if at < 16 {
+            header_byte(c, at)
+        } else {
+            (number(c, at as u16) % 256) as u8
+        }
+    })
 }
 
-fn play_large<W: Write>(
-    out: &mut W,
-    c: u16,
-    program: &mut Memory,
-    memory: &mut Memory,
-    inputs: &mut Ports,
-    outputs: &mut Ports,
-    log: &Log,
-) -> io::Result<()> {
-    let load = load_large(c, program, memory, inputs, outputs);
-    print_load(out, b"load", c, load, program, memory, inputs, outputs, log)
+fn play_large<W: Write>(out: &mut W, c: u16, lent: &mut Lent) -> io::Result<()> {
+    let load = loads::load(c, &large_file(c), State::MEMORY_BYTES, lent);
+    print_load(out, b"load", c, load, lent)
 }
 
-// A section: cases from `first` on, and from `large` on, up to `end`, files.
+// A section: its cases, and its cases of large files.
 pub fn all<W: Write>(
     out: &mut W,
     sort: Sort,
-    first: u16,
-    large: u16,
-    end: u16,
-    program: &mut Memory,
-    memory: &mut Memory,
-    inputs: &mut Ports,
-    outputs: &mut Ports,
-    log: &mut Log,
+    cases: Range<u16>,
+    large: Range<u16>,
+    lent: &mut Lent,
 ) -> io::Result<()> {
-    for c in first..large {
-        play(out, sort, c, program, memory, inputs, outputs, log)?;
+    for c in cases {
+        play(out, sort, c, lent)?;
     }
-    for c in large..end {
-        play_large(out, c, program, memory, inputs, outputs, log)?;
+    for c in large {
+        play_large(out, c, lent)?;
     }
     Ok(())
 }

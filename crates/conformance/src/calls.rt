@@ -1,8 +1,9 @@
 // The calls of a case of docs/CONFORMANCE.md, played on the C interface.
+use crate::runs::Engine;
 use crate::{instructions, locks, runs};
 use machine::State;
-use player::lent::{Log, Memory, Ports, all_but, least};
-use player::runs::of_call;
+use player::lent::{Lent, all_but};
+use player::runs::Call;
 use player::{digest, print};
 use replies::SisaWindow;
 use sheet::Sheet;
@@ -17,116 +18,89 @@ pub struct Kept {
 }
 
 // The start of a call's line.
-pub fn start_line<W: Write>(out: &mut W, what: &[u8], c: u16, i: u16) -> io::Result<()> {
+pub fn start_line<W: Write>(out: &mut W, what: &[u8], call: Call) -> io::Result<()> {
     print::text(out, what)?;
-    print::field(out, c as u64)?;
-    print::field(out, i as u64)
+    print::fields(out, &[call.case as u64, call.index as u64])
 }
 
-// Sets a port, with so many of the inputs lent, and prints the line but for its digest.
+// Sets a port of the inputs lent, and prints the line but for its digest.
 pub fn set_port<W: Write>(
     out: &mut W,
-    c: u16,
-    i: u16,
+    call: Call,
     port: u16,
     value: u16,
-    words: usize,
     inputs: &mut [u16],
 ) -> io::Result<()> {
-    let most = least(words, inputs.len());
-    let refusal = sisa::sisa_set_input(&mut inputs[0..most], (port % 256) as u8, value);
-    start_line(out, b"set", c, i)?;
+    let refusal = sisa::sisa_set_input(inputs, (port % 256) as u8, value);
+    start_line(out, b"set", call)?;
     print::field(out, refusal as u64)
 }
 
-fn set<W: Write>(
-    out: &mut W,
-    c: u16,
-    i: u16,
-    kept: State,
-    program: &Memory,
-    memory: &Memory,
-    inputs: &mut Ports,
-    outputs: &Ports,
-    log: &Log,
-) -> io::Result<()> {
-    let words = all_but(of_call(c, i, 3) % 16 == 0, State::PORTS);
-    set_port(out, c, i, of_call(c, i, 1), of_call(c, i, 2), words, inputs)?;
-    print::left(out, kept, program, memory, inputs, outputs, log)
+fn set<W: Write>(out: &mut W, call: Call, kept: State, lent: &mut Lent) -> io::Result<()> {
+    let words = all_but(call.number(3) % 16 == 0, State::PORTS);
+    set_port(
+        out,
+        call,
+        call.number(1),
+        call.number(2),
+        &mut lent.inputs[0..words],
+    )?;
+    print::left(out, kept, lent)
 }
 
 // How many bytes a window is to show.
-fn window_count(c: u16, i: u16, start: u16) -> usize {
+fn window_count(call: Call, start: u16) -> usize {
     let rest = State::MEMORY_BYTES - start as usize;
-    match of_call(c, i, 4) % 8 {
+    match call.number(4) % 8 {
         0 => rest,
         1 => rest + 1,
         2 => 0,
-        _ => locks::window_bytes(c, i),
+        _ => locks::window_bytes(call),
     }
 }
 
 // The digest of the bytes that a window shows.
 fn window_digest(bytes: &[u8], window: SisaWindow) -> u32 {
-    let start = least(window.start, bytes.len());
-    let rest = &bytes[start..];
-    let count = least(window.count, rest.len());
-    digest::bytes(0, &rest[0..count])
+    let rest = &bytes[window.start.min(bytes.len())..];
+    digest::all(0, &rest[0..window.count.min(rest.len())])
 }
 
-fn window<'a, W: Write>(
-    out: &mut W,
-    c: u16,
-    i: u16,
-    kept: State,
-    program: &'a [u8],
-    memory: &'a [u8],
-) -> io::Result<()> {
-    let of_data = (of_call(c, i, 1) % 2) as u8;
-    let start = locks::window_start(c, i);
-    let count = window_count(c, i, start);
-    let window = sisa::sisa_window(kept, program, memory, of_data, start as usize, count);
-    start_line(out, b"window", c, i)?;
-    print::field(out, window.start as u64)?;
-    print::field(out, window.count as u64)?;
-    let digest = if of_data == 0 {
-        window_digest(program, window)
+fn window<W: Write>(out: &mut W, call: Call, kept: State, lent: &Lent) -> io::Result<()> {
+    let of_data = (call.number(1) % 2) as u8;
+    let start = locks::window_start(call);
+    let count = window_count(call, start);
+    let window = sisa::sisa_window(
+        kept,
+        &lent.program,
+        &lent.memory,
+        of_data,
+        start as usize,
+        count,
+    );
+    let shown = if of_data == 0 {
+        &lent.program
     } else {
-        window_digest(memory, window)
+        &lent.memory
     };
-    print::last_field(out, digest as u64)
+    let numbers = [
+        call.case as u64,
+        call.index as u64,
+        window.start as u64,
+        window.count as u64,
+        window_digest(shown, window) as u64,
+    ];
+    print::line(out, b"window", &numbers)
 }
 
-// Call i. Answers what the host keeps.
-pub fn call<W: Write>(
-    out: &mut W,
-    c: u16,
-    i: u16,
-    kept: Kept,
-    program: &Memory,
-    memory: &mut Memory,
-    inputs: &mut Ports,
-    outputs: &mut Ports,
-    log: &mut Log,
-) -> io::Result<Kept> {
-    match of_call(c, i, 0) % 8 {
-        0 => {
-            set(out, c, i, kept.state, program, memory, inputs, outputs, log)?;
-            Ok(kept)
-        }
-        6 => {
-            window(out, c, i, kept.state, program, memory)?;
-            Ok(kept)
-        }
-        7 => {
-            instructions::read_and_write(out, c, i)?;
-            Ok(kept)
-        }
-        choice => {
-            let engine = runs::engine_of(choice);
-            runs::run(
-                out, engine, c, i, kept, program, memory, inputs, outputs, log,
-            )
-        }
+// Plays a call. Answers what the host keeps.
+pub fn call<W: Write>(out: &mut W, call: Call, kept: Kept, lent: &mut Lent) -> io::Result<Kept> {
+    match call.number(0) % 8 {
+        0 => set(out, call, kept.state, lent)?,
+        1 | 2 => return runs::run(out, Engine::Rules, call, kept, lent),
+        3 | 4 => return runs::run(out, Engine::Table, call, kept, lent),
+        5 => return runs::run(out, Engine::Host, call, kept, lent),
+        6 => window(out, call, kept.state, lent)?,
+        _ => instructions::read_and_write(out, call)?,
     }
+    Ok(kept)
 }

@@ -10,10 +10,10 @@ pub fn host_step(
     outputs: &mut [u16],
     log: &mut [u64],
 ) -> SisaRun {
-    let mut held = state;
-    let answer = sisa::host::sisa_host_step(&mut held, program, memory, inputs, outputs, log);
+    let mut state = state;
+    let answer = sisa::host::sisa_host_step(&mut state, program, memory, inputs, outputs, log);
     SisaRun {
-        state: held,
+        state,
         refusal: answer.refusal,
         stop: answer.stop,
         steps: answer.steps,

@@ -1,21 +1,11 @@
 // Reading and writing instructions.
 use crate::calls::start_line;
 use player::print;
-use player::runs::of_call;
+use player::runs::Call;
 use replies::{SisaInstruction, SisaWord};
 use std::io;
 use std::io::Write;
 use std::num::{wrapping_add_u8, wrapping_add_u16};
-
-// n modulo 65,536.
-fn word_of(n: i16) -> u16 {
-    if n < 0 { !((!n) as u16) } else { n as u16 }
-}
-
-// The number that is x modulo 65,536.
-fn number_of(x: u16) -> i16 {
-    if x < 32768 { x as i16 } else { !((!x) as i16) }
-}
 
 fn print_read<W: Write>(out: &mut W, read: SisaInstruction) -> io::Result<()> {
     let numbers = [
@@ -24,7 +14,7 @@ fn print_read<W: Write>(out: &mut W, read: SisaInstruction) -> io::Result<()> {
         read.a as u64,
         read.b as u64,
         read.d as u64,
-        word_of(read.n) as u64,
+        read.n.cast_unsigned() as u64,
         read.reads as u64,
         read.writes as u64,
     ];
@@ -38,30 +28,47 @@ fn print_written<W: Write>(out: &mut W, written: SisaWord) -> io::Result<()> {
 
 // What is written after an assigned word was read.
 fn changed(read: SisaInstruction, change: u16) -> SisaInstruction {
-    let mut instruction = read;
     match change {
-        0 => instruction.a = wrapping_add_u8(read.a, 8),
-        1 => instruction.b = wrapping_add_u8(read.b, 1),
-        2 => instruction.d = wrapping_add_u8(read.d, 1),
-        3 => instruction.n = number_of(wrapping_add_u16(word_of(read.n), 64)),
-        _ => {}
+        0 => SisaInstruction {
+            a: wrapping_add_u8(read.a, 8),
+            ..read
+        },
+        1 => SisaInstruction {
+            b: wrapping_add_u8(read.b, 1),
+            ..read
+        },
+        2 => SisaInstruction {
+            d: wrapping_add_u8(read.d, 1),
+            ..read
+        },
+        3 => SisaInstruction {
+            n: wrapping_add_u16(read.n.cast_unsigned(), 64).cast_signed(),
+            ..read
+        },
+        _ => read,
     }
-    instruction
 }
 
-fn write_changed(read: SisaInstruction, change: u16) -> SisaWord {
-    let i = changed(read, change);
-    sisa::sisa_write(i.kind, i.a, i.b, i.d, i.n)
+fn written(instruction: SisaInstruction) -> SisaWord {
+    let SisaInstruction {
+        kind,
+        a,
+        b,
+        d,
+        n,
+        ..
+    } = instruction;
+    sisa::sisa_write(kind, a, b, d, n)
 }
 
-pub fn read_and_write<W: Write>(out: &mut W, c: u16, i: u16) -> io::Result<()> {
-    let read = sisa::sisa_read(of_call(c, i, 1));
-    start_line(out, b"instruction", c, i)?;
+pub fn read_and_write<W: Write>(out: &mut W, call: Call) -> io::Result<()> {
+    let read = sisa::sisa_read(call.number(1));
+    start_line(out, b"instruction", call)?;
     print_read(out, read)?;
     if read.assigned == 1 {
-        print_written(out, write_changed(read, of_call(c, i, 2) % 8))
+        print_written(out, written(changed(read, call.number(2) % 8)))
     } else {
-        let kind = (of_call(c, i, 3) % 40) as u8;
+        let kind = (call.number(3) % 40) as u8;
         print_written(out, sisa::sisa_write(kind, 0, 0, 0, 0))
     }
 }

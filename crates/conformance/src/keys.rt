@@ -4,7 +4,7 @@ use crate::backs::Calls;
 use crate::cases::load_whole;
 use crate::loads::print_load;
 use player::file::Sort;
-use player::lent::{Log, Memory, Ports};
+use player::lent::Lent;
 use std::io;
 use std::io::Write;
 
@@ -14,18 +14,8 @@ const CALLS: Calls = Calls {
     port_bits: 1,
 };
 
-pub fn play<W: Write>(
-    out: &mut W,
-    c: u16,
-    program: &mut Memory,
-    memory: &mut Memory,
-    inputs: &mut Ports,
-    outputs: &mut Ports,
-    log: &mut Log,
-) -> io::Result<()> {
-    let load = load_whole(Sort::Keys, c, program, memory, inputs, outputs);
-    print_load(out, b"load", c, load, program, memory, inputs, outputs, log)?;
-    backs::play(
-        out, CALLS, c, load.state, program, memory, inputs, outputs, log,
-    )
+pub fn play<W: Write>(out: &mut W, c: u16, lent: &mut Lent) -> io::Result<()> {
+    let load = load_whole(Sort::Keys, c, lent);
+    print_load(out, b"load", c, load, lent)?;
+    backs::play(out, CALLS, c, load.state, lent)
 }

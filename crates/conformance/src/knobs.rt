@@ -1,69 +1,56 @@
 // Knob interrupts: cases whose programs enable lines, which the host raises between runs.
-use crate::backs::{back, fill, kept_after_back};
-use crate::calls::{Kept, start_line};
+use crate::backs::{back, kept_after_back};
+use crate::calls::Kept;
 use crate::cases::load_whole;
-use crate::journals::{JOURNAL_PLACES, Journal, change_of, of_call};
+use crate::journals::{Journal, change_of, of_call};
 use crate::loads::print_load;
-use crate::runs::reply_of;
+use crate::runs::{Engine, reply_of};
 use crate::{journals, sheets};
 use machine::State;
 use player::file::Sort;
-use player::lent::{Log, Memory, Ports};
+use player::lent::Lent;
 use player::print;
-use player::runs::kept_after;
+use player::runs::{Call, Change, kept_after};
 use sheet::Sheet;
 use std::io;
 use std::io::Write;
 use std::num::wrapping_add_u16;
 
-fn raise<W: Write>(out: &mut W, c: u16, j: u16, kept: Kept) -> io::Result<Kept> {
-    let raised = sisa::sisa_raise(kept.state, (of_call(c, j, 1) % 10) as u8);
-    start_line(out, b"raise", c, j)?;
-    print::last_field(out, raised.refusal as u64)?;
-    print::lines(out, c, j, raised.state)?;
-    let state = raised.state;
-    let sheet = kept.sheet;
-    Ok(Kept { state, sheet })
+fn raise<W: Write>(out: &mut W, call: Call, kept: Kept) -> io::Result<Kept> {
+    let raised = sisa::sisa_raise(kept.state, (of_call(call, 1) % 10) as u8);
+    let numbers = [call.case as u64, call.index as u64, raised.refusal as u64];
+    print::line(out, b"raise", &numbers)?;
+    print::lines(out, call, raised.state)?;
+    Ok(Kept {
+        state: raised.state,
+        ..kept
+    })
 }
 
 // The state kept, with the change that is this section's own.
-fn handed(c: u16, j: u16, kept: State) -> State {
-    let mut state = kept;
-    if change_of(c, j) == 6 {
-        state.return_address = wrapping_add_u16(kept.return_address, 1);
+fn handed(call: Call, kept: State) -> State {
+    match change_of(call) {
+        Change::NextReturn => State {
+            return_address: wrapping_add_u16(kept.return_address, 1),
+            ..kept
+        },
+        _ => kept,
     }
-    state
 }
 
 // A run with the journal, and what it returned fed to the sheet.
 fn run<W: Write>(
     out: &mut W,
-    choice: u16,
-    c: u16,
-    j: u16,
+    engine: Engine,
+    call: Call,
     kept: Kept,
-    program: &Memory,
-    memory: &mut Memory,
-    inputs: &mut Ports,
-    outputs: &mut Ports,
-    log: &mut Log,
+    lent: &mut Lent,
     journal: &mut Journal,
 ) -> io::Result<Kept> {
-    let ran = journals::run(
-        out,
-        choice,
-        c,
-        j,
-        handed(c, j, kept.state),
-        program,
-        memory,
-        inputs,
-        outputs,
-        log,
-        journal,
-    )?;
-    let sheet = sheets::feed(out, c, j, kept.sheet, ran.refusal, ran.usage)?;
-    print::lines(out, c, j, ran.state)?;
+    let start = handed(call, kept.state);
+    let ran = journals::run(out, engine, call, start, lent, journal)?;
+    let sheet = sheets::feed(out, call, kept.sheet, ran.refusal, ran.usage)?;
+    print::lines(out, call, ran.state)?;
     Ok(Kept {
         state: kept_after(kept.state, reply_of(ran)),
         sheet,
@@ -72,95 +59,46 @@ fn run<W: Write>(
 
 fn go_back<W: Write>(
     out: &mut W,
-    c: u16,
-    j: u16,
+    call: Call,
     kept: Kept,
-    program: &Memory,
-    memory: &mut Memory,
-    inputs: &mut Ports,
-    outputs: &mut Ports,
-    log: &Log,
+    lent: &mut Lent,
     journal: &Journal,
 ) -> io::Result<Kept> {
-    let start = handed(c, j, kept.state);
-    let gone = back(
-        out, c, j, start, program, memory, inputs, outputs, log, journal,
-    )?;
-    print::lines(out, c, j, gone.state)?;
-    let sheet = kept.sheet;
+    let start = handed(call, kept.state);
+    let gone = back(out, call, start, lent, journal)?;
+    print::lines(out, call, gone.state)?;
     Ok(Kept {
         state: kept_after_back(kept.state, gone),
-        sheet,
+        ..kept
     })
 }
 
-// Call j. Answers what the host keeps, as each of the three does.
-fn call<W: Write>(
+// Plays a call. Answers what the host keeps, as each of the three does.
+fn play_call<W: Write>(
     out: &mut W,
-    c: u16,
-    j: u16,
+    call: Call,
     kept: Kept,
-    program: &Memory,
-    memory: &mut Memory,
-    inputs: &mut Ports,
-    outputs: &mut Ports,
-    log: &mut Log,
+    lent: &mut Lent,
     journal: &mut Journal,
 ) -> io::Result<Kept> {
-    match of_call(c, j, 0) % 8 {
-        0 | 1 => raise(out, c, j, kept),
-        6 | 7 => go_back(
-            out, c, j, kept, program, memory, inputs, outputs, log, journal,
-        ),
-        choice => run(
-            out, choice, c, j, kept, program, memory, inputs, outputs, log, journal,
-        ),
+    match of_call(call, 0) % 8 {
+        0 | 1 => raise(out, call, kept),
+        2 | 3 => run(out, Engine::Rules, call, kept, lent, journal),
+        4 | 5 => run(out, Engine::Table, call, kept, lent, journal),
+        _ => go_back(out, call, kept, lent, journal),
     }
 }
 
-fn play_calls<W: Write>(
-    out: &mut W,
-    c: u16,
-    loaded: State,
-    program: &Memory,
-    memory: &mut Memory,
-    inputs: &mut Ports,
-    outputs: &mut Ports,
-    log: &mut Log,
-) -> io::Result<()> {
-    let mut journal = [0u64; JOURNAL_PLACES];
-    fill(&mut journal);
+pub fn play<W: Write>(out: &mut W, c: u16, lent: &mut Lent) -> io::Result<()> {
+    let load = load_whole(Sort::Knobs, c, lent);
+    print_load(out, b"load", c, load, lent)?;
+    let mut journal = journals::first();
     let mut kept = Kept {
-        state: loaded,
+        state: load.state,
         sheet: Sheet::empty(),
     };
-    for j in 0..24 {
-        kept = call(
-            out,
-            c,
-            j,
-            kept,
-            program,
-            memory,
-            inputs,
-            outputs,
-            log,
-            &mut journal,
-        )?;
+    for index in 0..24 {
+        kept = play_call(out, Call { case: c, index }, kept, lent, &mut journal)?;
     }
     Ok(())
-}
-
-pub fn play<W: Write>(
-    out: &mut W,
-    c: u16,
-    program: &mut Memory,
-    memory: &mut Memory,
-    inputs: &mut Ports,
-    outputs: &mut Ports,
-    log: &mut Log,
-) -> io::Result<()> {
-    let load = load_whole(Sort::Knobs, c, program, memory, inputs, outputs);
-    print_load(out, b"load", c, load, program, memory, inputs, outputs, log)?;
-    play_calls(out, c, load.state, program, memory, inputs, outputs, log)
 }

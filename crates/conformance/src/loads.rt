@@ -2,7 +2,7 @@
 use crate::locks;
 use crate::locks::range_of;
 use machine::State;
-use player::lent::{Log, Memory, Ports};
+use player::lent::Lent;
 use player::print;
 use replies::SisaLoad;
 use std::io;
@@ -16,37 +16,29 @@ fn board_of(c: u16) -> u8 {
     }
 }
 
-// Loads a file for the board and with the range of case c.
-pub fn load(
-    c: u16,
-    file: &[u8],
-    program: &mut [u8],
-    memory: &mut [u8],
-    inputs: &mut [u16],
-    outputs: &mut [u16],
-) -> SisaLoad {
-    let range = range_of(c);
+// Loads a file for the board and with the range of case c, lent so many bytes of the memory.
+pub fn load(c: u16, file: &[u8], memory_bytes: usize, lent: &mut Lent) -> SisaLoad {
+    let (locked, first, last) = match range_of(c) {
+        Some((first, last)) => (1, first, last),
+        None => (0, 0, 0),
+    };
     sisa::sisa_load(
         file,
         board_of(c),
-        range.locked,
-        range.first,
-        range.last,
-        program,
-        memory,
-        inputs,
-        outputs,
+        locked,
+        first,
+        last,
+        &mut lent.program,
+        &mut lent.memory[0..memory_bytes.min(State::MEMORY_BYTES)],
+        &mut lent.inputs,
+        &mut lent.outputs,
     )
 }
 
 // The line of a state's board, or of its board and range, which the cases of two sections have.
 pub fn print_named<W: Write>(out: &mut W, c: u16, state: State) -> io::Result<()> {
     match c {
-        80..=88 => {
-            print::text(out, b"board")?;
-            print::field(out, c as u64)?;
-            print::last_field(out, state.board as u64)
-        }
+        80..=88 => print::line(out, b"board", &[c as u64, state.board as u64]),
         103..=111 => locks::print_locked(out, c, state),
         _ => Ok(()),
     }
@@ -58,15 +50,10 @@ pub fn print_load<W: Write>(
     what: &[u8],
     c: u16,
     load: SisaLoad,
-    program: &Memory,
-    memory: &Memory,
-    inputs: &Ports,
-    outputs: &Ports,
-    log: &Log,
+    lent: &Lent,
 ) -> io::Result<()> {
     print::text(out, what)?;
-    print::field(out, c as u64)?;
-    print::field(out, load.refusal as u64)?;
-    print::left(out, load.state, program, memory, inputs, outputs, log)?;
+    print::fields(out, &[c as u64, load.refusal as u64])?;
+    print::left(out, load.state, lent)?;
     print_named(out, c, load.state)
 }

@@ -1,8 +1,8 @@
 // Plays pseudo-random calls on pseudo-random files, and prints what docs/CONFORMANCE.md says.
 #![tactic(auto)]
 
-use machine::State;
 use player::file::Sort;
+use player::lent::Lent;
 use std::io;
 use std::io::{BufWriter, Write};
 
@@ -25,72 +25,21 @@ mod sheets;
 
 fn main(rt: HostRuntime) -> io::Result<()> {
     let mut out = BufWriter::new(rt.alloc(), io::writer(&rt))?;
-    let mut program = [0u8; State::MEMORY_BYTES];
-    let mut memory = [0u8; State::MEMORY_BYTES];
-    let mut inputs = [0u16; State::PORTS];
-    let mut outputs = [0u16; State::PORTS];
-    let mut log = [0u64; 64];
-    player::lent::fill(&mut program, &mut inputs, &mut log);
+    let mut lent = Lent::first();
     for c in 0..64 {
-        cases::play(
-            &mut out,
-            c,
-            &mut program,
-            &mut memory,
-            &mut inputs,
-            &mut outputs,
-            &mut log,
-        )?;
+        cases::play(&mut out, c, &mut lent)?;
     }
     printed::all(&mut out)?;
     for c in 64..80 {
-        keys::play(
-            &mut out,
-            c,
-            &mut program,
-            &mut memory,
-            &mut inputs,
-            &mut outputs,
-            &mut log,
-        )?;
+        keys::play(&mut out, c, &mut lent)?;
     }
-    boards::all(
-        &mut out,
-        Sort::Stores,
-        80,
-        86,
-        89,
-        &mut program,
-        &mut memory,
-        &mut inputs,
-        &mut outputs,
-        &mut log,
-    )?;
+    boards::all(&mut out, Sort::Stores, 80..86, 86..89, &mut lent)?;
     for c in 89..97 {
-        knobs::play(
-            &mut out,
-            c,
-            &mut program,
-            &mut memory,
-            &mut inputs,
-            &mut outputs,
-            &mut log,
-        )?;
+        knobs::play(&mut out, c, &mut lent)?;
     }
     for c in 97..103 {
-        pages::play(&mut out, c, &mut log)?;
+        pages::play(&mut out, c, &mut lent.log)?;
     }
-    boards::all(
-        &mut out,
-        Sort::Locks,
-        103,
-        109,
-        112,
-        &mut program,
-        &mut memory,
-        &mut inputs,
-        &mut outputs,
-        &mut log,
-    )?;
+    boards::all(&mut out, Sort::Locks, 103..109, 109..112, &mut lent)?;
     out.flush()
 }

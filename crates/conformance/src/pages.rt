@@ -1,16 +1,15 @@
 // Pages: cases of up to three trims under one budget.
-ghost use Rattle.std.specs.Prelude.{◌≡◌, ◌<◌, length};
+ghost use Rattle.std.specs.Prelude.{◌<◌};
 
-use crate::calls::start_line;
-use crate::journals::{change_of, of_call};
+use crate::journals::of_call;
 use crate::sheets::usage_digest;
 use machine::State;
 use numbers::number;
 use page::Trims;
-use player::file::{NO_DAMAGE, Sort};
-use player::lent::{Log, all_but, least};
-use player::runs::{Reply, kept_after};
-use player::{digest, file, print};
+use player::file::{File, Sort};
+use player::lent::{Log, all_but};
+use player::runs::{Call, Reply, kept_after};
+use player::{digest, print};
 use replies::{SisaAnswer, SisaPage};
 use std::io;
 use std::io::Write;
@@ -21,12 +20,47 @@ const MEMORIES_BYTES: usize = 3 * State::MEMORY_BYTES;
 
 const PORTS: usize = 3 * State::PORTS;
 
-type Memories = [u8; MEMORIES_BYTES];
-
-type JoinedPorts = [u16; PORTS];
+// Memories and ports of three trims, each kind joined end to end.
+#[derive(Drop)]
+struct Joined {
+    programs: [u8; MEMORIES_BYTES],
+    memories: [u8; MEMORIES_BYTES],
+    inputs: [u16; PORTS],
+    outputs: [u16; PORTS],
+}
 
 // What n becomes where a trim is handed another.
 const LATE: u32 = 4294967290;
+
+// What is changed in what a page is handed and lent.
+#[derive(Clone, Copy)]
+enum Change {
+    NextPc,
+    OtherN,
+    ShortMemories,
+    ShortOutputs,
+    NoTrims,
+    NineTrims,
+    EightTrims,
+    FirstNAndLastPc,
+    TooLate,
+    Nothing,
+}
+
+fn change_of(call: Call) -> Change {
+    match of_call(call, 3) % 16 {
+        0 => Change::NextPc,
+        1 => Change::OtherN,
+        2 => Change::ShortMemories,
+        3 => Change::ShortOutputs,
+        4 => Change::NoTrims,
+        5 => Change::NineTrims,
+        6 => Change::EightTrims,
+        7 => Change::FirstNAndLastPc,
+        8 => Change::TooLate,
+        _ => Change::Nothing,
+    }
+}
 
 // The number of trims of case c.
 fn trims_of(c: u16) -> usize
@@ -44,87 +78,55 @@ fn file_of(c: u16, i: usize) -> u16 {
 fn first_state(f: u16, i: usize, loaded: State) -> State
     requires { i < 3 }
 {
-    let mut state = loaded;
-    state.enabled = (number(f, 70) % 2) as u8;
-    state.pending = (number(f, 71) % 256) as u8;
-    state.with_journaled((i + 1) as u64)
-}
-
-// Loads the file of case f for a board, with no range locked.
-fn load_file(
-    f: u16,
-    board: u8,
-    program: &mut [u8],
-    memory: &mut [u8],
-    inputs: &mut [u16],
-    outputs: &mut [u16],
-) -> State {
-    let length = file::length(Sort::Pages, f, NO_DAMAGE) as usize;
-    let file = file::make(Sort::Pages, f, NO_DAMAGE);
-    let load = sisa::sisa_load(
-        &file[0..length],
-        board,
-        0,
-        0,
-        0,
-        program,
-        memory,
-        inputs,
-        outputs,
-    );
-    load.state
-}
-
-// Loads trim i into its part.
-fn load_trim(
-    f: u16,
-    i: usize,
-    programs: &mut [u8],
-    memories: &mut [u8],
-    inputs: &mut [u16],
-    outputs: &mut [u16],
-) -> State
-    requires i_bound { i < 3 }
-    requires programs_len { (length programs.old ≡ 196608) × (length memories.old ≡ 196608) }
-    requires inputs_len { (length inputs.old ≡ 768) × (length outputs.old ≡ 768) }
-{
-    let a = i * State::MEMORY_BYTES;
-    let e = a + State::MEMORY_BYTES;
-    let p = i * State::PORTS;
-    let q = p + State::PORTS;
-    let loaded = load_file(
-        f,
-        (i == 1) as u8,
-        &mut programs[a..e],
-        &mut memories[a..e],
-        &mut inputs[p..q],
-        &mut outputs[p..q],
-    );
-    first_state(f, i, loaded)
-}
-
-// The states that the host keeps at first.
-fn load_trims(
-    c: u16,
-    programs: &mut Memories,
-    memories: &mut Memories,
-    inputs: &mut JoinedPorts,
-    outputs: &mut JoinedPorts,
-) -> Trims {
-    let mut states = [State::reset(); 8];
-    for i in 0..trims_of(c) {
-        let state = load_trim(file_of(c, i), i, programs, memories, inputs, outputs);
-        states[i] = state;
+    State {
+        enabled: (number(f, 70) % 2) as u8,
+        pending: (number(f, 71) % 256) as u8,
+        journaled: (i + 1) as u64,
+        ..loaded
     }
-    Trims { states }
+}
+
+impl Joined {
+    // Loads the file of case f into the part of trim i, with no range locked, trim 1 for the single-memory board.
+    fn load_trim(&mut self, f: u16, i: usize) -> State
+        requires { i < 3 }
+    {
+        let a = i * State::MEMORY_BYTES;
+        let e = a + State::MEMORY_BYTES;
+        let p = i * State::PORTS;
+        let q = p + State::PORTS;
+        let file = File::whole(Sort::Pages, f);
+        let load = sisa::sisa_load(
+            &file.make()[0..file.length()],
+            (i == 1) as u8,
+            0,
+            0,
+            0,
+            &mut self.programs[a..e],
+            &mut self.memories[a..e],
+            &mut self.inputs[p..q],
+            &mut self.outputs[p..q],
+        );
+        first_state(f, i, load.state)
+    }
+
+    // The states that the host keeps at first.
+    fn load_trims(&mut self, c: u16) -> Trims {
+        let mut states = [State::reset(); 8];
+        for (i, state) in states[0..trims_of(c)].iter_mut().enumerate() {
+            *state = self.load_trim(file_of(c, i), i);
+        }
+        Trims { states }
+    }
 }
 
 // The states with another n of one trim. (The remainder changes nothing.)
 fn with_n(trims: Trims, at: usize, n: u32) -> Trims {
     let mut states = trims.states;
-    let mut state = states[at % 8];
-    state.n = n;
-    states[at % 8] = state;
+    states[at % 8] = State {
+        n,
+        ..states[at % 8]
+    };
     Trims { states }
 }
 
@@ -132,8 +134,7 @@ fn with_n(trims: Trims, at: usize, n: u32) -> Trims {
 fn with_next_pc(trims: Trims, at: usize) -> Trims {
     let mut states = trims.states;
     let state = states[at % 8];
-    let moved = state.with_pc(wrapping_add_u16(state.pc, 1));
-    states[at % 8] = moved;
+    states[at % 8] = state.with_pc(wrapping_add_u16(state.pc, 1));
     Trims { states }
 }
 
@@ -147,53 +148,64 @@ fn too_late(budget: u32) -> u32 {
 }
 
 // The states handed.
-fn handed(c: u16, j: u16, kept: Trims, budget: u32) -> Trims {
-    let trims = trims_of(c);
-    let at = of_call(c, j, 5) as usize % trims;
-    match change_of(c, j) {
-        0 => with_next_pc(kept, at),
-        1 => with_n(kept, at, LATE),
-        7 => with_next_pc(with_n(kept, 0, LATE), trims - 1),
-        8 => with_n(kept, at, too_late(budget)),
+fn handed(call: Call, kept: Trims, budget: u32) -> Trims {
+    let trims = trims_of(call.case);
+    let at = of_call(call, 5) as usize % trims;
+    match change_of(call) {
+        Change::NextPc => with_next_pc(kept, at),
+        Change::OtherN => with_n(kept, at, LATE),
+        Change::FirstNAndLastPc => with_next_pc(with_n(kept, 0, LATE), trims - 1),
+        Change::TooLate => with_n(kept, at, too_late(budget)),
         _ => kept,
     }
 }
 
 // The number of trims handed.
-fn count_of(c: u16, j: u16) -> u8 {
-    match change_of(c, j) {
-        4 => 0,
-        5 => 9,
-        6 => 8,
-        _ => trims_of(c) as u8,
+fn count_of(call: Call) -> u8 {
+    match change_of(call) {
+        Change::NoTrims => 0,
+        Change::NineTrims => 9,
+        Change::EightTrims => 8,
+        _ => trims_of(call.case) as u8,
     }
 }
 
-fn budget_of(c: u16, j: u16) -> u32 {
-    let number = of_call(c, j, 2) as u32;
-    match of_call(c, j, 1) % 4 {
+fn budget_of(call: Call) -> u32 {
+    let number = of_call(call, 2) as u32;
+    match of_call(call, 1) % 4 {
         0 => number % 6,
         1 => number % 60,
         _ => number % 1000,
     }
 }
 
-fn is_by_rules(c: u16, j: u16) -> bool {
-    of_call(c, j, 0) % 2 == 0
+fn is_by_rules(call: Call) -> bool {
+    of_call(call, 0) % 2 == 0
 }
 
-fn page_by(
-    by_rules: bool,
-    trims: Trims,
-    count: u8,
-    programs: &[u8],
-    memories: &mut [u8],
-    inputs: &mut [u16],
-    outputs: &mut [u16],
-    budget: u32,
-    log: &mut [u64],
-) -> SisaPage {
-    if by_rules {
+// The page, lent the parts of the trims that the case has.
+fn page(call: Call, kept: Trims, joined: &mut Joined, log: &mut Log) -> SisaPage {
+    let budget = budget_of(call);
+    let trims = handed(call, kept, budget);
+    let count = count_of(call);
+    let change = change_of(call);
+    let bytes = trims_of(call.case) * State::MEMORY_BYTES;
+    let ports = trims_of(call.case) * State::PORTS;
+    let memory_bytes = all_but(matches!(change, Change::ShortMemories), bytes);
+    let output_words = all_but(matches!(change, Change::ShortOutputs), ports);
+    let places = (of_call(call, 4) % 64) as usize;
+    let Joined {
+        programs,
+        memories,
+        inputs,
+        outputs,
+    } = joined;
+    let programs = &programs[0..bytes];
+    let memories = &mut memories[0..memory_bytes];
+    let inputs = &mut inputs[0..ports];
+    let outputs = &mut outputs[0..output_words];
+    let log = &mut log[0..places];
+    if is_by_rules(call) {
         sisa::sisa_page_by_rules(
             trims, count, programs, memories, inputs, outputs, budget, log,
         )
@@ -204,75 +216,54 @@ fn page_by(
     }
 }
 
-fn page(
-    c: u16,
-    j: u16,
-    kept: Trims,
-    programs: &[u8],
-    memories: &mut [u8],
-    inputs: &mut [u16],
-    outputs: &mut [u16],
-    log: &mut [u64],
-) -> SisaPage {
-    let budget = budget_of(c, j);
-    let bytes = all_but(change_of(c, j) == 2, memories.len());
-    let ports = all_but(change_of(c, j) == 3, outputs.len());
-    let places = least((of_call(c, j, 4) % 64) as usize, log.len());
-    page_by(
-        is_by_rules(c, j),
-        handed(c, j, kept, budget),
-        count_of(c, j),
-        programs,
-        &mut memories[0..bytes],
-        inputs,
-        &mut outputs[0..ports],
-        budget,
-        &mut log[0..places],
-    )
-}
-
 fn states_digest(c: u16, trims: Trims) -> u32 {
-    let states = trims.states;
-    let mut after = 0;
-    for i in 0..trims_of(c) {
-        after = digest::registers(after, states[i]);
-    }
-    after
+    let states = &trims.states[0..trims_of(c)];
+    states
+        .iter()
+        .fold(0, |after, state| digest::registers(after, *state))
 }
 
 fn print_page<W: Write>(
     out: &mut W,
-    c: u16,
-    j: u16,
+    call: Call,
     paged: SisaPage,
-    programs: &[u8],
-    memories: &[u8],
-    inputs: &[u16],
-    outputs: &[u16],
-    log: &[u64],
+    joined: &Joined,
+    log: &Log,
 ) -> io::Result<()> {
-    let what: &[u8] = if is_by_rules(c, j) {
+    let what: &[u8] = if is_by_rules(call) {
         b"page rules"
     } else {
         b"page table"
     };
-    start_line(out, what, c, j)?;
-    print::field(out, paged.refusal as u64)?;
-    let states = states_digest(c, paged.trims);
-    let digest = digest::lent(states, programs, memories, inputs, outputs, log);
-    print::last_field(out, digest as u64)
+    let bytes = trims_of(call.case) * State::MEMORY_BYTES;
+    let ports = trims_of(call.case) * State::PORTS;
+    let digest = digest::lent(
+        states_digest(call.case, paged.trims),
+        &joined.programs[0..bytes],
+        &joined.memories[0..bytes],
+        &joined.inputs[0..ports],
+        &joined.outputs[0..ports],
+        log,
+    );
+    let numbers = [
+        call.case as u64,
+        call.index as u64,
+        paged.refusal as u64,
+        digest as u64,
+    ];
+    print::line(out, what, &numbers)
 }
 
 fn print_trim<W: Write>(
     out: &mut W,
-    c: u16,
-    j: u16,
+    call: Call,
     i: usize,
     state: State,
     answer: SisaAnswer,
 ) -> io::Result<()> {
-    start_line(out, b"trim", c, j)?;
     let numbers = [
+        call.case as u64,
+        call.index as u64,
         i as u64,
         answer.stop as u64,
         answer.steps as u64,
@@ -284,9 +275,9 @@ fn print_trim<W: Write>(
         state.enabled as u64,
         state.pending as u64,
         state.line as u64,
+        state.return_address as u64,
     ];
-    print::fields(out, &numbers)?;
-    print::last_field(out, state.return_address as u64)
+    print::line(out, b"trim", &numbers)
 }
 
 // What a page replies of a trim.
@@ -301,106 +292,40 @@ fn reply_of(refusal: u8, state: State, answer: SisaAnswer) -> Reply {
 }
 
 // The trims' lines. Answers the states that the host keeps; those past the trims came back as they were kept.
-fn finish<W: Write>(
-    out: &mut W,
-    c: u16,
-    j: u16,
-    kept: Trims,
-    paged: SisaPage,
-) -> io::Result<Trims> {
-    let before = kept.states;
+fn finish<W: Write>(out: &mut W, call: Call, kept: Trims, paged: SisaPage) -> io::Result<Trims> {
     let after = paged.trims;
-    let answers = paged.answers;
-    let refusal = paged.refusal;
     let mut states = after.states;
-    for i in 0..trims_of(c) {
-        let state = states[i];
-        let answer = answers[i];
-        print_trim(out, c, j, i, state, answer)?;
-        let kept = kept_after(before[i], reply_of(refusal, state, answer));
-        states[i] = kept;
+    for (i, state) in states[0..trims_of(call.case)].iter_mut().enumerate() {
+        let answer = paged.answers[i];
+        print_trim(out, call, i, *state, answer)?;
+        *state = kept_after(kept.states[i], reply_of(paged.refusal, *state, answer));
     }
     Ok(Trims { states })
 }
 
-// Page j and its lines. Answers the states that the host keeps.
+// A page and its lines. Answers the states that the host keeps.
 fn play_page<W: Write>(
     out: &mut W,
-    c: u16,
-    j: u16,
+    call: Call,
     kept: Trims,
-    programs: &[u8],
-    memories: &mut [u8],
-    inputs: &mut [u16],
-    outputs: &mut [u16],
-    log: &mut [u64],
-) -> io::Result<Trims> {
-    let paged = page(c, j, kept, programs, memories, inputs, outputs, log);
-    print_page(out, c, j, paged, programs, memories, inputs, outputs, log)?;
-    finish(out, c, j, kept, paged)
-}
-
-// The same, lent the parts of the trims that the case has.
-fn play_parts<W: Write>(
-    out: &mut W,
-    c: u16,
-    j: u16,
-    kept: Trims,
-    programs: &[u8],
-    memories: &mut [u8],
-    inputs: &mut [u16],
-    outputs: &mut [u16],
-    log: &mut [u64],
-) -> io::Result<Trims>
-    requires programs_len { (length programs.now ≡ 196608) × (length memories.old ≡ 196608) }
-    requires inputs_len { (length inputs.old ≡ 768) × (length outputs.old ≡ 768) }
-{
-    let bytes = trims_of(c) * State::MEMORY_BYTES;
-    let ports = trims_of(c) * State::PORTS;
-    play_page(
-        out,
-        c,
-        j,
-        kept,
-        &programs[0..bytes],
-        &mut memories[0..bytes],
-        &mut inputs[0..ports],
-        &mut outputs[0..ports],
-        log,
-    )
-}
-
-fn play_pages<W: Write>(
-    out: &mut W,
-    c: u16,
-    loaded: Trims,
-    programs: &Memories,
-    memories: &mut Memories,
-    inputs: &mut JoinedPorts,
-    outputs: &mut JoinedPorts,
+    joined: &mut Joined,
     log: &mut Log,
-) -> io::Result<()> {
-    let mut kept = loaded;
-    for j in 0..10 {
-        kept = play_parts(out, c, j, kept, programs, memories, inputs, outputs, log)?;
-    }
-    Ok(())
+) -> io::Result<Trims> {
+    let paged = page(call, kept, joined, log);
+    print_page(out, call, paged, joined, log)?;
+    finish(out, call, kept, paged)
 }
 
 pub fn play<W: Write>(out: &mut W, c: u16, log: &mut Log) -> io::Result<()> {
-    let mut programs = [0u8; MEMORIES_BYTES];
-    let mut memories = [0u8; MEMORIES_BYTES];
-    let mut inputs = [0u16; PORTS];
-    let mut outputs = [0u16; PORTS];
-    let loaded = load_trims(c, &mut programs, &mut memories, &mut inputs, &mut outputs);
-    play_pages(
-        out,
-        c,
-        loaded,
-        &programs,
-        &mut memories,
-        &mut inputs,
-        &mut outputs,
-        log,
-    )
+    let mut joined = Joined {
+        programs: [0; MEMORIES_BYTES],
+        memories: [0; MEMORIES_BYTES],
+        inputs: [0; PORTS],
+        outputs: [0; PORTS],
+    };
+    let mut kept = joined.load_trims(c);
+    for index in 0..10 {
+        kept = play_page(out, Call { case: c, index }, kept, &mut joined, log)?;
+    }
+    Ok(())
 }

@@ -2,9 +2,9 @@
 use crate::calls::Kept;
 use crate::{host, sheets};
 use machine::State;
-use player::lent::{Log, Memory, Ports, least};
+use player::lent::{LOG_PLACES, Lent};
 use player::print;
-use player::runs::{LATE, Reply, Request, kept_after, of_call, print_reply};
+use player::runs::{Call, LATE, Reply, Request, kept_after, print_reply};
 use replies::SisaRun;
 use sisa::{
     sisa_run_by_rules, sisa_run_by_rules_with_journal, sisa_run_by_table,
@@ -18,23 +18,21 @@ pub enum Engine {
     Rules,
     Table,
     Host,
-    RulesWithJournal,
-    TableWithJournal,
 }
 
-// By a call's choice.
-pub fn engine_of(choice: u16) -> Engine {
-    match choice {
-        1 | 2 => Engine::Rules,
-        3 | 4 => Engine::Table,
-        _ => Engine::Host,
+impl Engine {
+    fn name(self) -> &'static [u8] {
+        match self {
+            Engine::Rules => b" rules",
+            Engine::Table => b" table",
+            Engine::Host => b" host",
+        }
     }
 }
 
 pub fn reply_of(ran: SisaRun) -> Reply {
-    let state = ran.state;
     Reply {
-        state,
+        state: ran.state,
         refusal: ran.refusal,
         stop: ran.stop,
         steps: ran.steps,
@@ -43,72 +41,43 @@ pub fn reply_of(ran: SisaRun) -> Reply {
 }
 
 // The request for a run. A host step is one of budget 1.
-fn request_of(engine: Engine, c: u16, i: u16, kept: State) -> Request {
-    let number = of_call(c, i, 2);
+fn request_of(engine: Engine, call: Call, kept: State) -> Request {
+    let number = call.number(2);
     match engine {
-        Engine::Host => player::runs::request_of(c, i, kept, 4294967295, (number % 2) as usize),
-        _ => player::runs::request_of(c, i, kept, LATE, (number % 40) as usize),
+        Engine::Host => Request::of_call(call, kept, 4294967295, (number % 2) as usize),
+        _ => Request::of_call(call, kept, LATE, (number % 40) as usize),
     }
 }
 
-// A run without a journal leaves the one lent.
-fn run_by(
-    engine: Engine,
-    state: State,
-    program: &[u8],
-    memory: &mut [u8],
-    inputs: &mut [u16],
-    outputs: &mut [u16],
-    budget: u32,
-    log: &mut [u64],
-    journal: &mut [u64],
-) -> SisaRun {
-    match engine {
-        Engine::Rules => sisa_run_by_rules(state, program, memory, inputs, outputs, budget, log),
-        Engine::Table => sisa_run_by_table(state, program, memory, inputs, outputs, budget, log),
-        Engine::Host => host::host_step(state, program, memory, inputs, outputs, log),
-        Engine::RulesWithJournal => sisa_run_by_rules_with_journal(
-            state, program, memory, inputs, outputs, budget, log, journal,
-        ),
-        Engine::TableWithJournal => sisa_run_by_table_with_journal(
-            state, program, memory, inputs, outputs, budget, log, journal,
-        ),
-    }
-}
-
+// The run, with a journal where one is lent. A host step takes none.
 pub fn run_request(
     engine: Engine,
     request: Request,
-    program: &[u8],
-    memory: &mut [u8],
-    inputs: &mut [u16],
-    outputs: &mut [u16],
-    log: &mut [u64],
-    journal: &mut [u64],
+    lent: &mut Lent,
+    journal: Option<&mut [u64]>,
 ) -> SisaRun {
-    let bytes = least(request.bytes, memory.len());
-    let ports = least(request.ports, outputs.len());
-    let places = least(request.places, log.len());
-    run_by(
-        engine,
-        request.state,
-        program,
-        &mut memory[0..bytes],
-        inputs,
-        &mut outputs[0..ports],
-        request.budget,
-        &mut log[0..places],
-        journal,
-    )
-}
-
-fn print_engine<W: Write>(out: &mut W, engine: Engine) -> io::Result<()> {
-    let name: &[u8] = match engine {
-        Engine::Rules | Engine::RulesWithJournal => b" rules",
-        Engine::Table | Engine::TableWithJournal => b" table",
-        Engine::Host => b" host",
-    };
-    print::text(out, name)
+    let state = request.state;
+    let budget = request.budget;
+    let program = &lent.program;
+    let memory = &mut lent.memory[0..request.bytes.min(State::MEMORY_BYTES)];
+    let inputs = &mut lent.inputs;
+    let outputs = &mut lent.outputs[0..request.ports.min(State::PORTS)];
+    let log = &mut lent.log[0..request.places.min(LOG_PLACES)];
+    match (engine, journal) {
+        (Engine::Rules, None) => {
+            sisa_run_by_rules(state, program, memory, inputs, outputs, budget, log)
+        }
+        (Engine::Rules, Some(journal)) => sisa_run_by_rules_with_journal(
+            state, program, memory, inputs, outputs, budget, log, journal,
+        ),
+        (Engine::Table, None) => {
+            sisa_run_by_table(state, program, memory, inputs, outputs, budget, log)
+        }
+        (Engine::Table, Some(journal)) => sisa_run_by_table_with_journal(
+            state, program, memory, inputs, outputs, budget, log, journal,
+        ),
+        (Engine::Host, _) => host::host_step(state, program, memory, inputs, outputs, log),
+    }
 }
 
 // The line of a run, up to its usage.
@@ -116,13 +85,12 @@ pub fn print_run<W: Write>(
     out: &mut W,
     what: &[u8],
     engine: Engine,
-    c: u16,
-    i: u16,
+    call: Call,
     ran: SisaRun,
 ) -> io::Result<()> {
     print::text(out, what)?;
-    print_engine(out, engine)?;
-    print_reply(out, c, i, reply_of(ran))?;
+    print::text(out, engine.name())?;
+    print_reply(out, call, reply_of(ran))?;
     print::field(out, ran.ticks)?;
     print::field(out, sheets::usage_digest(ran.usage) as u64)
 }
@@ -131,23 +99,15 @@ pub fn print_run<W: Write>(
 pub fn run<W: Write>(
     out: &mut W,
     engine: Engine,
-    c: u16,
-    i: u16,
+    call: Call,
     kept: Kept,
-    program: &Memory,
-    memory: &mut Memory,
-    inputs: &mut Ports,
-    outputs: &mut Ports,
-    log: &mut Log,
+    lent: &mut Lent,
 ) -> io::Result<Kept> {
-    let request = request_of(engine, c, i, kept.state);
-    let mut none = [0u64; 0];
-    let ran = run_request(
-        engine, request, program, memory, inputs, outputs, log, &mut none,
-    );
-    print_run(out, b"run", engine, c, i, ran)?;
-    print::left(out, ran.state, program, memory, inputs, outputs, log)?;
-    let sheet = sheets::feed(out, c, i, kept.sheet, ran.refusal, ran.usage)?;
+    let request = request_of(engine, call, kept.state);
+    let ran = run_request(engine, request, lent, None);
+    print_run(out, b"run", engine, call, ran)?;
+    print::left(out, ran.state, lent)?;
+    let sheet = sheets::feed(out, call, kept.sheet, ran.refusal, ran.usage)?;
     Ok(Kept {
         state: kept_after(kept.state, reply_of(ran)),
         sheet,

@@ -1,21 +1,20 @@
 // The saves of a case, and the load of a saved file.
-use crate::{calls, loads};
+use crate::loads;
 use machine::State;
-use player::lent::{Log, Memory, Ports, all_but, least};
+use player::lent::{Lent, all_but};
+use player::runs::Call;
 use player::{digest, print};
 use replies::{SisaLoad, SisaSaved};
-use std::io;
 use std::io::Write;
+use std::{array, io};
 
 const DESTINATION_BYTES: usize = 131088;
 
 type Destination = [u8; DESTINATION_BYTES];
 
 // What the destination holds before save s.
-fn fill(s: u16, destination: &mut Destination) {
-    for j in 0..DESTINATION_BYTES {
-        destination[j] = ((j + s as usize) % 253) as u8;
-    }
+fn held_before(s: u16) -> Destination {
+    array::from_fn(|j| ((j + s as usize) % 253) as u8)
 }
 
 // How many bytes of the destination save s is lent. The file of save 0 has this length.
@@ -31,57 +30,40 @@ fn save_memories(
     s: u16,
     length: usize,
     state: State,
-    program: &[u8],
-    memory: &[u8],
-    destination: &mut [u8],
+    lent: &Lent,
+    destination: &mut Destination,
 ) -> SisaSaved {
-    let bytes = all_but(s == 3, memory.len());
-    let most = least(bytes_lent(s, length), destination.len());
-    sisa::sisa_save(state, program, &memory[0..bytes], &mut destination[0..most])
+    let bytes = all_but(s == 3, State::MEMORY_BYTES);
+    let most = bytes_lent(s, length).min(DESTINATION_BYTES);
+    sisa::sisa_save(
+        state,
+        &lent.program,
+        &lent.memory[0..bytes],
+        &mut destination[0..most],
+    )
 }
 
-fn print_save<W: Write>(
-    out: &mut W,
-    c: u16,
-    s: u16,
-    saved: SisaSaved,
-    destination: &[u8],
-) -> io::Result<()> {
-    calls::start_line(out, b"save", c, s)?;
-    print::field(out, saved.refusal as u64)?;
-    print::field(out, saved.length as u64)?;
-    print::last_field(out, digest::bytes(0, destination) as u64)?;
-    loads::print_named(out, c, saved.state)
-}
-
-// Save s. Answers the length of its file.
+// Save s, call s of the saves. Answers the length of its file.
 fn save<W: Write>(
     out: &mut W,
-    c: u16,
-    s: u16,
+    call: Call,
     length: usize,
     state: State,
-    program: &Memory,
-    memory: &Memory,
+    lent: &Lent,
     destination: &mut Destination,
 ) -> io::Result<usize> {
-    fill(s, destination);
-    let saved = save_memories(s, length, state, program, memory, destination);
-    print_save(out, c, s, saved, destination)?;
+    *destination = held_before(call.index);
+    let saved = save_memories(call.index, length, state, lent, destination);
+    let numbers = [
+        call.case as u64,
+        call.index as u64,
+        saved.refusal as u64,
+        saved.length as u64,
+        digest::all(0, destination) as u64,
+    ];
+    print::line(out, b"save", &numbers)?;
+    loads::print_named(out, call.case, saved.state)?;
     Ok(saved.length)
-}
-
-fn load(
-    c: u16,
-    length: usize,
-    destination: &[u8],
-    program: &mut [u8],
-    memory: &mut [u8],
-    inputs: &mut [u16],
-    outputs: &mut [u16],
-) -> SisaLoad {
-    let most = least(length, destination.len());
-    loads::load(c, &destination[0..most], program, memory, inputs, outputs)
 }
 
 // The file of this length, at the front of the destination, is loaded.
@@ -90,46 +72,36 @@ fn load_again<W: Write>(
     c: u16,
     length: usize,
     destination: &Destination,
-    program: &mut Memory,
-    memory: &mut Memory,
-    inputs: &mut Ports,
-    outputs: &mut Ports,
-    log: &Log,
+    lent: &mut Lent,
 ) -> io::Result<SisaLoad> {
-    let load = load(c, length, destination, program, memory, inputs, outputs);
-    loads::print_load(
-        out, b"again", c, load, program, memory, inputs, outputs, log,
-    )?;
+    let file = &destination[0..length.min(DESTINATION_BYTES)];
+    let load = loads::load(c, file, State::MEMORY_BYTES, lent);
+    loads::print_load(out, b"again", c, load, lent)?;
     Ok(load)
 }
 
 // From the state that the host keeps. Answers what the load of the saved file replied.
-pub fn play<W: Write>(
-    out: &mut W,
-    c: u16,
-    kept: State,
-    program: &mut Memory,
-    memory: &mut Memory,
-    inputs: &mut Ports,
-    outputs: &mut Ports,
-    log: &Log,
-) -> io::Result<SisaLoad> {
-    let mut destination = [0u8; DESTINATION_BYTES];
-    let length = save(out, c, 0, 0, kept, program, memory, &mut destination)?;
-    save(out, c, 1, length, kept, program, memory, &mut destination)?;
-    let again = load_again(
+pub fn play<W: Write>(out: &mut W, c: u16, kept: State, lent: &mut Lent) -> io::Result<SisaLoad> {
+    let mut held = [0u8; DESTINATION_BYTES];
+    let length = save(out, Call { case: c, index: 0 }, 0, kept, lent, &mut held)?;
+    save(
         out,
-        c,
+        Call { case: c, index: 1 },
         length,
-        &destination,
-        program,
-        memory,
-        inputs,
-        outputs,
-        log,
+        kept,
+        lent,
+        &mut held,
     )?;
-    let state = again.state;
-    save(out, c, 2, length, state, program, memory, &mut destination)?;
-    save(out, c, 3, length, state, program, memory, &mut destination)?;
+    let again = load_again(out, c, length, &held, lent)?;
+    for index in 2..4 {
+        save(
+            out,
+            Call { case: c, index },
+            length,
+            again.state,
+            lent,
+            &mut held,
+        )?;
+    }
     Ok(again)
 }

@@ -1,23 +1,25 @@
 // The sheet of a case.
-use crate::calls::start_line;
 use numbers::number;
-use player::digest::places;
-use player::print;
+use player::runs::Call;
+use player::{digest, print};
 use sheet::Sheet;
-use std::io;
 use std::io::Write;
+use std::{array, io};
 use usage::Usage;
 
-fn digest_of(kinds: [u64; kinds::COUNT], taken: u64, reads: [u64; 8], writes: [u64; 8]) -> u32 {
-    let taken = [taken];
-    places(places(places(places(0, &kinds), &taken), &reads), &writes)
+fn counts_digest(kinds: &[u64], taken: u64, reads: &[u64], writes: &[u64]) -> u32 {
+    let after = digest::all(0, kinds);
+    let after = digest::all(after, &[taken]);
+    let after = digest::all(after, reads);
+    digest::all(after, writes)
 }
 
 pub fn usage_digest(usage: Usage) -> u32 {
-    let kinds = usage.kinds;
-    let reads = usage.reads;
-    let writes = usage.writes;
-    digest_of(kinds, usage.taken, reads, writes)
+    counts_digest(&usage.kinds, usage.taken, &usage.reads, &usage.writes)
+}
+
+fn sheet_digest(sheet: Sheet) -> u32 {
+    counts_digest(&sheet.kinds, sheet.taken, &sheet.reads, &sheet.writes)
 }
 
 // Count k, in the digest's order, of a sheet that is nearly full. (The remainder changes nothing.)
@@ -26,55 +28,44 @@ fn large(c: u16, k: usize) -> u64 {
 }
 
 fn large_counts(c: u16) -> Sheet {
-    let mut kinds = [0; kinds::COUNT];
-    for k in 0..kinds::COUNT {
-        kinds[k] = large(c, k);
-    }
-    let mut reads = [0; 8];
-    let mut writes = [0; 8];
-    for j in 0..8 {
-        reads[j] = large(c, 35 + j);
-        writes[j] = large(c, 43 + j);
-    }
     Sheet {
-        kinds,
+        kinds: array::from_fn(|k| large(c, k)),
         taken: large(c, 34),
-        reads,
-        writes,
+        reads: array::from_fn(|k| large(c, 35 + k)),
+        writes: array::from_fn(|k| large(c, 43 + k)),
         runs: 0,
     }
 }
 
 // The sheet that case c begins with.
 pub fn first(c: u16) -> Sheet {
-    let mut sheet = Sheet::empty();
     match number(c, 5) % 4 {
-        0 => {
-            sheet.runs = 65530;
-            sheet
-        }
+        0 => Sheet {
+            runs: 65530,
+            ..Sheet::empty()
+        },
         1 => large_counts(c),
-        _ => sheet,
+        _ => Sheet::empty(),
     }
 }
 
 // Feeds the sheet what a run returned, and prints what comes of it.
 pub fn feed<W: Write>(
     out: &mut W,
-    c: u16,
-    i: u16,
+    call: Call,
     sheet: Sheet,
     refusal: u8,
     usage: Usage,
 ) -> io::Result<Sheet> {
     let fed = sisa::sisa_feed(sheet, refusal, usage);
     let after = fed.sheet;
-    start_line(out, b"fed", c, i)?;
-    print::field(out, fed.refusal as u64)?;
-    print::field(out, after.runs as u64)?;
-    let kinds = after.kinds;
-    let reads = after.reads;
-    let writes = after.writes;
-    print::last_field(out, digest_of(kinds, after.taken, reads, writes) as u64)?;
+    let numbers = [
+        call.case as u64,
+        call.index as u64,
+        fed.refusal as u64,
+        after.runs as u64,
+        sheet_digest(after) as u64,
+    ];
+    print::line(out, b"fed", &numbers)?;
     Ok(after)
 }

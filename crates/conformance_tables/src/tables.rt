@@ -1,5 +1,6 @@
 // The tables.
 use numbers::number;
+use std::array;
 
 pub type Table = [u16; 32];
 
@@ -18,36 +19,27 @@ fn with_out_at_in() -> Table {
 
 fn replaced(c: u16) -> Table {
     let mut words = control::control_table();
-    let at = (number(c, 40) % 32) as usize;
-    words[at] = number(c, 41);
+    words[(number(c, 40) % 32) as usize] = number(c, 41);
     words
 }
 
 fn exchanged(c: u16) -> Table {
     let mut words = control::control_table();
-    let a = (number(c, 40) % 24) as usize;
-    let b = (number(c, 41) % 24) as usize;
-    let word = words[a];
-    words[a] = words[b];
-    words[b] = word;
+    words.swap((number(c, 40) % 24) as usize, (number(c, 41) % 24) as usize);
     words
 }
 
 // Words of which each has these bits cleared, then those set.
 fn random(c: u16, cleared: u16, set: u16) -> Table {
-    let mut words = [0; 32];
-    for j in 0..32 {
-        words[j] = (number(c, 100 + j as u16) & !cleared) | set;
-    }
-    words
+    array::from_fn(|j| (number(c, 100 + j as u16) & !cleared) | set)
 }
 
 // Words that say assigned. In most of them bit 15, which leaves the choice to f, is cleared.
 fn some_by_f(c: u16) -> Table {
     let mut words = random(c, 0, 16384);
-    for j in 0..32 {
+    for (j, word) in words.iter_mut().enumerate() {
         if number(c, 140 + j as u16) % 4 != 0 {
-            words[j] = words[j] & 32767;
+            *word &= 32767;
         }
     }
     words
@@ -55,13 +47,10 @@ fn some_by_f(c: u16) -> Table {
 
 // Words that say assigned, from table 128 on with the input as result, from 160 on with few that leave the choice to f.
 fn assigned(t: u16, c: u16) -> Table {
-    if t < 128 {
-        return random(c, 0, 16384);
-    }
-    if t < INTERRUPTS {
-        random(c, 28, 16400)
-    } else {
-        some_by_f(c)
+    match t {
+        0..128 => random(c, 0, 16384),
+        128..INTERRUPTS => random(c, 28, 16400),
+        _ => some_by_f(c),
     }
 }
 

@@ -19,6 +19,7 @@ pub fn control_table() -> [u16; 32]
 }
 
 // The word of a table for an instruction word.
+#[tactic(auto, unfolding(crate::specs::Control::control_in))]
 pub fn control_of(words: &[u16; 32], w: u16) -> u16
     ensures { result ≡ control_in words.now w }
 {

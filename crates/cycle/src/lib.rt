@@ -2,45 +2,24 @@
 #![tactic(auto)]
 
 ghost use Rattle.std.specs.Prelude.{◌≡◌, false, ◌+◌, ◌%◌, ◌≤◌, length};
-ghost use Rattle.machine.specs.Held.{held, Ready, TestsLock, StepsAs};
-ghost use Rattle.run.specs.declared.Answer.TheVariants.{Stopped};
-ghost use Rattle.run.specs.Runs.{given, journal_if};
+ghost use Rattle.std.specs.declared.result.Result.TheVariants.{Ok};
+ghost use Rattle.machine.specs.Machine.{takes_line};
+ghost use Rattle.run.specs.Runs.{journal_if};
 ghost use Rattle.run.specs.Parts.{EndsWith};
 ghost use Rattle.places.specs.Places.{Cleared};
-ghost use Rattle.cycle.specs.Loops.{CanRun, RunsAccepted, StopsLocked, chosen, step_of, writes_of};
+ghost use Rattle.bus.specs.Lent.{SameBus, SameLog};
+ghost use Rattle.cycle.specs.Loops.{given_on, CanRun, RunsAccepted, StopsLocked};
 
-use machine::{State, Stepped};
-use run::{Answer, Report, Tallied};
+use bus::{Bus, Log};
+use machine::{State, Stop};
+use run::{Report, Tallied};
+use stepping::Engine;
 use usage::Usage;
 
-// The step of w by a table's word for it, or by the rules, where it touches no locked byte.
-fn step(
-    by_table: bool,
-    table: &[u16; 32],
-    w: u16,
-    state: State,
-    memory: &mut [u8],
-    inputs: &mut [u16],
-    outputs: &mut [u16],
-    log: &mut [u64],
-    entries: usize,
-) -> Stepped
-    requires ready { Ready (held state memory.old inputs.old outputs.old log.old entries) }
-    requires tests_lock { TestsLock (step_of by_table table.now w) state false }
-    ensures { StepsAs (step_of by_table table.now w) (writes_of by_table table.now w) state memory inputs outputs log entries result }
-{
-    if by_table {
-        let control = control::control_of(table, w);
-        datapath::step(control, w, state, memory, inputs, outputs, log, entries)
-    } else {
-        rules::step(w, state, memory, inputs, outputs, log, entries)
-    }
-}
-
 // The next step is stopped by a locked byte: of its fetch, or of what the word fetched reads or stores.
-fn is_locked(by_table: bool, table: &[u16; 32], state: State, program: &[u8], memory: &[u8]) -> bool
-    requires { (length program.now ≡ 65536) × (length memory.now ≡ 65536) × (state.pc % 2 ≡ 0) }
-    ensures { StopsLocked (chosen by_table table.now) state program.now memory.now result }
+fn is_locked<E: Engine>(engine: &E, state: State, program: &[u8], bus: &Bus) -> bool
+    requires { (length program.now ≡ 65536) × (state.pc % 2 ≡ 0) }
+    ensures { StopsLocked (E.stepper engine.now) state program.now bus.now.memory.now result }
 {
     if state.takes_line() {
         return false;
@@ -48,22 +27,25 @@ fn is_locked(by_table: bool, table: &[u16; 32], state: State, program: &[u8], me
     if state.locks_fetch() {
         return true;
     }
-    let w = bus::fetch(state, program, memory);
-    if by_table {
-        datapath::touches_locked(control::control_of(table, w), w, state)
-    } else {
-        rules::touches_locked(w, state)
-    }
+    engine.touches_locked(bus.fetch(state, program), state)
+}
+
+// A line is to be taken. No step raises a line, so where none was pending at the start, which `waits` says, none ever is.
+fn takes_line(waits: bool, state: State) -> bool
+    requires { waits ≡ false → takes_line state ≡ false }
+    ensures { result ≡ takes_line state }
+{
+    if waits { state.takes_line() } else { false }
 }
 
 // What a run replies that ends here.
 fn ended(stop: u8, state: State, steps: u32, entries: usize, keeps: bool, usage: Usage) -> Tallied
     requires { state.journaled + steps ≤ 18446744073709551615 }
-    ensures { (result.answer ≡ Stopped (record { stop = stop; steps = steps; entries = entries })) × (result.usage ≡ usage) × EndsWith «keeps» steps state result.state }
+    ensures { (result.answer ≡ Ok (record { stop = stop; steps = steps; entries = entries })) × (result.usage ≡ usage) × EndsWith «keeps» steps state result.state }
 {
     Tallied {
         state: run::ending(state, steps, keeps),
-        answer: Answer::Stopped(Report {
+        answer: Ok(Report {
             stop,
             steps,
             entries,
@@ -72,85 +54,68 @@ fn ended(stop: u8, state: State, steps: u32, entries: usize, keeps: bool, usage:
     }
 }
 
-// The loop of an accepted run, by a table or by the rules, from the state it starts from, with the steps it may take. PC stays even.
+// The loop of an accepted run by an engine, from the state it starts from, with the steps it may take. PC stays even.
 // A line that is to be taken is a step of its own. Where a range is locked, each step is tested before it is made: the inner loop then goes
 // one step at a time, and without a range to the end, so that a step has no test of it. Where `keeps`, a step's entry goes to the journal.
 // Where `counts` has all places, a step adds one at its word's place, and usage counts only the lines taken.
-pub fn run_accepted(
-    by_table: bool,
-    table: &[u16; 32],
+pub fn run_accepted<E: Engine>(
+    engine: &E,
     start: State,
     program: &[u8],
-    memory: &mut [u8],
-    inputs: &mut [u16],
-    outputs: &mut [u16],
+    bus: &mut Bus,
     budget: u32,
-    log: &mut [u64],
+    log: &mut Log,
     keeps: bool,
     journal: &mut [u64],
     counts: &mut [u32],
 ) -> Tallied
     requires cleared { Cleared counts.old }
-    requires can_run { CanRun (given start program.now memory.old inputs.old outputs.old budget log.old (journal_if «keeps» journal.old)) }
-    ensures { RunsAccepted (chosen by_table table.now) start program memory inputs outputs budget log «keeps» journal counts result }
+    requires can_run { CanRun (given_on start program.now bus.old budget log.old (journal_if «keeps» journal.old)) }
+    ensures ran { RunsAccepted (E.stepper engine.now) start program bus.old bus.new budget log.old log.new «keeps» journal counts result }
+    ensures same { SameBus bus.old bus.new × SameLog log.old log.new }
 {
     let mut state = start;
+    log.entries = 0;
     let mut steps: u32 = 0;
-    let mut entries: usize = 0;
     let count = state.journaled as usize;
     let mut entry: u64 = 0;
-    let mut kinds = [0u64; kinds::COUNT];
-    let mut reads = [0u64; 8];
-    let mut writes = [0u64; 8];
-    let mut taken: u64 = 0;
-    // No step raises a line, so where none is pending at the start none is ever taken.
+    let mut usage = Usage::none();
     let waits = start.pending != 0;
     while steps < budget {
         let mut until = budget;
         if state.locked != 0 {
-            if is_locked(by_table, table, state, program, memory) {
-                let usage = Usage {
-                    kinds,
-                    taken,
-                    reads,
-                    writes,
-                };
-                return ended(4, state, steps, entries, keeps, usage);
+            if is_locked(engine, state, program, bus) {
+                return ended(
+                    u8::from(Stop::LockedByte),
+                    state,
+                    steps,
+                    log.entries,
+                    keeps,
+                    usage,
+                );
             }
             until = steps + 1;
         }
         while steps < until {
-            if waits {
-                if state.enabled != 0 {
-                    if state.pending != 0 {
-                        if keeps {
-                            let place = count + steps as usize;
-                            journal[place] = journal::line_entry(state);
-                        }
-                        state = state.line_taken();
-                        taken = taken + 1;
-                        steps = steps + 1;
-                        continue;
-                    }
+            if takes_line(waits, state) {
+                if keeps {
+                    let place = count + steps as usize;
+                    journal[place] = journal::line_entry(state);
                 }
+                state = state.line_taken();
+                usage.taken += 1;
+                steps += 1;
+                continue;
             }
-            let w = bus::fetch(state, program, memory);
+            let w = bus.fetch(state, program);
             if keeps {
-                entry = journal::entry(w, state, memory, inputs, outputs);
+                entry = journal::entry(w, state, bus);
             }
-            let done = step(
-                by_table, table, w, state, memory, inputs, outputs, log, entries,
-            );
-            state = done.state;
-            entries = done.entries;
-            if done.stop != 0 {
-                let usage = Usage {
-                    kinds,
-                    taken,
-                    reads,
-                    writes,
-                };
-                return ended(done.stop, state, steps, entries, keeps, usage);
+            match engine.step(w, state, bus, log) {
+                Ok(next) => state = next,
+                Err(stop) => {
+                    return ended(u8::from(stop), state, steps, log.entries, keeps, usage);
+                }
             }
             if keeps {
                 let place = count + steps as usize;
@@ -160,16 +125,10 @@ pub fn run_accepted(
                 let at = places::place_of(w);
                 counts[at] += 1;
             } else {
-                usage::tally(w, &mut kinds, &mut reads, &mut writes);
+                usage.tally(w);
             }
-            steps = steps + 1;
+            steps += 1;
         }
     }
-    let usage = Usage {
-        kinds,
-        taken,
-        reads,
-        writes,
-    };
-    ended(0, state, steps, entries, keeps, usage)
+    ended(0, state, steps, log.entries, keeps, usage)
 }

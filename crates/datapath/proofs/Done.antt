@@ -11,7 +11,13 @@ use lib.ListN.{length, set, length-set, get_or, get_or-map}
 use Rattle.word.specs.Fields.{bits, field, a_of, f_of, N8}
 use Rattle.word.specs.Word.{pick, add}
 use Rattle.machine.specs.declared.State.{State}
-use Rattle.machine.specs.declared.Stepped.{Stepped}
+use Rattle.std.specs.Prelude.{Option, Result, is_some}
+use Rattle.std.specs.declared.option.Option.TheVariants.{Some, None}
+use Rattle.std.specs.declared.result.Result.TheVariants.{Ok, Err}
+use Rattle.word.proofs.Tests.{never}
+use Rattle.machine.specs.declared.Stop.{Stop}
+use Rattle.machine.specs.declared.Stop.TheVariants.{Unassigned, FullLog, ZeroDivisor}
+use Rattle.machine.specs.Stops.{stop_number}
 use Rattle.machine.specs.Machine.{Machine, R, put_r, put_pc, count, on_state}
 use Rattle.machine.specs.Step.{d5_3, d8_6, d11_9, interrupt_rules, cannot, to}
 use Rattle.machine.specs.Run.{Outcome, unless}
@@ -19,7 +25,12 @@ use Rattle.machine.specs.Held.{Held, held, machine_of, is_full, outcome_of, is_l
 use Rattle.machine.proofs.Answers.{Leaves, answered}
 use Rattle.machine.proofs.Log.{put_take, put_drop}
 use Rattle.control.specs.Control.{result_of, inputs_after, next, store_field, by_interrupt, writes_port, stored_data, stored, written, performed, assigned, locked_access, interrupt_assigned, interrupted, control_step}
-use Rattle.datapath.specs.Parts.{unit_of, state_after, data_after, is_zero_divisor, stop_of, advanced_of, done_in, done_with, stopped_with, Answered, with_inputs, result_answer, interrupt_of, interrupt_answer}
+use Rattle.datapath.specs.Parts.{unit_of, state_after, data_after, is_zero_divisor, stop_of, advanced_of, done_with, Answered, with_inputs, result_answer, interrupt_of, interrupt_answer}
+
+-- the reason of a stop, 0 where there is none
+abbrev reason_in : Option Stop → ℕ
+reason_in (Some stop) = stop_number stop
+reason_in None = 0
 
 -- by a control word without bit 15, which touches no locked byte
 module _ (c w : ℕ) (h : Held) (by_fields : by_interrupt c ≡ false) (free : TestsLock (control_step c w) h.state false) where
@@ -50,17 +61,17 @@ module _ (c w : ℕ) (h : Held) (by_fields : by_interrupt c ≡ false) (free : T
 
   -- ---- It stops
 
-  pub stopped : (stop : ℕ) → h.entries ≤ length h.log → stop ≡ stop_of c w h.state (is_full h) → (stop ≡ 0 → ⊥) → Meets stop h
-  stopped stop filled e n =
+  pub stopped : (stop : Stop) → h.entries ≤ length h.log → stop_of c w h.state (is_full h) ≡ Some stop → Meets (stop_number stop) h
+  stopped stop filled e =
       record { machine = λ P. by_tests P (assigned c w) refl (is_zero_divisor c w h.state) refl (writes_port c && is_full h) refl e; rest = refl; filled = filled }
     where
       by_tests : (P : List ℕ) (a : Bool) → assigned c w ≡ a → (z : Bool) → is_zero_divisor c w h.state ≡ z → (b : Bool) → (writes_port c && is_full h) ≡ b
-          → stop ≡ pick a (pick z 3 (pick b 2 0)) 1
-          → let m = machine_of P h in outcome_of m (unless (writes_port c && is_full h) (control_step c w m)) ≡ record { reason = stop; after = m }
-      by_tests P true p true r b q e = made P true true _ b p r refl q ∙ ap (λ k. record { reason = k; after = machine_of P h }) (sym e)
-      by_tests P true p false r true q e = made P true false false true p r (no_lock p r) q ∙ ap (λ k. record { reason = k; after = machine_of P h }) (sym e)
-      by_tests P true p false r false q e = absurd (n e)
-      by_tests P false p z r b q e = made P false z _ b p r refl q ∙ ap (λ k. record { reason = k; after = machine_of P h }) (sym e)
+          → ◌≡◌ {A = Option Stop} (pick a (pick z (Some ZeroDivisor) (pick b (Some FullLog) None)) (Some Unassigned)) (Some stop)
+          → let m = machine_of P h in outcome_of m (unless (writes_port c && is_full h) (control_step c w m)) ≡ record { reason = stop_number stop; after = m }
+      by_tests P true p true r b q e = made P true true _ b p r refl q ∙ ap (λ k. record { reason = k; after = machine_of P h }) (ap reason_in e)
+      by_tests P true p false r true q e = made P true false false true p r (no_lock p r) q ∙ ap (λ k. record { reason = k; after = machine_of P h }) (ap reason_in e)
+      by_tests P true p false r false q e = never (ap is_some e)
+      by_tests P false p z r b q e = made P false z _ b p r refl q ∙ ap (λ k. record { reason = k; after = machine_of P h }) (ap reason_in e)
 
   -- ---- It is done
 
@@ -106,7 +117,7 @@ module _ (c w : ℕ) (h : Held) (by_fields : by_interrupt c ≡ false) (free : T
   no_data s D port = let k : store_field c ≡ 3 = eqb-true (store_field c) 3 ((and-eq-true_iff (not (by_interrupt c)) (eqb (store_field c) 3)).0 port).1 in rw k
 
   -- by fields
-  pub fields_done : {s : State} {D I O log : List ℕ} {entries : ℕ} → h.entries ≤ length h.log → stop_of c w h.state (is_full h) ≡ 0
+  pub fields_done : {s : State} {D I O log : List ℕ} {entries : ℕ} → h.entries ≤ length h.log → stop_of c w h.state (is_full h) ≡ None
       → s ≡ state_after c w h.state h.D h.I
       → D ≡ data_after c w h.state h.D
       → I ≡ inputs_after c w h.I
@@ -117,14 +128,14 @@ module _ (c w : ℕ) (h : Held) (by_fields : by_interrupt c ≡ false) (free : T
   fields_done {s} {D} {I} {O} {log} {entries} filled go es eD eI port = by_tests (assigned c w) refl (is_zero_divisor c w h.state) refl (writes_port c) refl (is_full h) refl go port
     where
       by_tests : (a : Bool) → assigned c w ≡ a → (z : Bool) → is_zero_divisor c w h.state ≡ z → (p : Bool) → writes_port c ≡ p → (f : Bool) → is_full h ≡ f
-          → ◌≡◌ {A = ℕ} (pick a (pick z 3 (pick (p && f) 2 0)) 1) 0
+          → ◌≡◌ {A = Option Stop} (pick a (pick z (Some ZeroDivisor) (pick (p && f) (Some FullLog) None)) (Some Unassigned)) None
           → (entries ≡ pick p (h.entries + 1) h.entries)
           × (O ≡ pick p (set h.O (N8 w) (R h.state (a_of w))) h.O)
           × (log ≡ pick p (set h.log h.entries (h.state.n * 16777216 + N8 w * 65536 + R h.state (a_of w))) h.log)
           → Meets 0 (held s D I O log entries)
-      by_tests false a z ez p ep f ef go e = absurd (omega arith)
-      by_tests true a true ez p ep f ef go e = absurd (omega arith)
-      by_tests true a false ez true ep true ef go e = absurd (omega arith)
+      by_tests false a z ez p ep f ef go e = never (sym (ap is_some go))
+      by_tests true a true ez p ep f ef go e = never (sym (ap is_some go))
+      by_tests true a false ez true ep true ef go e = never (sym (ap is_some go))
       by_tests true a false ez true ep false ef go e =
           port_done a ez (leb-false _ _ ef) ep es (eD ∙ no_data h.state h.D ep) eI e.1 e.2 e.0
       by_tests true a false ez false ep f ef go e =
@@ -132,35 +143,35 @@ module _ (c w : ℕ) (h : Held) (by_fields : by_interrupt c ≡ false) (free : T
 
 -- an answer meets the step, with nothing stored
 abbrev MeetsWith : ℕ → ℕ → Held → Answered → Type 0
-MeetsWith c w h x = Leaves (control_step c w) (writes_port c) h x.answer h.D x.inputs h.O h.log
+MeetsWith c w h x = Leaves (control_step c w) (writes_port c) h x.answer h.D x.inputs h.O h.log h.entries
 
 -- the answer where nothing is stored, with PC+2
 pub result_done : (c w : ℕ) (h : Held) → by_interrupt c ≡ false → TestsLock (control_step c w) h.state false → h.entries ≤ length h.log → writes_port c ≡ false → data_after c w h.state h.D ≡ h.D
     → next c w (R h.state (a_of w)) h.state.pc ≡ add h.state.pc 2
-    → (r : Stepped) {I : List ℕ}
-    → with_inputs r I ≡ result_answer c w h.state h.D h.I h.entries
+    → (r : Result State Stop) {I : List ℕ}
+    → with_inputs r I ≡ result_answer c w h.state h.D h.I
     → MeetsWith c w h (with_inputs r I)
 result_done c w h by_fields free filled no_port no_store on r {I} = by_tests (assigned c w) refl (is_zero_divisor c w h.state) refl
   where
     by_tests : (a : Bool) → assigned c w ≡ a → (z : Bool) → is_zero_divisor c w h.state ≡ z
         → with_inputs r I ≡ pick a
         (pick z
-        (with_inputs (stopped_with 3 h.state h.entries) h.I)
-        (with_inputs (done_with c w (result_of c w (unit_of c w h.state) h.state.pc h.D h.I) h.state h.entries) (inputs_after c w h.I)))
-        (with_inputs (stopped_with 1 h.state h.entries) h.I)
+        (with_inputs (Err ZeroDivisor) h.I)
+        (with_inputs (Ok (done_with c w (result_of c w (unit_of c w h.state) h.state.pc h.D h.I) h.state)) (inputs_after c w h.I)))
+        (with_inputs (Err Unassigned) h.I)
         → MeetsWith c w h (with_inputs r I)
-    by_tests true e true z a = subst (MeetsWith c w h) (sym a) (stopped c w h by_fields free 3 filled (rw (e, z)) (λ z. omega arith))
+    by_tests true e true z a = subst (MeetsWith c w h) (sym a) (stopped c w h by_fields free ZeroDivisor filled (rw (e, z)))
     by_tests true e false z a = subst (MeetsWith c w h) (sym a) (data_done c w h by_fields free e z filled no_port (rw on) (sym no_store) refl)
-    by_tests false e t z a = subst (MeetsWith c w h) (sym a) (stopped c w h by_fields free 1 filled (rw e) (λ z. omega arith))
+    by_tests false e t z a = subst (MeetsWith c w h) (sym a) (stopped c w h by_fields free Unassigned filled (rw e))
 
 -- a port's step has a free place where nothing stops it
-pub free_place : (c w : ℕ) (s : State) (n places : ℕ) → stop_of c w s (leb places n) ≡ 0 → writes_port c ≡ true → n < places
+pub free_place : (c w : ℕ) (s : State) (n places : ℕ) → stop_of c w s (leb places n) ≡ None → writes_port c ≡ true → n < places
 free_place c w s n places go port = by_tests (assigned c w) (is_zero_divisor c w s) (leb places n) refl (rw port at go)
   where
-    by_tests : (a z f : Bool) → leb places n ≡ f → ◌≡◌ {A = ℕ} (pick a (pick z 3 (pick f 2 0)) 1) 0 → n < places
-    by_tests false z f e go = absurd (omega arith)
-    by_tests true true f e go = absurd (omega arith)
-    by_tests true false true e go = absurd (omega arith)
+    by_tests : (a z f : Bool) → leb places n ≡ f → ◌≡◌ {A = Option Stop} (pick a (pick z (Some ZeroDivisor) (pick f (Some FullLog) None)) (Some Unassigned)) None → n < places
+    by_tests false z f e go = never (sym (ap is_some go))
+    by_tests true true f e go = never (sym (ap is_some go))
+    by_tests true false true e go = never (sym (ap is_some go))
     by_tests true false false e go = leb-false _ _ e
 
 -- ---- By a control word with bit 15
@@ -178,14 +189,14 @@ interrupted_counted c w m =
     (sym (get_or-map count (interrupt_rules (written c w) on) (f_of w) on)
     ∙ ap (λ t. get_or (interrupt_rules (λ v s. t) (count on)) (f_of w) (count on)) (written_counted c w on.line on))
 
-pub interrupt_done : (c w : ℕ) (h : Held) → by_interrupt c ≡ true → h.entries ≤ length h.log → (r : Stepped) → r ≡ interrupt_answer c w h.state h.entries
-    → Leaves (control_step c w) (writes_port c) h r h.D h.I h.O h.log
+pub interrupt_done : (c w : ℕ) (h : Held) → by_interrupt c ≡ true → h.entries ≤ length h.log → (r : Result State Stop) → r ≡ interrupt_answer c w h.state
+    → Leaves (control_step c w) (writes_port c) h r h.D h.I h.O h.log h.entries
 unfolding control_step
 interrupt_done c w h by_f filled r = by_test (interrupt_assigned c w) refl
   where
     by_test : (a : Bool) → interrupt_assigned c w ≡ a
-        → r ≡ pick a (done_in (interrupt_of c w (advanced_of h.state)) h.entries) (stopped_with 1 h.state h.entries)
-        → Leaves (control_step c w) (writes_port c) h r h.D h.I h.O h.log
+        → r ≡ pick a (Ok (interrupt_of c w (advanced_of h.state))) (Err Unassigned)
+        → Leaves (control_step c w) (writes_port c) h r h.D h.I h.O h.log h.entries
     by_test true q e =
         answered r _ e
         record {

@@ -12,6 +12,7 @@ use lib.Dec.{eqb}
 use Rattle.word.specs.Fields.{a_of, b_of, f_of, N6}
 use Rattle.word.specs.Word.{add, clear0, SE, operation, comparison}
 use Rattle.word.proofs.Computed.{all}
+use Rattle.std.specs.declared.result.Result.TheVariants.{Ok}
 use Rattle.machine.specs.declared.State.{State}
 use Rattle.machine.specs.Machine.{R, put_pc, count}
 use Rattle.word.specs.Codes.{below6_but}
@@ -86,15 +87,15 @@ module _ (c w : ℕ) (s : State) where
       record { by_fields = rw h.3; no_port = rw (h.3, h.2); on = rw h.1; no_store = λ D. rw h.2 }
 
   -- its own groups, each with its result
-  module _ (D I : List ℕ) (k : ℕ) (e : is_result c ≡ true) where
-    pub operation_group : is_operation c ≡ true → result_answer c w s D I k ≡ with_inputs (done_with c w (operation (f_of w) (R s (a_of w)) (R s (b_of w))) s k) I
+  module _ (D I : List ℕ) (e : is_result c ≡ true) where
+    pub operation_group : is_operation c ≡ true → result_answer c w s D I ≡ with_inputs (Ok (done_with c w (operation (f_of w) (R s (a_of w)) (R s (b_of w))) s)) I
     unfolding assigned zero_divisor result_of inputs_after unit second
     operation_group g =
         let m = middle c (eqb-true _ 0 g) in
         let l = lower c m.1 in
         rw ((upper c (eqb-true _ 16 e)).0, m.0, l.0, l.1)
 
-    pub comparison_group : is_comparison c w ≡ true → result_answer c w s D I k ≡ with_inputs (done_with c w (comparison (f_of w) (R s (a_of w)) (R s (b_of w))) s k) I
+    pub comparison_group : is_comparison c w ≡ true → result_answer c w s D I ≡ with_inputs (Ok (done_with c w (comparison (f_of w) (R s (a_of w)) (R s (b_of w))) s)) I
     unfolding assigned zero_divisor result_of inputs_after unit second all
     comparison_group g =
         let p = (and-eq-true_iff (eqb (c / 4 % 256) 8) (below6_but 2 (f_of w))).0 g in
@@ -102,7 +103,7 @@ module _ (c w : ℕ) (s : State) where
         let l = lower c m.1 in
         rw ((upper c (eqb-true _ 16 e)).0, m.0, l.0, l.1, sym (alike_f (below6_but 2) (takes 1) tt (f_of w) (omega arith)) ∙ p.1)
 
-    pub sum_group : is_sum c ≡ true → result_answer c w s D I k ≡ with_inputs (done_with c w (result_of c w (address_of w s) s.pc D I) s k) (inputs_after c w I)
+    pub sum_group : is_sum c ≡ true → result_answer c w s D I ≡ with_inputs (Ok (done_with c w (result_of c w (address_of w s) s.pc D I) s)) (inputs_after c w I)
     unfolding assigned zero_divisor
     sum_group g =
         let bits : c / 32 % 32 ≡ 10 = eqb-true _ _ g in

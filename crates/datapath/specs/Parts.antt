@@ -1,19 +1,16 @@
 -- What the private functions of a step promise. Nothing here is promised to a caller.
-use Rattle.std.specs.Prelude.{ℕ, ◌<◌, ◌/◌, ◌%◌, Bool, ◌&&◌, ◌||◌, List, ◌≡◌, eqb, length, get_or}
+use Rattle.std.specs.Prelude.{ℕ, ◌/◌, ◌%◌, Bool, ◌&&◌, ◌||◌, List, eqb, get_or, Option, Result}
+use Rattle.std.specs.declared.option.Option.TheVariants.{Some, None}
+use Rattle.std.specs.declared.result.Result.TheVariants.{Ok, Err}
 use Rattle.word.specs.Fields.{a_of, b_of, f_of, N6}
 use Rattle.word.specs.Codes.{below6_but}
 use Rattle.word.specs.Word.{pick, add, SE}
 use Rattle.machine.specs.declared.State.{State}
-use Rattle.machine.specs.declared.Stepped.{Stepped}
+use Rattle.machine.specs.declared.Stop.{Stop}
+use Rattle.machine.specs.declared.Stop.TheVariants.{Unassigned, FullLog, ZeroDivisor}
 use Rattle.machine.specs.Machine.{R, put_pc, count}
 use Rattle.machine.specs.Step.{interrupt_rules}
 use Rattle.control.specs.Control.{unit, result_of, inputs_after, next, writes_port, stored_data, written, assigned, zero_divisor, interrupt_assigned}
-
--- what the state after a step takes: a count that can grow, a memory and inputs of their lengths
-pub record Lent (s : State) (D I : List ℕ) : Type 0 where
-  pub counts : s.n < 4294967295
-  pub memory : length D ≡ 65536
-  pub inputs : length I ≡ 256
 
 -- the unit's result in a state
 abbrev pub unit_of : ℕ → ℕ → State → ℕ
@@ -30,42 +27,35 @@ data_after c w s D = stored_data c (R s (b_of w)) (unit_of c w s) D
 abbrev pub is_zero_divisor : ℕ → ℕ → State → Bool
 is_zero_divisor c w s = zero_divisor c w (R s (b_of w))
 
--- why w is not stepped, where it touches no locked byte: 1 unassigned, 3 a zero divisor, 2 a port write and the log is full; 0 where it is
-abbrev pub stop_of : ℕ → ℕ → State → Bool → ℕ
-stop_of c w s full = pick (assigned c w) (pick (is_zero_divisor c w s) 3 (pick (writes_port c && full) 2 0)) 1
+-- why w is not stepped, where it touches no locked byte
+abbrev pub stop_of : ℕ → ℕ → State → Bool → Option Stop
+stop_of c w s full =
+    pick (assigned c w) (pick (is_zero_divisor c w s) (Some ZeroDivisor) (pick (writes_port c && full) (Some FullLog) None)) (Some Unassigned)
 
 -- PC+2, and the count
 abbrev pub advanced_of : State → State
 advanced_of s = put_pc (add s.pc 2) (count s)
 
--- what is answered where a step is done, with the state t after it
-abbrev pub done_in : State → ℕ → Stepped
-done_in t entries = record { stop = 0; state = t; entries = entries }
-
--- where a result v is written, with PC+2
-abbrev pub done_with : ℕ → ℕ → ℕ → State → ℕ → Stepped
-done_with c w v s entries = done_in (written c w v (advanced_of s)) entries
-
--- what is answered where no step is made
-abbrev pub stopped_with : ℕ → State → ℕ → Stepped
-stopped_with stop s entries = record { stop = stop; state = s; entries = entries }
+-- the state after a step where a result v is written, with PC+2
+abbrev pub done_with : ℕ → ℕ → ℕ → State → State
+done_with c w v s = written c w v (advanced_of s)
 
 -- an answer, with the inputs left
 pub record Answered : Type 0 where
-  pub answer : Stepped
+  pub answer : Result State Stop
   pub inputs : List ℕ
 
-abbrev pub with_inputs : Stepped → List ℕ → Answered
+abbrev pub with_inputs : Result State Stop → List ℕ → Answered
 with_inputs r I = record { answer = r; inputs = I }
 
 -- what is answered and left where nothing is stored, with PC+2
-abbrev pub result_answer : ℕ → ℕ → State → List ℕ → List ℕ → ℕ → Answered
-result_answer c w s D I entries =
+abbrev pub result_answer : ℕ → ℕ → State → List ℕ → List ℕ → Answered
+result_answer c w s D I =
     pick (assigned c w)
     (pick (is_zero_divisor c w s)
-    (with_inputs (stopped_with 3 s entries) I)
-    (with_inputs (done_with c w (result_of c w (unit_of c w s) s.pc D I) s entries) (inputs_after c w I)))
-    (with_inputs (stopped_with 1 s entries) I)
+    (with_inputs (Err ZeroDivisor) I)
+    (with_inputs (Ok (done_with c w (result_of c w (unit_of c w s) s.pc D I) s)) (inputs_after c w I)))
+    (with_inputs (Err Unassigned) I)
 
 -- ---- Bit 15
 
@@ -74,9 +64,8 @@ abbrev pub interrupt_of : ℕ → ℕ → State → State
 interrupt_of c w next = get_or (interrupt_rules (written c w) next) (f_of w) next
 
 -- what is answered
-abbrev pub interrupt_answer : ℕ → ℕ → State → ℕ → Stepped
-interrupt_answer c w s entries =
-    pick (interrupt_assigned c w) (done_in (interrupt_of c w (advanced_of s)) entries) (stopped_with 1 s entries)
+abbrev pub interrupt_answer : ℕ → ℕ → State → Result State Stop
+interrupt_answer c w s = pick (interrupt_assigned c w) (Ok (interrupt_of c w (advanced_of s))) (Err Unassigned)
 
 -- ---- The groups. None has bit 15.
 

@@ -5,8 +5,10 @@ ghost use Rattle.word.specs.Fields.{b_of, f_of, N8};
 ghost use Rattle.word.specs.Word.{pick};
 ghost use Rattle.machine.specs.Machine.{touches_locked, R};
 ghost use Rattle.control.specs.Control.{second, units, unit_field, unit, result_of, inputs_after, next, by_interrupt, writes_port, stored_data, written, assigned, zero_divisor, touched_by, locked_access, interrupt_assigned};
+ghost use Rattle.bus.specs.Lent.{SameBus, SameLog, Holds};
 ghost use Rattle.datapath.specs.Parts.{interrupt_of};
 
+use bus::{Bus, Log};
 use machine::{Address, Port, State};
 
 // Bits 9..8.
@@ -66,34 +68,28 @@ pub fn unit_result(control: u16, w: u16, x: u16, y: u16) -> u16
 }
 
 // Bits 4..2.
-pub fn chosen_result(
-    control: u16,
-    w: u16,
-    u: u16,
-    pc: u16,
-    memory: &[u8],
-    inputs: &mut [u16],
-) -> u16
-    requires { (length memory.now ≡ 65536) × (length inputs.old ≡ 256) }
-    ensures { (result ≡ result_of control w u pc memory.now inputs.old) × (inputs.new ≡ inputs_after control w inputs.old) }
+pub fn chosen_result(control: u16, w: u16, u: u16, pc: u16, bus: &mut Bus) -> u16
+    ensures value { result ≡ result_of control w u pc bus.old.memory.now bus.old.inputs.now }
+    ensures holds { Holds bus.old.memory.now (inputs_after control w bus.old.inputs.now) bus.old.outputs.now bus.new }
+    ensures same { SameBus bus.old bus.new }
 {
     if control / 16 % 2 == 0 {
         if control / 8 % 2 == 0 {
             if control / 4 % 2 == 0 {
                 u
             } else {
-                bus::load_word(memory, Address(u))
+                bus.load_word(Address(u))
             }
         } else {
             if control / 4 % 2 == 0 {
-                word::extend8(bus::load_byte(memory, Address(u)))
+                word::extend8(bus.load_byte(Address(u)))
             } else {
                 word::sum(pc, 2)
             }
         }
     } else {
         if control / 4 % 4 == 0 {
-            bus::read_input(inputs, Port((w % 256) as u8))
+            bus.read_input(Port((w % 256) as u8))
         } else {
             0
         }
@@ -157,26 +153,18 @@ pub fn writes_port(control: u16) -> bool
     !by_interrupt(control) & (control / 1024 % 4 == 3)
 }
 
-// Where they are 3: the port's store, with an entry of the log. Hands back how many entries there are.
-pub fn store_port(
-    control: u16,
-    w: u16,
-    x: u16,
-    n: u32,
-    outputs: &mut [u16],
-    log: &mut [u64],
-    entries: usize,
-) -> usize
-    requires { (length outputs.old ≡ 256) × (writes_port control ≡ true → entries < length log.old) }
-    ensures { (result ≡ pick (writes_port control) (entries + 1) entries) × (outputs.new ≡ pick (writes_port control) (set outputs.old (N8 w) x) outputs.old) × (log.new ≡ pick (writes_port control) (set log.old entries (n * 16777216 + N8 w * 65536 + x)) log.old) }
+// Where they are 3: the port's store, with an entry of the log.
+pub fn store_port(control: u16, w: u16, x: u16, n: u32, outputs: &mut [u16], log: &mut Log)
+    requires { (length outputs.old ≡ 256) × (writes_port control ≡ true → log.old.entries < length log.old.places.now) }
+    ensures outputs { outputs.new ≡ pick (writes_port control) (set outputs.old (N8 w) x) outputs.old }
+    ensures places { log.new.places.now ≡ pick (writes_port control) (set log.old.places.now log.old.entries (n * 16777216 + N8 w * 65536 + x)) log.old.places.now }
+    ensures entries { log.new.entries ≡ pick (writes_port control) (log.old.entries + 1) log.old.entries }
+    ensures same { SameLog log.old log.new }
 {
     if writes_port(control) {
         let port = Port((w % 256) as u8);
         bus::write_port(outputs, port, x);
-        log[entries] = bus::entry_of(n, port, x);
-        entries + 1
-    } else {
-        entries
+        log.push(bus::entry_of(n, port, x));
     }
 }
 

@@ -2,71 +2,63 @@
 #![tactic(auto)]
 
 ghost use Rattle.std.specs.Prelude.{◌≡◌, true, false, ◌<◌, leb, length};
-ghost use Rattle.machine.specs.Held.{held, Ready, TestsLock, StepsAs};
+ghost use Rattle.std.specs.declared.option.Option.TheVariants.{None};
+ghost use Rattle.std.specs.declared.result.Result.TheVariants.{Ok};
+ghost use Rattle.machine.specs.Held.{TestsLock};
+ghost use Rattle.bus.specs.Lent.{SameBus, SameLog, StepsAs};
 ghost use Rattle.control.specs.Control.{by_interrupt, writes_port, control_step};
-ghost use Rattle.datapath.specs.Parts.{Lent, stop_of, done_with, with_inputs, result_answer, interrupt_answer, is_result};
+ghost use Rattle.datapath.specs.Parts.{stop_of, done_with, with_inputs, result_answer, interrupt_answer, is_result};
 
-use machine::{State, Stepped};
+use bus::{Bus, Log};
+use machine::{State, Stop};
 
 mod fields;
 mod groups;
 
-// Why w is not stepped by a control word without bit 15, where it touches no locked byte: 1 unassigned, 3 a zero divisor, 2 a port write
-// and the log is full; 0 where it is.
-fn stop_of(control: u16, w: u16, state: State, full: bool) -> u8
+// Why w is not stepped by a control word without bit 15, where it touches no locked byte.
+fn stop_of(control: u16, w: u16, state: State, full: bool) -> Option<Stop>
     ensures { result ≡ stop_of control w state full }
 {
     if fields::is_assigned(control, w) {
         if fields::divides_by_zero(control, w, state) {
-            3
+            Some(Stop::ZeroDivisor)
         } else {
             if fields::writes_port(control) & full {
-                2
+                Some(Stop::FullLog)
             } else {
-                0
+                None
             }
         }
     } else {
-        1
+        Some(Stop::Unassigned)
     }
 }
 
 // The step of w where nothing stops it, field by field, without bit 15.
-fn performed(
-    control: u16,
-    w: u16,
-    state: State,
-    memory: &mut [u8],
-    inputs: &mut [u16],
-    outputs: &mut [u16],
-    log: &mut [u64],
-    entries: usize,
-) -> Stepped
-    requires ready { Ready (held state memory.old inputs.old outputs.old log.old entries) }
-    requires control_value { (by_interrupt control ≡ false) × (stop_of control w state (leb (length log.old) entries) ≡ 0) × TestsLock (control_step control w) state false }
-    ensures { StepsAs (control_step control w) (writes_port control) state memory inputs outputs log entries result }
+fn performed(control: u16, w: u16, state: State, bus: &mut Bus, log: &mut Log) -> State
+    requires counts { state.n < 4294967295 }
+    requires control_value { (by_interrupt control ≡ false) × (stop_of control w state (leb (length log.old.places.now) log.old.entries) ≡ None) × TestsLock (control_step control w) state false }
+    ensures steps { StepsAs (control_step control w) (writes_port control) state bus.old log.old bus.new log.new (Ok result) }
+    ensures same { SameBus bus.old bus.new × SameLog log.old log.new }
 {
     let p = state.sources(w);
     let u = fields::unit_result(control, w, p.x, p.y);
-    let v = fields::chosen_result(control, w, u, state.pc, memory, inputs);
+    let v = fields::chosen_result(control, w, u, state.pc, bus);
     let next = fields::next_pc(control, w, p.x, state.pc);
-    let after = fields::write_destination(control, w, v, state.counted().with_pc(next));
-    fields::store_data(control, p.y, u, memory);
-    Stepped::done(
-        after,
-        fields::store_port(control, w, p.x, state.n, outputs, log, entries),
-    )
+    fields::store_data(control, p.y, u, bus.memory);
+    fields::store_port(control, w, p.x, state.n, bus.outputs, log);
+    fields::write_destination(control, w, v, state.counted().with_pc(next))
 }
 
 // The step of w by a control word with bit 15: f chooses.
-fn interrupt_step(control: u16, w: u16, state: State, entries: usize) -> Stepped
+fn interrupt_step(control: u16, w: u16, state: State) -> Result<State, Stop>
     requires { state.n < 4294967295 }
-    ensures { result ≡ interrupt_answer control w state entries }
+    ensures { result ≡ interrupt_answer control w state }
 {
     if fields::is_interrupt_assigned(control, w) {
-        Stepped::done(fields::interrupted(control, w, state.advanced()), entries)
+        Ok(fields::interrupted(control, w, state.advanced()))
     } else {
-        Stepped::stopped(1, state, entries)
+        Err(Stop::Unassigned)
     }
 }
 
@@ -75,24 +67,20 @@ fn field_step(
     control: u16,
     w: u16,
     state: State,
-    memory: &mut [u8],
-    inputs: &mut [u16],
-    outputs: &mut [u16],
-    log: &mut [u64],
-    entries: usize,
-) -> Stepped
-    requires ready { Ready (held state memory.old inputs.old outputs.old log.old entries) }
+    bus: &mut Bus,
+    log: &mut Log,
+) -> Result<State, Stop>
+    requires counts { state.n < 4294967295 }
     requires tests_lock { TestsLock (control_step control w) state false }
-    ensures { StepsAs (control_step control w) (writes_port control) state memory inputs outputs log entries result }
+    ensures steps { StepsAs (control_step control w) (writes_port control) state bus.old log.old bus.new log.new result }
+    ensures same { SameBus bus.old bus.new × SameLog log.old log.new }
 {
     if fields::by_interrupt(control) {
-        interrupt_step(control, w, state, entries)
+        interrupt_step(control, w, state)
     } else {
-        let stop = stop_of(control, w, state, log.len() <= entries);
-        if stop == 0 {
-            performed(control, w, state, memory, inputs, outputs, log, entries)
-        } else {
-            Stepped::stopped(stop, state, entries)
+        match stop_of(control, w, state, log.is_full()) {
+            Some(stop) => Err(stop),
+            None => Ok(performed(control, w, state, bus, log)),
         }
     }
 }
@@ -102,95 +90,80 @@ fn other_step(
     control: u16,
     w: u16,
     state: State,
-    memory: &mut [u8],
-    inputs: &mut [u16],
-    outputs: &mut [u16],
-    log: &mut [u64],
-    entries: usize,
-) -> Stepped
-    requires ready { Ready (held state memory.old inputs.old outputs.old log.old entries) }
+    bus: &mut Bus,
+    log: &mut Log,
+) -> Result<State, Stop>
+    requires counts { state.n < 4294967295 }
     requires tests_lock { TestsLock (control_step control w) state false }
-    ensures { StepsAs (control_step control w) (writes_port control) state memory inputs outputs log entries result }
+    ensures steps { StepsAs (control_step control w) (writes_port control) state bus.old log.old bus.new log.new result }
+    ensures same { SameBus bus.old bus.new × SameLog log.old log.new }
 {
     if groups::is_store(control) {
-        groups::store(control, w, state, memory);
-        Stepped::done(state.advanced(), entries)
+        groups::store(control, w, state, bus.memory);
+        Ok(state.advanced())
     } else {
         if groups::is_jump(control) {
-            Stepped::done(groups::jump(control, w, state), entries)
+            Ok(groups::jump(control, w, state))
         } else {
             if groups::is_link(control) {
-                Stepped::done(groups::link(control, w, state), entries)
+                Ok(groups::link(control, w, state))
             } else {
-                field_step(control, w, state, memory, inputs, outputs, log, entries)
+                field_step(control, w, state, bus, log)
             }
         }
     }
 }
 
-// The step of w is done with the result v, and PC+2.
-fn result_done(control: u16, w: u16, v: u16, state: State, entries: usize) -> Stepped
+// The state after the step of w with the result v, and PC+2.
+fn result_done(control: u16, w: u16, v: u16, state: State) -> State
     requires { state.n < 4294967295 }
-    ensures { result ≡ done_with control w v state entries }
+    ensures { result ≡ done_with control w v state }
 {
-    Stepped::done(
-        fields::write_destination(control, w, v, state.advanced()),
-        entries,
-    )
+    fields::write_destination(control, w, v, state.advanced())
 }
 
 // The step of w by a control word with no store and PC+2, field by field.
-fn other_result(
-    control: u16,
-    w: u16,
-    state: State,
-    memory: &[u8],
-    inputs: &mut [u16],
-    entries: usize,
-) -> Stepped
-    requires { Lent state memory.now inputs.old }
-    ensures { with_inputs result inputs.new ≡ result_answer control w state memory.now inputs.old entries }
+fn other_result(control: u16, w: u16, state: State, bus: &mut Bus) -> Result<State, Stop>
+    requires { state.n < 4294967295 }
+    ensures answer { with_inputs result bus.new.inputs.now ≡ result_answer control w state bus.old.memory.now bus.old.inputs.now }
+    ensures rest { (bus.new.memory.now ≡ bus.old.memory.now) × (bus.new.outputs.now ≡ bus.old.outputs.now) }
+    ensures same { SameBus bus.old bus.new }
 {
     if fields::is_assigned(control, w) {
         if fields::divides_by_zero(control, w, state) {
-            Stepped::stopped(3, state, entries)
+            Err(Stop::ZeroDivisor)
         } else {
             let p = state.sources(w);
             let u = fields::unit_result(control, w, p.x, p.y);
-            let v = fields::chosen_result(control, w, u, state.pc, memory, inputs);
-            result_done(control, w, v, state, entries)
+            let v = fields::chosen_result(control, w, u, state.pc, bus);
+            Ok(result_done(control, w, v, state))
         }
     } else {
-        Stepped::stopped(1, state, entries)
+        Err(Stop::Unassigned)
     }
 }
 
 // The step of w by an assigned control word with no store and PC+2.
-fn result_step(
-    control: u16,
-    w: u16,
-    state: State,
-    memory: &[u8],
-    inputs: &mut [u16],
-    entries: usize,
-) -> Stepped
-    requires { Lent state memory.now inputs.old × (is_result control ≡ true) }
-    ensures { with_inputs result inputs.new ≡ result_answer control w state memory.now inputs.old entries }
+fn result_step(control: u16, w: u16, state: State, bus: &mut Bus) -> Result<State, Stop>
+    requires { (state.n < 4294967295) × (is_result control ≡ true) }
+    ensures answer { with_inputs result bus.new.inputs.now ≡ result_answer control w state bus.old.memory.now bus.old.inputs.now }
+    ensures rest { (bus.new.memory.now ≡ bus.old.memory.now) × (bus.new.outputs.now ≡ bus.old.outputs.now) }
+    ensures same { SameBus bus.old bus.new }
 {
     if groups::is_operation(control) {
         let p = state.sources(w);
-        result_done(control, w, word::operate(w % 8, p.x, p.y), state, entries)
+        Ok(result_done(control, w, word::operate(w % 8, p.x, p.y), state))
     } else {
         if groups::is_sum(control) {
             let u = groups::address(w, state.ra(w));
-            let v = fields::chosen_result(control, w, u, state.pc, memory, inputs);
-            result_done(control, w, v, state, entries)
+            let v = fields::chosen_result(control, w, u, state.pc, bus);
+            Ok(result_done(control, w, v, state))
         } else {
             if groups::is_comparison(control, w) {
                 let p = state.sources(w);
-                result_done(control, w, word::compare(w % 8, p.x, p.y), state, entries)
+                Ok(result_done(control, w, word::compare(w % 8, p.x, p.y), state))
             } else {
-                other_result(control, w, state, memory, inputs, entries)
+                other_result(control, w, state, bus)
             }
         }
     }
@@ -208,23 +181,15 @@ pub fn touches_locked(control: u16, w: u16, state: State) -> bool
 
 // The step of w by a control word, any control word beside any w, which touches no locked byte. The commonest groups of fields have a step of
 // their own, which does what the fields say one by one.
-pub fn step(
-    control: u16,
-    w: u16,
-    state: State,
-    memory: &mut [u8],
-    inputs: &mut [u16],
-    outputs: &mut [u16],
-    log: &mut [u64],
-    entries: usize,
-) -> Stepped
-    requires ready { Ready (held state memory.old inputs.old outputs.old log.old entries) }
+pub fn step(control: u16, w: u16, state: State, bus: &mut Bus, log: &mut Log) -> Result<State, Stop>
+    requires counts { state.n < 4294967295 }
     requires tests_lock { TestsLock (control_step control w) state false }
-    ensures { StepsAs (control_step control w) (writes_port control) state memory inputs outputs log entries result }
+    ensures steps { StepsAs (control_step control w) (writes_port control) state bus.old log.old bus.new log.new result }
+    ensures same { SameBus bus.old bus.new × SameLog log.old log.new }
 {
     if groups::is_result(control) {
-        result_step(control, w, state, memory, inputs, entries)
+        result_step(control, w, state, bus)
     } else {
-        other_step(control, w, state, memory, inputs, outputs, log, entries)
+        other_step(control, w, state, bus, log)
     }
 }

@@ -1,7 +1,7 @@
 -- What a verdict makes of a run.
 -- Assumes nothing.
 use mathlib.Core.Path.{◌≡◌, refl, sym, ap, subst, ◌∙◌}
-use mathlib.Core.Bool.{Bool, ◌&&◌, and-eq-true_iff}
+use mathlib.Core.Bool.{◌&&◌, and-eq-true_iff}
 use mathlib.Core.List.{List}
 use Prim.Native.Nat.{ℕ, zero, suc, ◌+◌, ◌≤◌}
 use native.Mathlib.Omega.{arith}
@@ -18,34 +18,40 @@ use Rattle.usage.specs.declared.Usage.{Usage}
 use Rattle.usage.specs.Usage.{unused}
 use Rattle.run.specs.declared.Tallied.{Tallied}
 use Rattle.run.specs.declared.Counted.{Counted}
-use Rattle.run.specs.Runs.{Journal, Given, given, Left, left, run_refused, shown_answer, start_in, allowed, verdict, verdict_on, CountedLeft, accepted_counted, counted_left, CountedMeets}
+use Rattle.run.specs.Runs.{Journal, Given, given, RunReply, Left, left, run_refused, shown_answer, start_in, allowed, verdict, verdict_on, CountedLeft, accepted_counted, counted_left, CountedMeets}
 use Rattle.run.specs.Parts.{timed}
 use Rattle.run.proofs.Journals.{started, is_started}
 use Rattle.places.specs.Places.{folded, with_taken, tallied}
 use Rattle.places.proofs.Tallied.{at_once, by_place}
-use Rattle.control.specs.Control.{table}
-use Rattle.cycle.specs.Loops.{CanRun, chosen, left_timed}
+use Rattle.cycle.specs.Loops.{CanRun, left_timed}
 
 -- ---- The run, by its verdict
 
 module _ (g : Given) (e : accepted ≡ verdict_on g) where
-  -- where the verdict is accepted, the loop can run from the state that the run starts from, with the steps that it may take
+  -- where the verdict is accepted, what is lent has its lengths,
+  pub lengths : (length g.P ≡ 65536) × (length g.D ≡ 65536) × (length g.I ≡ 256) × (length g.O ≡ 256)
+  unfolding verdict
+  lengths =
+      let lent = passed (lengths_fit g.P g.D g.I g.O) (λ x. clash (cc)) (sym e) in
+      let o = (and-eq-true_iff (eqb (length g.P) 65536 && eqb (length g.D) 65536 && eqb (length g.I) 256) (eqb (length g.O) 256)).0 lent.0 in
+      let i = (and-eq-true_iff (eqb (length g.P) 65536 && eqb (length g.D) 65536) (eqb (length g.I) 256)).0 o.0 in
+      let d = (and-eq-true_iff (eqb (length g.P) 65536) (eqb (length g.D) 65536)).0 i.0 in
+      (eqb-true _ _ d.0, eqb-true _ _ d.1, eqb-true _ _ i.1, eqb-true _ _ o.1)
+
+  -- and the loop can run from the state that the run starts from, with the steps that it may take
   started_fits : (started g).state.journaled + (started g).budget ≤ 18446744073709551615 → CanRun (started g)
   unfolding verdict
   started_fits fits =
       let lent = passed (lengths_fit g.P g.D g.I g.O) (λ x. clash (cc)) (sym e) in
       let even = passed (even_places g.state) (λ x. clash (cc)) lent.1 in
       let few = passed (leb (g.state.n + g.budget) 4294967295) (λ x. clash (cc)) even.1 in
-      let o = (and-eq-true_iff (eqb (length g.P) 65536 && eqb (length g.D) 65536 && eqb (length g.I) 256) (eqb (length g.O) 256)).0 lent.0 in
-      let i = (and-eq-true_iff (eqb (length g.P) 65536 && eqb (length g.D) 65536) (eqb (length g.I) 256)).0 o.0 in
-      let d = (and-eq-true_iff (eqb (length g.P) 65536) (eqb (length g.D) 65536)).0 i.0 in
       let below : g.state.n + g.budget ≤ 4294967295 = leb-true _ _ few.0 in
       let s = is_started g in
       record {
-        program = eqb-true _ _ d.0;
-        memory = eqb-true _ _ d.1;
-        inputs = eqb-true _ _ i.1;
-        outputs = eqb-true _ _ o.1;
+        program = lengths.0;
+        memory = lengths.1;
+        inputs = lengths.2;
+        outputs = lengths.3;
         even = s.places ∙ even.0;
         counts = omega (arith, s.n, s.few, below);
         starts = ap (λ (x : Given). x.state) s.starts;
@@ -78,14 +84,17 @@ module _ (v : Stepper) (g : Given) {l : Left} (counts : List ℕ) (u : Usage) (m
   pub counts_long : {x : Usage} → length counts ≡ 17408 → x ≡ with_taken u.taken (folded counts) → CountedMeets v g (left_timed l x)
   counts_long e f = ap (left_timed l) (f ∙ sym (by_place counts u (omega arith))) ∙ met
 
+-- ---- What is lent to the loop by another name is left so
+
+pub same_lent : (v : Stepper) (g : Given) {reply : RunReply} {s : State} {P D I O log D' I' O' log' : List ℕ} {journal : Journal} {u : Usage}
+    → D' ≡ D → I' ≡ I → O' ≡ O → log' ≡ log
+    → CountedMeets v g (left_timed (left reply s P D I O log journal) u) → CountedMeets v g (left_timed (left reply s P D' I' O' log' journal) u)
+same_lent v g {reply = reply} {s = s} {P = P} {journal = journal} {u = u} d i o l met = (λ j. left_timed (left reply s P (d j) (i j) (o j) (l j) journal) u) ∙ met
+
 pub zeros : (n k : ℕ) → get_or {A = ℕ} (replicate n 0) k 0 ≡ 0
 zeros zero k = refl
 zeros (suc n) zero = refl
 zeros (suc n) (suc k) = zeros n k
-
--- a run where the table that is lent is the paper's
-pub by_paper : (t : Bool) (g : Given) {words : List ℕ} {l : CountedLeft} → words ≡ table → CountedMeets (chosen t words) g l → CountedMeets (chosen t table) g l
-by_paper t g e h = h ∙ ap (λ ws. counted_left (chosen t ws) g) e
 
 -- ---- What the short and the long run hand on
 

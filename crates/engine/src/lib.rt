@@ -2,23 +2,24 @@
 #![tactic(auto)]
 
 ghost use Rattle.machine.specs.Run.{by_rules};
-ghost use Rattle.control.specs.Control.{table, by_control, by_the_table};
-ghost use Rattle.run.specs.Runs.{RunsCounted, RunsJournaled, RunsOnly};
+ghost use Rattle.control.specs.Control.{by_control, by_the_table};
+ghost use Rattle.run.specs.Runs.{journal_if, RunsWith, RunsCounted, RunsJournaled, RunsOnly};
 ghost use Rattle.places.specs.Places.{Cleared};
-ghost use Rattle.cycle.specs.Loops.{chosen, RunsTallied, RunsIf};
+ghost use Rattle.cycle.specs.Loops.{RunsTallied, RunsIf};
 
+use bus::{Bus, Log};
 use control::control_table;
 use machine::State;
-use run::{Answer, Check, Counted, Ran, Tallied};
+use run::{Counted, Ran, Tallied};
+use stepping::{Engine, Rules, Table};
 use usage::Usage;
 
 // From this budget on a run counts by place, with 68 KiB of stack, cleared and folded in some 2 microseconds; below it each step at once.
 const LONG: u32 = 2048;
 
-// A run by a table or by the rules, with a journal where it keeps one: its refusals, then its loop.
-fn run(
-    by_table: bool,
-    table: &[u16; 32],
+// A run by an engine, with a journal where it keeps one: its refusals, then its loop.
+fn tallied<E: Engine>(
+    engine: &E,
     state: State,
     program: &[u8],
     memory: &mut [u8],
@@ -31,36 +32,43 @@ fn run(
     counts: &mut [u32],
 ) -> Tallied
     requires { Cleared counts.old }
-    ensures { RunsTallied (chosen by_table table.now) state program memory inputs outputs budget log «keeps» journal counts result }
+    ensures { RunsTallied (E.stepper engine.now) state program memory inputs outputs budget log «keeps» journal counts result }
 {
     match run::checked(state, program, memory, inputs, outputs, budget) {
-        Check::Accepted => cycle::run_accepted(
-            by_table,
-            table,
-            run::starting(state, keeps),
-            program,
-            memory,
-            inputs,
-            outputs,
-            run::allowed(budget, state.journaled, keeps, journal),
-            log,
-            keeps,
-            journal,
-            counts,
-        ),
-        Check::Refused(refusal) => Tallied {
+        Ok(()) => {
+            let mut bus = Bus {
+                memory,
+                inputs,
+                outputs,
+            };
+            let mut written = Log {
+                places: log,
+                entries: 0,
+            };
+            cycle::run_accepted(
+                engine,
+                run::starting(state, keeps),
+                program,
+                &mut bus,
+                run::allowed(budget, state.journaled, keeps, journal),
+                &mut written,
+                keeps,
+                journal,
+                counts,
+            )
+        }
+        Err(refusal) => Tallied {
             state,
-            answer: Answer::Refused(refusal),
+            answer: Err(refusal),
             usage: Usage::none(),
         },
     }
 }
 
-// A long run: its steps are counted by place and folded after the loop. (Called at three places, so that its frame is not part of a short
-// run's.)
-fn long(
-    by_table: bool,
-    table: &[u16; 32],
+// A long run: its steps are counted by place and folded after the loop. (Not inlined, so that its frame is not part of a short run's.)
+#[inline(never)]
+fn long<E: Engine>(
+    engine: &E,
     state: State,
     program: &[u8],
     memory: &mut [u8],
@@ -71,12 +79,11 @@ fn long(
     keeps: bool,
     journal: &mut [u64],
 ) -> Tallied
-    ensures { RunsIf (chosen by_table table.now) state program memory inputs outputs budget log «keeps» journal result }
+    ensures { RunsIf (E.stepper engine.now) state program memory inputs outputs budget log «keeps» journal result }
 {
     let mut counts = [0u32; places::PLACES];
-    let ran = run(
-        by_table,
-        table,
+    let ran = tallied(
+        engine,
         state,
         program,
         memory,
@@ -88,19 +95,15 @@ fn long(
         journal,
         &mut counts,
     );
-    let state = ran.state;
-    let answer = ran.answer;
-    let usage = ran.usage;
     Tallied {
-        state,
-        answer,
-        usage: places::fold(&counts, usage.taken),
+        usage: places::fold(&counts, ran.usage.taken),
+        ..ran
     }
 }
 
-// A run by the rules or by the paper's table, with a journal.
-fn journaled(
-    by_table: bool,
+// A run that counts its steps, at once or by place, with a journal where it keeps one.
+fn counted<E: Engine>(
+    engine: &E,
     state: State,
     program: &[u8],
     memory: &mut [u8],
@@ -108,16 +111,15 @@ fn journaled(
     outputs: &mut [u16],
     budget: u32,
     log: &mut [u64],
+    keeps: bool,
     journal: &mut [u64],
 ) -> Counted
-    ensures { RunsJournaled (chosen by_table table) state program memory inputs outputs budget log journal result }
+    ensures { RunsWith (E.stepper engine.now) state program memory inputs outputs budget log (journal_if «keeps» journal.old) (journal_if «keeps» journal.new) result }
 {
-    let words = control_table();
     let ran = if budget < LONG {
         let mut counts = [0u32; 0];
-        run(
-            by_table,
-            &words,
+        tallied(
+            engine,
             state,
             program,
             memory,
@@ -125,16 +127,44 @@ fn journaled(
             outputs,
             budget,
             log,
-            true,
+            keeps,
             journal,
             &mut counts,
         )
     } else {
         long(
-            by_table, &words, state, program, memory, inputs, outputs, budget, log, true, journal,
+            engine, state, program, memory, inputs, outputs, budget, log, keeps, journal,
         )
     };
     run::with_ticks(ran)
+}
+
+// A run by an engine.
+pub fn run<E: Engine>(
+    engine: &E,
+    state: State,
+    program: &[u8],
+    memory: &mut [u8],
+    inputs: &mut [u16],
+    outputs: &mut [u16],
+    budget: u32,
+    log: &mut [u64],
+) -> Counted
+    ensures { RunsCounted (E.stepper engine.now) state program memory inputs outputs budget log result }
+{
+    let mut journal = [0u64; 0];
+    counted(
+        engine,
+        state,
+        program,
+        memory,
+        inputs,
+        outputs,
+        budget,
+        log,
+        false,
+        &mut journal,
+    )
 }
 
 // A run by the rules.
@@ -149,40 +179,7 @@ pub fn run_by_rules(
 ) -> Counted
     ensures { RunsCounted by_rules state program memory inputs outputs budget log result }
 {
-    let words = control_table();
-    let mut journal = [0u64; 0];
-    let ran = if budget < LONG {
-        let mut counts = [0u32; 0];
-        run(
-            false,
-            &words,
-            state,
-            program,
-            memory,
-            inputs,
-            outputs,
-            budget,
-            log,
-            false,
-            &mut journal,
-            &mut counts,
-        )
-    } else {
-        long(
-            false,
-            &words,
-            state,
-            program,
-            memory,
-            inputs,
-            outputs,
-            budget,
-            log,
-            false,
-            &mut journal,
-        )
-    };
-    run::with_ticks(ran)
+    run(&Rules, state, program, memory, inputs, outputs, budget, log)
 }
 
 // A run by the control table.
@@ -197,40 +194,10 @@ pub fn run_by_table(
 ) -> Counted
     ensures { RunsCounted by_the_table state program memory inputs outputs budget log result }
 {
-    let words = control_table();
-    let mut journal = [0u64; 0];
-    let ran = if budget < LONG {
-        let mut counts = [0u32; 0];
-        run(
-            true,
-            &words,
-            state,
-            program,
-            memory,
-            inputs,
-            outputs,
-            budget,
-            log,
-            false,
-            &mut journal,
-            &mut counts,
-        )
-    } else {
-        long(
-            true,
-            &words,
-            state,
-            program,
-            memory,
-            inputs,
-            outputs,
-            budget,
-            log,
-            false,
-            &mut journal,
-        )
+    let table = Table {
+        words: control_table(),
     };
-    run::with_ticks(ran)
+    run(&table, state, program, memory, inputs, outputs, budget, log)
 }
 
 // A run by the rules with a journal.
@@ -246,8 +213,8 @@ pub fn run_by_rules_with_journal(
 ) -> Counted
     ensures { RunsJournaled by_rules state program memory inputs outputs budget log journal result }
 {
-    journaled(
-        false, state, program, memory, inputs, outputs, budget, log, journal,
+    counted(
+        &Rules, state, program, memory, inputs, outputs, budget, log, true, journal,
     )
 }
 
@@ -264,8 +231,11 @@ pub fn run_by_table_with_journal(
 ) -> Counted
     ensures { RunsJournaled by_the_table state program memory inputs outputs budget log journal result }
 {
-    journaled(
-        true, state, program, memory, inputs, outputs, budget, log, journal,
+    let table = Table {
+        words: control_table(),
+    };
+    counted(
+        &table, state, program, memory, inputs, outputs, budget, log, true, journal,
     )
 }
 
@@ -282,11 +252,11 @@ pub fn run_by_control(
 ) -> Ran
     ensures { RunsOnly (by_control words.now) state program memory inputs outputs budget log result }
 {
+    let table = Table { words: *words };
     let mut journal = [0u64; 0];
     let mut counts = [0u32; 0];
-    let ran = run(
-        true,
-        words,
+    let ran = tallied(
+        &table,
         state,
         program,
         memory,
@@ -298,7 +268,8 @@ pub fn run_by_control(
         &mut journal,
         &mut counts,
     );
-    let state = ran.state;
-    let answer = ran.answer;
-    Ran { state, answer }
+    Ran {
+        state: ran.state,
+        answer: ran.answer,
+    }
 }

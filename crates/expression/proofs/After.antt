@@ -1,65 +1,36 @@
 -- What follows a value: an operator, or a closing parenthesis.
 -- Assumes nothing.
-use Rattle.std.proofs.Common.{◌≡◌, ℕ, ◌≤◌, List, [], sym, ap, ◌∙◌, subst, arith, ne_eqb}
+use Rattle.std.proofs.Common.{◌≡◌, ℕ, ◌≤◌, eqb, List, [], sym, ap, ◌∙◌, arith, Some, None}
+use Rattle.word.specs.Word.{pick}
 use Rattle.token.specs.declared.Token.{Token as Found}
-use Rattle.token.specs.declared.Token.TheVariants.{End, Here}
-use Rattle.token.specs.Scan.{part, tokens_at, At, TokenAt}
+use Rattle.token.specs.Scan.{tokens_at, symbol_number, At}
 use Rattle.expression.specs.declared.Value.{Value}
-use Rattle.expression.specs.declared.Answer.{Answer}
-use Rattle.expression.specs.declared.Answer.TheVariants.{Refused, Read}
-use Rattle.expression.specs.declared.Join.TheVariants.{NoJoin}
-use Rattle.expression.specs.Operands.{operated}
-use Rattle.expression.specs.Reading.{operator_by, rank_by, rank, refused, read, bind, mapped, closed, told, head_rank, JoinedBy, Joined}
+use Rattle.expression.specs.declared.arithmetic.Operator.{Operator as Sign}
+use Rattle.expression.specs.Operands.{rank_of}
+use Rattle.expression.specs.Reading.{rank_by, rank, refused, read, closed, head_rank, shown_operator, OperatorOf, operator_of, JoinedBy, Between}
 
-module _ (s : List ℕ) (at : ℕ) (t : Found) (f : TokenAt s at t) where
-  nothing : t ≡ End → tokens_at s at ≡ []
-  nothing e = subst (TokenAt s at) e f
+pub no_token : (s : List ℕ) (at low high : ℕ) → tokens_at s at ≡ [] → 1 ≤ low → Between s at low high None
+unfolding head_rank
+no_token s at low high e h k l m z = let w : 0 ≡ k = sym (ap head_rank e) ∙ z in omega arith
 
-  pub no_operator : t ≡ End → (k : ℕ) → 1 ≤ k → Joined s at k NoJoin
-  unfolding head_rank
-  no_operator e k h z = let w : 0 ≡ k = sym (ap head_rank (nothing e)) ∙ z in omega arith
+module _ (s : List ℕ) (at : ℕ) (t : Found) (f : At s at t) where
+  pub closed_at : (v : Value) → closed v (tokens_at s at) ≡ pick (eqb (symbol_number t.symbol) 41) (read v (tokens_at s t.end)) refused
+  unfolding closed
+  closed_at v = rw (f.split, ← f.number)
 
-  module _ {symbol start end : ℕ} (e : t ≡ Here symbol start end) where
-    there : At s at symbol start end
-    there = subst (TokenAt s at) e f
+  head_at : head_rank (tokens_at s at) ≡ rank_by (symbol_number t.symbol)
+  unfolding head_rank rank
+  head_at = rw (f.split, f.number)
 
-    module _ {k q : ℕ} (p : q ≡ rank_by symbol) where
-      pub operator : q ≡ k → JoinedBy s at k symbol end
-      unfolding rank
-      operator z =
-          record { mark = part start end s; split = there.split; number = there.number; ranks = rw (← there.number, ← p) z }
+  pub no_operator : (low high : ℕ) → rank_by (symbol_number t.symbol) ≡ 0 → 1 ≤ low → Between s at low high None
+  no_operator low high e h k l m z = let w : 0 ≡ k = sym (head_at ∙ e) ∙ z in omega arith
 
-      pub other_operator : (q ≡ k → ⊥) → Joined s at k NoJoin
-      unfolding head_rank rank
-      other_operator n z = n (p ∙ rw there.number (sym (ap head_rank there.split) ∙ z))
+  module _ (o : Sign) (g : OperatorOf t.symbol (Some o)) where
+    pub operator : JoinedBy s at (record { operator = o; end = t.end })
+    unfolding operator_of rank
+    operator = record { mark = t.word.now; split = f.split; same = rw (← f.number) g.0; ranks = rw (← f.number) g.1 }
 
-  -- a value, and then this token
-  module _ {a : Answer} {v : Value} (z : a ≡ Read v at) where
-    pub close_end : t ≡ End → refused ≡ bind (told s a) closed
-    unfolding told bind closed
-    close_end e = rw (z, nothing e)
-
-    module _ {symbol start end : ℕ} (e : t ≡ Here symbol start end) where
-      pub close_yes : symbol ≡ 41 → read v (tokens_at s end) ≡ bind (told s a) closed
-      unfolding told bind closed
-      close_yes w = rw (z, (there e).split, ← (there e).number, w)
-
-      pub close_no : (symbol ≡ 41 → ⊥) → refused ≡ bind (told s a) closed
-      unfolding told bind closed
-      close_no n = rw (z, (there e).split, ← (there e).number, ne_eqb symbol 41 n)
-
-pub close_refused : (s : List ℕ) {a : Answer} → a ≡ Refused → refused ≡ bind (told s a) closed
-unfolding told bind
-close_refused s e = rw e
-
--- the value x, an operator and its right operand
-module _ (symbol : ℕ) (x : Value) {a : Answer} where
-  pub joined_refused : a ≡ Refused → (text : List ℕ) → told text Refused ≡ mapped (operated (operator_by symbol) x) (told text a)
-  unfolding told mapped
-  joined_refused e text = rw e
-
-  pub joined_read :
-      {v w : Value} {next : ℕ} → a ≡ Read v next → w ≡ operated (operator_by symbol) x v
-      → (text : List ℕ) → told text (Read w next) ≡ mapped (operated (operator_by symbol) x) (told text a)
-  unfolding told mapped
-  joined_read e f text = rw (e, f)
+    pub other_rank : (low high : ℕ) → (low ≤ rank_of (shown_operator o) → rank_of (shown_operator o) ≤ high → ⊥) → Between s at low high None
+    other_rank low high n k l m z =
+        let e : rank_of (shown_operator o) ≡ k = sym (head_at ∙ g.1) ∙ z in
+        n (omega arith) (omega arith)

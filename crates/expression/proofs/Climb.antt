@@ -1,20 +1,37 @@
--- `sum`: the operators of several ranks, from the tightest on.
+-- `ranked`: an operand, and operators of several ranks from the tightest on.
 -- Assumes nothing.
-use Rattle.std.proofs.Common.{◌≡◌, ℕ, zero, suc, ◌+◌, ◌-◌, ◌<◌, ◌≤◌, Bool, true, false, eqb, List, sym, refl, ap, ◌∙◌, subst, arith, eqb-true}
+use Rattle.std.proofs.Common.{◌≡◌, ℕ, zero, suc, ◌+◌, ◌-◌, ◌<◌, ◌≤◌, Bool, true, false, eqb, List, length, sym, refl, ap, ◌∙◌, subst, arith, eqb-true, Some, None}
 use borrow.Author.Tests.{eqb-false}
 use Rattle.word.proofs.Tests.{clash}
 use Rattle.token.specs.Tokens.{Token}
 use Rattle.token.specs.Scan.{tokens_at}
 use Rattle.expression.specs.declared.Value.{Value}
-use Rattle.expression.specs.declared.Answer.{Answer}
-use Rattle.expression.specs.declared.Answer.TheVariants.{Refused, Read}
+use Rattle.expression.specs.declared.Parsed.{Parsed}
 use Rattle.expression.specs.declared.Join.{Join}
-use Rattle.expression.specs.declared.Join.TheVariants.{NoJoin, By}
-use Rattle.expression.specs.Operands.{operated}
+use Rattle.expression.specs.Operands.{rank_of, operated}
 use Rattle.expression.specs.Grammar.{Tree, operation, value_of}
-use Rattle.expression.specs.Reading.{operator_by, rank_by, Out, refused, read, bind, mapped, follow, parse, told, head_rank, JoinedBy, Joined}
-use Rattle.expression.proofs.Laws.{follow_stop}
-use Rattle.expression.proofs.Steps.{from_read, from_refused, chain_at, more, map_operation}
+use Rattle.expression.specs.Reading.{rank, shown_operator, Out, refused, read, bind, mapped, follow, chain, ranked, parse, told, head_rank, Between}
+use Rattle.expression.proofs.Laws.{Within, follow_stop, follow_more, within_parse}
+
+-- ---- What a mapped reading comes from
+
+module _ {A B : Type 0} (f : A → B) where
+  pub from_read : (o : Out A) {v : B} {r : List Token} → mapped f o ≡ read v r → (t : A) × (o ≡ read t r) × (f t ≡ v)
+  unfolding mapped
+  from_read refused e = clash (cc)
+  from_read (read t q) e = (t, cc, cc)
+
+  pub from_refused : (o : Out A) → mapped f o ≡ refused → o ≡ refused
+  unfolding mapped
+  from_refused refused e = refl
+  from_refused (read t q) e = clash (cc)
+
+-- ---- Operators of several ranks
+
+chain_at : (d k : ℕ) → 1 ≤ k → (ts : List Token) → parse d k ts ≡ bind (parse d (k - 1) ts) (follow (parse d (k - 1)) k)
+unfolding parse ranked chain
+chain_at d zero n ts = absurd (omega arith)
+chain_at d (suc k) n ts = let e : suc k - 1 ≡ k = omega arith in rw e
 
 -- what the operators of the n ranks from low on make of what was read
 unfoldable pub climb : ℕ → ℕ → ℕ → Out Tree → Out Tree
@@ -57,92 +74,98 @@ climb_skip d low (suc n) t r to m e h f =
         let l : suc low ≤ to = omega (arith, eqb-false low to q) in
         ap (climb d (suc low) n) (follow_stop (parse d (low - 1)) low t r (f low (omega arith) (omega arith))) ∙ g l
 
--- what `operator_at` says
-abbrev pub Between : List ℕ → ℕ → ℕ → ℕ → Join → Type 0
-Between s at low high r =
-    ((k : ℕ) → low ≤ k → k ≤ high → r ≡ NoJoin → Joined s at k NoJoin)
-    × ((symbol end : ℕ) → r ≡ By symbol end → Joined s at (rank_by symbol) (By symbol end) × (low ≤ rank_by symbol) × (rank_by symbol ≤ high))
+-- ---- The loop
 
-pub one_rank : (s : List ℕ) (at k : ℕ) (j : Join) → Between s at k k j → Joined s at k j
-one_rank s at k NoJoin b = b.0 k (omega arith) (omega arith) refl
-one_rank s at k (By symbol end) b =
-    let f = b.1 symbol end refl in
-    let e : rank_by symbol ≡ k = omega (arith, f.1, f.2) in
-    subst (λ (n : ℕ). JoinedBy s at n symbol end) e f.0
-
-pub no_join : {A : Type 0} {symbol end : ℕ} → NoJoin ≡ By symbol end → A
-no_join e = clash (cc)
-
-pub join_is : (P : ℕ → ℕ → Type 0) {a b c d : ℕ} → By a b ≡ By c d → P a b → P c d
-join_is P {a} {b} {c} {d} e p =
-    let x : a ≡ c = cc in
-    let y : b ≡ d = cc in
-    subst (λ (n : ℕ). P n d) x (subst (λ (n : ℕ). P a n) y p)
-
--- with the answer a so far, after which operators of the ranks from low to k may follow
-pub record Climbing (mean : Token → Value) (s : List ℕ) (d k low : ℕ) (ts : List Token) (a : Answer) : Type 0 where
-  pub tree : Out Tree
+-- with what was read so far, after which operators of the ranks from low to k may follow
+pub record Climbing (mean : Token → Value) (s : List ℕ) (d k low : ℕ) (ts : List Token) (a : Parsed) : Type 0 where
+  pub tree : Tree
   pub above : ℕ
+  pub least : 1 ≤ low
   pub ranks : low + above ≡ suc k
-  pub same : parse d k ts ≡ climb d low above tree
-  pub value : told s a ≡ mapped (value_of mean) tree
+  pub same : parse d k ts ≡ climb d low above (read tree (tokens_at s a.next))
+  pub value : value_of mean tree ≡ a.value
 
-pub starts :
-    (mean : Token → Value) (s : List ℕ) (d k : ℕ) → 1 ≤ k → (ts : List Token) {a : Answer}
-    → told s a ≡ mapped (value_of mean) (parse d 1 ts) → Climbing mean s d k 2 ts a
-starts mean s d k n ts e =
-    let q : k ≡ 1 + (k - 1) = omega arith in
-    record {
-      tree = parse d 1 ts;
-      above = k - 1;
-      ranks = omega arith;
-      same = ap (λ (x : ℕ). parse d x ts) q ∙ climb_parse d 1 (k - 1) ts;
-      value = e;
-    }
+module _ (mean : Token → Value) (s : List ℕ) (d k : ℕ) (ts : List Token) where
+  pub starts : {a : Parsed} → told s (Some a) ≡ mapped (value_of mean) (parse d 0 ts) → Climbing mean s d k 1 ts a
+  unfolding told
+  starts {a} e =
+      let (t, p, q) = from_read (value_of mean) (parse d 0 ts) (sym e) in
+      let z : k ≡ 0 + k = omega arith in
+      record {
+        tree = t;
+        above = k;
+        least = omega arith;
+        ranks = omega arith;
+        same = ap (λ (x : ℕ). parse d x ts) z ∙ climb_parse d 0 k ts ∙ ap (climb d 1 k) p;
+        value = q;
+      }
 
-module _ {mean : Token → Value} {s : List ℕ} {d k low : ℕ} {ts : List Token} {a : Answer} (i : Climbing mean s d k low ts a) where
-  pub climb_refuses : a ≡ Refused → refused ≡ mapped (value_of mean) (parse d k ts)
+  -- no operand
+  pub starts_not : told s None ≡ mapped (value_of mean) (parse d 0 ts) → told s None ≡ mapped (value_of mean) (parse d k ts)
   unfolding told mapped
-  climb_refuses e =
-      rw (i.same, from_refused (value_of mean) i.tree (sym i.value ∙ ap (told s) e), climb_refused d low i.above)
+  starts_not e =
+      let z : k ≡ 0 + k = omega arith in
+      let p = from_refused (value_of mean) (parse d 0 ts) (sym e) in
+      let q : parse d k ts ≡ refused = ap (λ (x : ℕ). parse d x ts) z ∙ climb_parse d 0 k ts ∙ ap (climb d 1 k) p ∙ climb_refused d 1 k in
+      rw q
 
-  module _ {v : Value} {here : ℕ} (f : a ≡ Read v here) (j : Join) (h : Between s here low k j) where
-    so_far : (t : Tree) × (i.tree ≡ read t (tokens_at s here)) × (value_of mean t ≡ v)
-    unfolding told
-    so_far = from_read (value_of mean) i.tree (sym i.value ∙ ap (told s) f)
+module _ {mean : Token → Value} {s : List ℕ} {d k low : ℕ} {ts : List Token} {a : Parsed} (i : Climbing mean s d k low ts a) where
+  pub climb_stops : Between s a.next low k None → told s (Some a) ≡ mapped (value_of mean) (parse d k ts)
+  unfolding told climb mapped
+  climb_stops h =
+      let none = climb_skip d low i.above i.tree (tokens_at s a.next) (low + i.above) 0 (omega arith) (omega arith) (λ n l m. h n l (omega (arith, i.ranks))) in
+      rw (i.same, none, i.value)
 
-    pub climb_stops : j ≡ NoJoin → read v (tokens_at s here) ≡ mapped (value_of mean) (parse d k ts)
-    unfolding climb mapped
-    climb_stops e =
-        let (t, p, q) = so_far in
-        let none = climb_skip d low i.above t (tokens_at s here) (low + i.above) 0 (omega arith) (omega arith) (λ n l m. h.0 n l (omega (arith, i.ranks)) e) in
-        rw (i.same, p, none, q)
+  module _ {j : Join} (h : Between s a.next low k (Some j)) {q : ℕ} (z : q ≡ rank_of (shown_operator j.operator)) where
+    head : head_rank (tokens_at s a.next) ≡ q
+    unfolding head_rank
+    head = ap head_rank h.0.split ∙ h.0.ranks ∙ sym z
 
-    module _ {symbol end : ℕ} (e : j ≡ By symbol end) {q : ℕ} (z : q ≡ rank_by symbol) where
-      pub climb_by : JoinedBy s here q symbol end
-      climb_by = subst (λ (n : ℕ). JoinedBy s here n symbol end) (sym z) (h.1 symbol end e).0
+    at_rank : rank h.0.mark ≡ q
+    at_rank = h.0.ranks ∙ sym z
 
-      head : head_rank (tokens_at s here) ≡ q
-      unfolding head_rank
-      head = ap head_rank climb_by.split ∙ climb_by.ranks
+    low_rank : low ≤ q
+    low_rank = omega (arith, h.1)
 
-      pub climbs :
-          (b : Answer) → told s b ≡ mapped (value_of mean) (parse d (q - 1) (tokens_at s end))
-          → (r : Answer) → ((text : List ℕ) → told text r ≡ mapped (operated (operator_by symbol) v) (told text b)) → Climbing mean s d k q ts r
-      unfolding climb
-      climbs b g r m =
-          let (t, p, w) = so_far in
-          let f = h.1 symbol end e in
-          let x : low ≤ q = omega (arith, f.1) in
-          let y : q ≤ k = omega (arith, f.2) in
+    high_rank : q ≤ k
+    high_rank = omega (arith, h.2)
+
+    -- at the rank of the operator
+    here : parse d k ts ≡ climb d (suc q) (k - q) (bind (parse d (q - 1) (tokens_at s j.end))
+        (λ y r. follow (parse d (q - 1)) q (operation (shown_operator j.operator) i.tree y) r))
+    unfolding climb bind
+    here =
+        i.same
+        ∙ climb_skip d low i.above i.tree (tokens_at s a.next) q (suc (k - q)) (omega (arith, i.ranks, low_rank, high_rank)) low_rank (λ n l u o. omega (arith, head))
+        ∙ ap (climb d (suc q) (k - q))
+        (rw h.0.split (follow_more (parse d (q - 1)) q (within_parse d (q - 1)) i.tree h.0.mark (tokens_at s j.end) at_rank ∙ rw h.0.same))
+
+    pub climb_refuses : told s None ≡ mapped (value_of mean) (parse d (q - 1) (tokens_at s j.end)) → told s None ≡ mapped (value_of mean) (parse d k ts)
+    unfolding told bind mapped
+    climb_refuses e = rw (here, from_refused (value_of mean) _ (sym e), climb_refused d (suc q) (k - q))
+
+    module _ (b : Parsed) (e : told s (Some b) ≡ mapped (value_of mean) (parse d (q - 1) (tokens_at s j.end))) where
+      pub climbs : {r : Parsed} → r.value ≡ operated (shown_operator j.operator) a.value b.value → r.next ≡ b.next → Climbing mean s d k q ts r
+      unfolding told climb bind value_of
+      climbs {r} f g =
+          let (y, p, w) = from_read (value_of mean) (parse d (q - 1) (tokens_at s j.end)) (sym e) in
           record {
-            tree = mapped (operation (operator_by symbol) t) (parse d (q - 1) (tokens_at s end));
+            tree = operation (shown_operator j.operator) i.tree y;
             above = suc (k - q);
-            ranks = omega arith;
-            same =
-                i.same
-                ∙ ap (climb d low i.above) p
-                ∙ climb_skip d low i.above t (tokens_at s here) q (suc (k - q)) (omega (arith, i.ranks)) x (λ n l u o. omega (arith, head))
-                ∙ ap (climb d (suc q) (k - q)) (more climb_by d t);
-            value = m s ∙ rw g (map_operation mean (operator_by symbol) t w (parse d (q - 1) (tokens_at s end)));
+            least = omega (arith, i.least, low_rank);
+            ranks = omega (arith, high_rank);
+            same = here ∙ ap (λ o. climb d (suc q) (k - q) (bind o (λ y r. follow (parse d (q - 1)) q (operation (shown_operator j.operator) i.tree y) r))) p ∙ rw g;
+            value = rw (i.value, w, f);
           }
+
+      -- an operator and its right operand take tokens
+      pub less : length (tokens_at s b.next) < length (tokens_at s a.next)
+      unfolding told
+      less =
+          let (y, p, w) = from_read (value_of mean) (parse d (q - 1) (tokens_at s j.end)) (sym e) in
+          let n : length (tokens_at s b.next) ≤ length (tokens_at s j.end) =
+          subst (Within (length (tokens_at s j.end))) p (within_parse d (q - 1) (tokens_at s j.end)) in
+          rw h.0.split (omega arith)
+
+-- the steps of `ranked`
+pub ruleset climb_steps = (starts, starts_not, climbs)

@@ -1,29 +1,28 @@
 -- Literals, a digit at a time.
 -- Assumes nothing.
-use Rattle.std.proofs.Common.{◌≡◌, ℕ, ◌+◌, ◌-◌, ◌*◌, ◌/◌, ◌%◌, ◌<◌, ◌≤◌, Bool, true, false, eqb, ltb, List, [], ◌∷◌, length, get_or, sym, refl, ◌∙◌, add-mul, mul-le-mul_left, mul_right_comm, arith, ltb-true, le-ltb, lt-ltb}
-use mathlib.Core.Bool.{false≢true}
+use Rattle.std.proofs.Common.{◌≡◌, ℕ, ◌+◌, ◌*◌, ◌/◌, ◌%◌, ◌<◌, ◌≤◌, Bool, true, false, ltb, List, [], ◌∷◌, length, get_or, drop, Option, Some, None, sym, refl, ap, ◌∙◌, add-mul, mul_right_comm, add-one, drop-cons, drop_of_length-le, lt-ltb, arith}
+use Rattle.std.specs.Char.{digit_value}
+use Rattle.std.specs.Option.{option_map}
+use Rattle.std.specs.List.{slice_get}
+use Rattle.std.proofs.lemmas.Bool.Decides.{nat_tests}
 use native.Mathlib.Nat.{mod-add-div', add_right_comm, add-mul-mod_self_right}
 use Rattle.word.specs.Word.{pick}
-use Rattle.word.proofs.Tests.{passed}
-use Rattle.token.specs.Tokens.{is_digit}
-use Rattle.token.specs.Scan.{part}
-use Rattle.token.proofs.Scanning.{part_cons, part_length}
+use Rattle.word.proofs.Tests.{clash}
+use Rattle.token.specs.Tokens.{Token, between, is_digit, is_letter}
 use Rattle.expression.specs.declared.Value.{Value}
-use Rattle.expression.specs.declared.literals.Leaf.TheVariants.{NoOperand, Means}
 use Rattle.expression.specs.Operands.{Label, digit_of, all_digits, numeral, hexed, is_literal, literal_word, is_name, name_value, is_operand, operand_value}
-use Rattle.expression.specs.Reading.{reduced, number_leaf, leaf_of}
-use Rattle.expression.proofs.Parts.{part_none, first_byte, part_two, outside}
+use Rattle.expression.specs.Grammar.{operand, value_of}
+use Rattle.expression.specs.Reading.{reduced, number_leaf, literal_leaf, leaf_of, refused, read, mapped, leaf}
 
 -- ---- Digits
 
--- b is none of the digits
-pub no_digit :
-    (b : ℕ) → (48 ≤ b → b ≤ 57 → ⊥) → (65 ≤ b → b ≤ 70 → ⊥) → (97 ≤ b → b ≤ 102 → ⊥) → digit_of b ≡ 16
-unfolding digit_of
-no_digit b decimal upper lower = rw (outside 48 57 b decimal, outside 65 70 b upper, outside 97 102 b lower)
+pub digit_good : (b base : ℕ) → base ≤ 16 → digit_value b < base → digit_of b ≡ digit_value b
+unfolding digit_of between
+digit_good b base h l = grind (arith, nat_tests)
 
-pub small_product : (n base : ℕ) → n < 65536 → base ≤ 16 → n * base ≤ 1048560
-small_product n base h g = let w : n * base ≤ n * 16 = mul-le-mul_left n g in omega arith
+pub digit_bad : (b base : ℕ) → base ≤ 16 → (digit_value b < base → ⊥) → ltb (digit_of b) base ≡ false
+unfolding digit_of between
+digit_bad b base h n = grind (arith, nat_tests)
 
 -- ---- Numbers are reduced at each digit
 
@@ -39,58 +38,97 @@ unfolding reduced numeral
 reduced_is base n [] = refl
 reduced_is base n (b ∷ w) = rw (reduce n base (digit_of b)) (reduced_is base (n * base + digit_of b) w)
 
-module _ (s : List ℕ) (base n i end : ℕ) where
-  -- the digits end
-  pub counted : end ≤ i → number_leaf base n (part i end s) ≡ Means (record { word = n; known = true })
+number_is : (base : ℕ) (w : List ℕ) → number_leaf base 0 w ≡ pick (all_digits base w) (Some (numeral base 0 w % 65536)) None
+unfolding number_leaf
+number_is base w = rw (← reduced_is base 0 w)
+
+literal_is : (w : Token) → literal_leaf w ≡ pick (is_literal w) (Some (literal_word w)) None
+unfolding literal_leaf is_literal literal_word
+literal_is w = rw (number_is 16 (drop 2 w), number_is 10 w) (go (hexed w))
+  where
+    go : (b : Bool)
+        → pick b (pick (all_digits 16 (drop 2 w)) (Some (numeral 16 0 (drop 2 w) % 65536)) None) (pick (all_digits 10 w) (Some (numeral 10 0 w % 65536)) None)
+        ≡ pick (pick b (all_digits 16 (drop 2 w)) (all_digits 10 w)) (Some (pick b (numeral 16 0 (drop 2 w) % 65536) (numeral 10 0 w % 65536))) None
+    go true = refl
+    go false = refl
+
+-- after the first digits, which make n
+module _ (s : List ℕ) (base n i : ℕ) where
+  pub counted : length s ≤ i → number_leaf base n (drop i s) ≡ Some n
   unfolding number_leaf all_digits reduced
-  counted h = rw (part_none s i end h)
+  counted h = rw (drop_of_length-le s h)
 
-  module _ (l : end ≤ length s) (h : i < end) (d : ℕ) (e : d ≡ digit_of (get_or s i 0)) where
-    pub digit_bad : base ≤ d → number_leaf base n (part i end s) ≡ NoOperand
+  module _ (l : i < length s) (h : base ≤ 16) where
+    next : drop i s ≡ get_or s i 0 ∷ drop (i + 1) s
+    next = rw (add-one, drop-cons s i 0)
+
+    pub digit_stop : (digit_value (get_or s i 0) < base → ⊥) → number_leaf base n (drop i s) ≡ None
     unfolding number_leaf all_digits
-    digit_bad b = rw (part_cons s i end h l, ← e, le-ltb d base b)
+    digit_stop b = rw (next, digit_bad (get_or s i 0) base h b)
 
-    pub digit_good :
-        (m : ℕ) → d < base → m ≡ (n * base + d) % 65536
-        → number_leaf base n (part i end s) ≡ number_leaf base m (part (i + 1) end s)
+    pub digit_more :
+        (d m : ℕ) → digit_value (get_or s i 0) < base → d ≡ digit_value (get_or s i 0) → m ≡ (n * base % 65536 + d) % 65536
+        → number_leaf base n (drop i s) ≡ number_leaf base m (drop (i + 1) s)
     unfolding number_leaf all_digits reduced
-    digit_good m b q = rw (part_cons s i end h l, ← e, lt-ltb d base b, q, e)
+    digit_more d m b e q =
+        let g : digit_of (get_or s i 0) ≡ d = digit_good (get_or s i 0) base h b ∙ sym e in
+        let k : (n * base + digit_of (get_or s i 0)) % 65536 ≡ m = omega arith in
+        let j : digit_of (get_or s i 0) < base = omega arith in
+        rw (next, lt-ltb _ _ j)
+        (ap (λ (x : ℕ). pick (all_digits base (drop (i + 1) s)) (Some (reduced base x (drop (i + 1) s))) None) k)
 
 -- ---- Operands
 
-module _ (s : List ℕ) (start end : ℕ) (h : start < end) (l : end ≤ length s) where
-  pub hexed_part :
-      hexed (part start end s)
-      ≡ pick (ltb 2 (end - start)) (pick (eqb (get_or s start 0) 48) (eqb (get_or s (start + 1) 0) 120) false) false
-  unfolding hexed
-  hexed_part = rw (part_length s start end l) (go (ltb 2 (end - start)) refl)
+-- what `first` says
+pub first_byte : (w : Token) {b : ℕ} → Some b ≡ slice_get w 0 → get_or w 0 0 ≡ b
+first_byte [] e = clash (cc)
+first_byte (c ∷ t) e = cc
+
+module _ (names : List Label) (w : Token) where
+  pub leaf_digit : is_digit (get_or w 0 0) ≡ true → leaf_of names w ≡ option_map (λ n. record { word = n; known = true }) (literal_leaf w)
+  unfolding leaf_of is_operand operand_value
+  leaf_digit d = rw (d, literal_is w) (go (is_literal w))
     where
-      go :
-          (b : Bool) → ltb 2 (end - start) ≡ b
-          → pick b (pick (eqb (get_or (part start end s) 0 0) 48) (eqb (get_or (part start end s) 1 0) 120) false) false
-          ≡ pick b (pick (eqb (get_or s start 0) 48) (eqb (get_or s (start + 1) 0) 120) false) false
-      go true e = rw (part_two s start end l (omega (arith, ltb-true)))
-      go false e = refl
+      go : (b : Bool)
+          → ◌≡◌ {A = Option Value} (pick b (Some (record { word = literal_word w; known = true })) None)
+          (option_map (λ n. record { word = n; known = true }) (pick b (Some (literal_word w)) None))
+      go true = refl
+      go false = refl
 
-  pub hex_long : hexed (part start end s) ≡ true → start + 2 < end
-  hex_long e = omega (arith, ltb-true 2 (end - start) (passed (ltb 2 (end - start)) false≢true (sym hexed_part ∙ e)).0)
+  pub leaf_other : is_digit (get_or w 0 0) ≡ false → leaf_of names w ≡ pick (is_name w) (Some (name_value names w)) None
+  unfolding leaf_of is_operand operand_value
+  leaf_other d = rw d
 
-  module _ (names : List Label) where
-    pub leaf_hex : is_digit (get_or s start 0) ≡ true → hexed (part start end s) ≡ true → number_leaf 16 0 (part (start + 2) end s) ≡ leaf_of names (part start end s)
-    unfolding leaf_of is_operand is_literal operand_value literal_word number_leaf
-    leaf_hex d x =
-        rw (first_byte s start end l h, d, x, ← reduced_is 16 0, part_two s start end l (omega (arith, hex_long x)))
+  pub leaf_empty : None ≡ slice_get w 0 → None ≡ leaf_of names w
+  unfolding leaf_of is_operand is_name is_digit is_letter between
+  leaf_empty e = go w e
+    where
+      go : (w : Token) → None ≡ slice_get w 0 → None ≡ leaf_of names w
+      go [] e = refl
+      go (b ∷ t) e = clash (cc)
 
-    pub leaf_decimal : is_digit (get_or s start 0) ≡ true → hexed (part start end s) ≡ false → number_leaf 10 0 (part start end s) ≡ leaf_of names (part start end s)
-    unfolding leaf_of is_operand is_literal operand_value literal_word number_leaf
-    leaf_decimal d x = rw (first_byte s start end l h, d, x, ← reduced_is 10 0)
+  module _ (r : List Token) where
+    pub leaf_none : None ≡ leaf_of names w → mapped (value_of (operand_value names)) (leaf w r) ≡ refused
+    unfolding leaf_of leaf mapped
+    leaf_none e = go (is_operand w) e
+      where
+        go : (b : Bool) → ◌≡◌ {A = Option Value} None (pick b (Some (operand_value names w)) None)
+            → mapped (value_of (operand_value names)) (pick b (read (operand w) r) refused) ≡ refused
+        go true g = clash (cc)
+        go false g = refl
 
-    pub leaf_named :
-        is_digit (get_or s start 0) ≡ false → is_name (part start end s) ≡ true → {v : Value} → v ≡ name_value names (part start end s)
-        → Means v ≡ leaf_of names (part start end s)
-    unfolding leaf_of is_operand operand_value
-    leaf_named d n p = rw (first_byte s start end l h, d, n, p)
+    pub leaf_some : {v : Value} → Some v ≡ leaf_of names w → mapped (value_of (operand_value names)) (leaf w r) ≡ read v r
+    unfolding leaf_of leaf mapped value_of
+    leaf_some {v} e = go (is_operand w) e
+      where
+        go : (b : Bool) → ◌≡◌ {A = Option Value} (Some v) (pick b (Some (operand_value names w)) None)
+            → mapped (value_of (operand_value names)) (pick b (read (operand w) r) refused) ≡ read v r
+        go true g = cc
+        go false g = clash (cc)
 
-    pub leaf_none : is_digit (get_or s start 0) ≡ false → is_name (part start end s) ≡ false → NoOperand ≡ leaf_of names (part start end s)
-    unfolding leaf_of is_operand
-    leaf_none d n = rw (first_byte s start end l h, d, n)
+-- the steps of `number`, of `leaf_of` and of `leaf`
+pub ruleset digit_steps = (counted, digit_stop, digit_more)
+
+pub ruleset first_bytes = (first_byte, leaf_digit, leaf_other, leaf_empty)
+
+pub ruleset leaves = (leaf_none, leaf_some)

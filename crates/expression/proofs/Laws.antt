@@ -4,11 +4,9 @@ use Rattle.std.proofs.Common.{◌≡◌, ℕ, zero, suc, ◌≤◌, eqb, List, [
 use Rattle.word.proofs.Tests.{either}
 use Rattle.token.specs.Tokens.{Token}
 use Rattle.token.specs.Scan.{symbol_of}
-use Rattle.expression.specs.declared.prefix.Start.{Start}
-use Rattle.expression.specs.declared.prefix.Start.TheVariants.{Nothing, Bracket, Operand}
 use Rattle.expression.specs.Operands.{is_operand}
 use Rattle.expression.specs.Grammar.{Tree, negation, operation}
-use Rattle.expression.specs.Reading.{operator_of, rank, Out, refused, read, bind, mapped, closed, opening, start_of, leaf, prefixed, rest, follow, chain, ranked, inside, parse, head_rank}
+use Rattle.expression.specs.Reading.{operator_of, rank, Out, refused, read, bind, mapped, closed, leaf, prefixed, rest, follow, chain, ranked, inside, parse, head_rank}
 
 -- ---- What is left
 
@@ -42,12 +40,6 @@ unfolding bind
 bind_ext refused n w f g h = refl
 bind_ext (read t r) n w f g h = h t r w
 
-within_opening : (s : Start) (x y : Out Tree) (n : ℕ) → Within n x → Within n y → Within n (opening s x y)
-unfolding opening
-within_opening Nothing x y n a b = tt
-within_opening Bracket x y n a b = a
-within_opening Operand x y n a b = b
-
 within_closed : (v : Tree) (r : List Token) → Within (length r) (closed v r)
 unfolding closed
 within_closed v [] = tt
@@ -64,7 +56,7 @@ within_prefixed inner h (t ∷ r) =
     within_more (prefixed inner (t ∷ r)) {n = length r} (omega arith)
     (either (Within (length r)) (eqb (symbol_of t) 45)
     (within_mapped negation (prefixed inner r) (length r) (within_prefixed inner h r))
-    (within_opening (start_of (symbol_of t)) _ _ (length r)
+    (either (Within (length r)) (eqb (symbol_of t) 40)
     (within_bind (inner r) (length r) (h r) closed within_closed)
     (within_leaf t r)))
 

@@ -1,20 +1,14 @@
 -- Minus signs before an operand.
 -- Assumes nothing.
-use Rattle.std.proofs.Common.{◌≡◌, ℕ, zero, suc, ◌<◌, ◌≤◌, eqb, List, [], length, sym, refl, ◌∙◌, subst, arith, ne_eqb}
+use Rattle.std.proofs.Common.{◌≡◌, ℕ, zero, suc, ◌<◌, Bool, true, false, not, eqb, List, [], length, sym, refl, ap, ◌∙◌, arith, Some, None}
 use Rattle.word.specs.Word.{pick, subtract}
-use Rattle.word.proofs.Tests.{clash, either}
 use Rattle.token.specs.declared.Token.{Token as Found}
-use Rattle.token.specs.declared.Token.TheVariants.{End, Here}
 use Rattle.token.specs.Tokens.{Token}
-use Rattle.token.specs.Scan.{part, tokens_at, At, TokenAt}
+use Rattle.token.specs.Scan.{tokens_at, symbol_number, At}
 use Rattle.expression.specs.declared.Value.{Value}
-use Rattle.expression.specs.declared.Answer.{Answer}
-use Rattle.expression.specs.declared.Answer.TheVariants.{Refused, Read}
-use Rattle.expression.specs.declared.prefix.Start.{Start}
-use Rattle.expression.specs.declared.prefix.Start.TheVariants.{Nothing}
 use Rattle.expression.specs.Operands.{negated}
 use Rattle.expression.specs.Grammar.{Tree, negation, value_of}
-use Rattle.expression.specs.Reading.{Out, refused, read, bind, mapped, closed, opening, start_of, leaf, prefixed, told, negated_by, one_more_of, Led, NegatedBy}
+use Rattle.expression.specs.Reading.{Out, refused, read, bind, mapped, closed, leaf, prefixed, negated_by, odd, Led}
 
 -- ---- So many minus signs
 
@@ -25,96 +19,86 @@ negated_twice : (v : Value) → v.word < 65536 → negated (negated v) ≡ v
 unfolding negated
 negated_twice v h = rw (back v.word h)
 
-negated_thrice : (o : Out Value) → mapped negated o ≡ mapped negated (mapped negated (mapped negated o))
-unfolding mapped negated
-negated_thrice refused = refl
-negated_thrice (read v r) = rw (back (subtract 0 v.word) (omega arith))
+-- two of them cancel
+signed_by : (v : Value) → v.word < 65536 → (n : ℕ) (ts : List Token) → negated_by n (read v ts) ≡ read (pick (odd n) (negated v) v) ts
+unfolding negated_by odd mapped
+signed_by v h zero ts = refl
+signed_by v h (suc n) ts = rw (signed_by v h n ts) (go (odd n))
+  where
+    go : (b : Bool) → read (negated (pick b (negated v) v)) ts ≡ read (pick (not b) (negated v) v) ts
+    go true = rw (negated_twice v h)
+    go false = refl
 
-one_more : (n : ℕ) → n ≤ 2 → (o : Out Value) → negated_by (one_more_of n) o ≡ negated_by n (mapped negated o)
-unfolding negated_by one_more_of
-one_more zero h o = refl
-one_more (suc zero) h o = refl
-one_more (suc (suc zero)) h o = negated_thrice o
-one_more (suc (suc (suc n))) h o = absurd (omega arith)
+module _ (v : Value) (h : v.word < 65536) (n : ℕ) where
+  pub signed_odd : true ≡ odd n → {w : Value} → w ≡ negated v → (ts : List Token) → read w ts ≡ negated_by n (read v ts)
+  signed_odd e f ts = sym (signed_by v h n ts ∙ rw (← e, f))
 
-one_more_few : (n : ℕ) → one_more_of n ≤ 2
-unfolding one_more_of
-one_more_few n = either (λ (k : ℕ). k ≤ 2) (eqb n 1) (omega arith) (omega arith)
+  pub signed_even : false ≡ odd n → (ts : List Token) → read v ts ≡ negated_by n (read v ts)
+  signed_even e ts = sym (signed_by v h n ts ∙ rw (← e))
 
 pub negated_refused : (n : ℕ) → negated_by n refused ≡ refused
 unfolding negated_by mapped
 negated_refused zero = refl
 negated_refused (suc n) = rw (negated_refused n)
 
-module _ (n : ℕ) {a : Answer} where
-  pub signed_refused : a ≡ Refused → NegatedBy n a Refused
-  unfolding told
-  signed_refused e text = rw (e, negated_refused n)
-
-  module _ {v : Value} {next : ℕ} (e : a ≡ Read v next) where
-    pub signed_once : n ≡ 1 → {w : Value} → w ≡ negated v → NegatedBy n a (Read w next)
-    unfolding told negated_by mapped
-    signed_once f g text = rw (e, f, g)
-
-    pub signed_even : n ≤ 2 → (n ≡ 1 → ⊥) → v.word < 65536 → NegatedBy n a (Read v next)
-    unfolding told negated_by mapped
-    signed_even h f w text = rw e (sym (even n h f))
-      where
-        even : (k : ℕ) → k ≤ 2 → (k ≡ 1 → ⊥) → negated_by k (read v (tokens_at text next)) ≡ read v (tokens_at text next)
-        even zero h f = refl
-        even (suc zero) h f = absurd (f refl)
-        even (suc (suc zero)) h f = rw (negated_twice v w)
-        even (suc (suc (suc k))) h f = absurd (omega arith)
+one_more : (n : ℕ) (o : Out Value) → negated_by n (mapped negated o) ≡ negated_by (suc n) o
+unfolding negated_by
+one_more zero o = refl
+one_more (suc n) o = ap (mapped negated) (one_more n o)
 
 -- ---- What stands before an operand
 
--- n minus signs, as `one_more_of` counts them, stand before what begins at `here`
-pub record Leading (s : List ℕ) (at n here : ℕ) : Type 0 where
-  pub few : n ≤ 2
+-- minus signs, an odd number of them if `negative`, stand before the token t
+pub record Leading (s : List ℕ) (at : ℕ) (negative : Bool) (t : Found) : Type 0 where
+  pub signs : ℕ
+  pub parity : negative ≡ odd signs
+  pub here : ℕ
+  pub found : At s here t
   pub same : (mean : Token → Value) (inner : List Token → Out Tree)
-      → mapped (value_of mean) (prefixed inner (tokens_at s at)) ≡ negated_by n (mapped (value_of mean) (prefixed inner (tokens_at s here)))
+      → mapped (value_of mean) (prefixed inner (tokens_at s at)) ≡ negated_by signs (mapped (value_of mean) (prefixed inner (tokens_at s here)))
 
-pub leading : {s : List ℕ} {at : ℕ} → Leading s at 0 at
-unfolding negated_by
-leading = record { few = omega arith; same = λ mean inner. refl }
+pub leading : {s : List ℕ} {at : ℕ} {t : Found} → At s at t → Leading s at false t
+unfolding negated_by odd
+leading {at = at} f = record { signs = 0; parity = refl; here = at; found = f; same = λ mean inner. refl }
+
+pub lead_none : (s : List ℕ) (at : ℕ) → tokens_at s at ≡ [] → Led s at None
+unfolding prefixed mapped
+lead_none s at e mean inner = rw e
 
 map_negation : (mean : Token → Value) (o : Out Tree) → mapped (value_of mean) (mapped negation o) ≡ mapped negated (mapped (value_of mean) o)
 unfolding mapped value_of
 map_negation mean refused = refl
 map_negation mean (read t r) = refl
 
-module _ {s : List ℕ} {at n here : ℕ} (l : Leading s at n here) (t : Found) (f : TokenAt s here t) where
-  pub lead_end : t ≡ End → Led s at (record { minus = n; begin = Nothing; start = 0; end = 0 })
-  unfolding prefixed opening
-  lead_end e =
-      let g : tokens_at s here ≡ [] = subst (TokenAt s here) e f in
-      record { same = λ mean inner. l.same mean inner ∙ rw g; few = l.few; bounds = λ z. clash (cc) }
+module _ {s : List ℕ} {at : ℕ} {negative : Bool} {t : Found} (l : Leading s at negative t) where
+  -- the value by what begins with t
+  split : (mean : Token → Value) (inner : List Token → Out Tree)
+      → mapped (value_of mean) (prefixed inner (tokens_at s at))
+      ≡ negated_by l.signs (mapped (value_of mean) (pick (eqb (symbol_number t.symbol) 45) (mapped negation (prefixed inner (tokens_at s t.end)))
+      (pick (eqb (symbol_number t.symbol) 40) (bind (inner (tokens_at s t.end)) closed) (leaf t.word.now (tokens_at s t.end)))))
+  unfolding prefixed
+  split mean inner = l.same mean inner ∙ rw (l.found.split, l.found.number)
 
-  module _ {symbol start end : ℕ} (e : t ≡ Here symbol start end) where
-    found : At s here symbol start end
-    found = subst (TokenAt s here) e f
+  pub lead_other : eqb (symbol_number t.symbol) 45 ≡ false → Led s at (Some (record { negative = negative; first = t }))
+  lead_other n = record { signs = l.signs; parity = l.parity; same = λ mean inner. split mean inner ∙ rw n }
 
-    split : (inner : List Token → Out Tree)
-        → prefixed inner (tokens_at s here)
-        ≡ pick (eqb symbol 45) (mapped negation (prefixed inner (tokens_at s end)))
-        (opening (start_of symbol) (bind (inner (tokens_at s end)) closed) (leaf (part start end s) (tokens_at s end)))
-    unfolding prefixed
-    split inner = rw (found.split, found.number)
+  module _ (m : eqb (symbol_number t.symbol) 45 ≡ true) where
+    minus : (mean : Token → Value) (inner : List Token → Out Tree)
+        → mapped (value_of mean) (prefixed inner (tokens_at s at)) ≡ negated_by (suc l.signs) (mapped (value_of mean) (prefixed inner (tokens_at s t.end)))
+    minus mean inner = split mean inner ∙ rw (m, map_negation mean (prefixed inner (tokens_at s t.end)), one_more l.signs)
 
-    pub lead_other : (symbol ≡ 45 → ⊥) → {b : Start} → b ≡ start_of symbol → Led s at (record { minus = n; begin = b; start = start; end = end })
-    lead_other m p =
-        record {
-          same = λ mean inner. l.same mean inner ∙ rw (split inner, ne_eqb symbol 45 m, p);
-          few = l.few;
-          bounds = λ z. (found.order, found.inside);
-        }
+    pub lead_end : tokens_at s t.end ≡ [] → Led s at None
+    unfolding prefixed mapped
+    lead_end e mean inner = minus mean inner ∙ rw e (negated_refused (suc l.signs))
 
-    pub lead_minus : symbol ≡ 45 → {k : ℕ} → k ≡ one_more_of n → Leading s at k end
-    lead_minus m p =
-        record {
-          few = rw p (one_more_few n);
-          same = λ mean inner. l.same mean inner ∙ rw (split inner, m, map_negation mean (prefixed inner (tokens_at s end)), p, one_more n l.few);
-        }
+    pub lead_minus : {u : Found} → At s t.end u → {b : Bool} → b ≡ not negative → Leading s at b u
+    unfolding odd
+    lead_minus f e = record { signs = suc l.signs; parity = e ∙ rw l.parity; here = t.end; found = f; same = minus }
 
-    pub lead_less : length (tokens_at s end) < length (tokens_at s here)
-    lead_less = rw found.split (omega arith)
+  pub lead_less : {u : Found} → At s t.end u → length (tokens_at s u.end) < length (tokens_at s t.end)
+  lead_less f = rw f.split (omega arith)
+
+-- the steps of `signed` and of `lead_at`
+pub ruleset signs = (signed_odd, signed_even)
+
+pub ruleset lead_steps = (leading, lead_none, lead_other, lead_minus, lead_less)

@@ -1,11 +1,10 @@
 pub mod Operators
-pub mod Parts
 pub mod Digits
 pub mod Labels
 pub mod Leads
 pub mod After
 pub mod Laws
-pub mod Steps
 pub mod Climb
+pub mod Begun
 pub mod Unique
 pub mod Sound

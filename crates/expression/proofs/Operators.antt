@@ -1,34 +1,12 @@
--- The operators: their symbols, and products that fit.
+-- The operators and their symbols.
 -- Assumes nothing.
-use Rattle.std.proofs.Common.{◌≡◌, ℕ, suc, ◌+◌, ◌*◌, ◌^◌, ◌<◌, Bool, true, false, eqb, [], ◌∷◌, sym, refl, ◌∙◌, lt_of_le_of_lt, le_of_lt, mul-le-mul_left, mul-lt-mul_of_pos_right, arith, pow_pos, pow-add, ne_eqb, eqb-true}
-use mathlib.Core.Path.{subst⁻¹}
+use Rattle.std.proofs.Common.{◌≡◌, ℕ, suc, ◌<◌, Bool, true, false, eqb, [], ◌∷◌, sym, refl, arith, eqb-true}
 use Rattle.word.specs.Word.{pick}
 use Rattle.token.specs.Tokens.{Token}
 use Rattle.token.specs.Scan.{symbol_of}
 use Rattle.token.proofs.Symbols.{one_byte, shift_symbol}
 use Rattle.expression.specs.Operands.{Operator, times, plus, minus, shift, and, or, operator_text, rank_of}
 use Rattle.expression.specs.Reading.{operator_by, rank_by, operator_of, rank}
-
--- ---- Operators and the symbols of their tokens
-
--- s is none of the first five symbols, as a `match` tells it to a later arm
-abbrev pub NoneOfFive : ℕ → Type 0
-NoneOfFive s = ((((Unit {0} × (s ≡ 42 → ⊥)) × (s ≡ 43 → ⊥)) × (s ≡ 45 → ⊥)) × (s ≡ 256 → ⊥)) × (s ≡ 38 → ⊥)
-
--- a choice by them, in their order, comes to what stands last
-past_five :
-    {A : Type 0} {s : ℕ} (a b c d e last : A) → NoneOfFive s
-    → pick (eqb s 42) a (pick (eqb s 43) b (pick (eqb s 45) c (pick (eqb s 256) d (pick (eqb s 38) e last)))) ≡ last
-past_five a b c d e last n =
-    rw (ne_eqb _ _ n.0.0.0.0.1, ne_eqb _ _ n.0.0.0.1, ne_eqb _ _ n.0.0.1, ne_eqb _ _ n.0.1, ne_eqb _ _ n.1)
-
-pub last_operator : {s : ℕ} → NoneOfFive s → operator_by s ≡ or
-unfolding operator_by
-last_operator n = past_five _ _ _ _ _ _ n
-
-pub no_rank : {s : ℕ} → NoneOfFive s × (s ≡ 124 → ⊥) → rank_by s ≡ 0
-unfolding rank_by
-no_rank n = past_five _ _ _ _ _ _ n.0 ∙ rw (ne_eqb _ _ n.1)
 
 -- an operator's text stands for it, and has its rank
 pub text_operator : (o : Operator) → operator_of (operator_text o) ≡ o
@@ -73,11 +51,3 @@ of_rank t {k} e =
     go false false false false true f p q r u v w z = (one 38 (omega arith) (v refl), z)
     go false false false false false true p q r u v w z = (one 124 (omega arith) (w refl), z)
     go false false false false false false p q r u v w z = absurd (omega arith)
-
--- ---- Products
-
--- the product of two numbers of k bits has at most k + k
-pub below : (k : ℕ) {a b : ℕ} → a < 2 ^ k → b < 2 ^ k → a * b < 2 ^ (k + k)
-below k {a} {b} ha hb =
-    subst⁻¹ (λ (n : ℕ). a * b < n) (pow-add 2 k k)
-    (lt_of_le_of_lt (mul-le-mul_left a (le_of_lt hb)) (mul-lt-mul_of_pos_right ha (pow_pos k)))

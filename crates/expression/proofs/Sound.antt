@@ -6,10 +6,9 @@ use Rattle.word.proofs.Tests.{clash}
 use Rattle.token.specs.Tokens.{Token}
 use Rattle.token.specs.Scan.{symbol_of}
 use Rattle.token.proofs.Symbols.{one_byte}
-use Rattle.expression.specs.declared.prefix.Start.TheVariants.{Bracket, Operand}
 use Rattle.expression.specs.Operands.{is_operand}
 use Rattle.expression.specs.Grammar.{Tree, operand, negation, operation, Expression, single, unary_minus, bracketed, tighter, joined}
-use Rattle.expression.specs.Reading.{operator_of, rank, Out, refused, read, bind, mapped, closed, opening, start_of, leaf, prefixed, rest, follow, chain, ranked, inside, parse}
+use Rattle.expression.specs.Reading.{operator_of, rank, Out, refused, read, bind, mapped, closed, leaf, prefixed, rest, follow, chain, ranked, inside, parse}
 use Rattle.expression.proofs.Operators.{of_rank}
 use Rattle.expression.proofs.Unique.{Stops, whole}
 
@@ -52,12 +51,12 @@ module _ (d : ℕ) (r : List Token) where
   sound_leaf w false e = tt
 
 sound_prefixed : (d : ℕ) (inner : List Token → Out Tree) → ((ts : List Token) → Enclosed d ts (inner ts)) → (ts : List Token) → Sound d 0 ts (prefixed inner ts)
-unfolding prefixed opening start_of leaf
+unfolding prefixed leaf
 sound_prefixed d inner h [] = tt
 sound_prefixed d inner h (t ∷ r) = go (eqb (symbol_of t) 45) refl (eqb (symbol_of t) 40) refl (sound_prefixed d inner h r)
   where
     go : (x : Bool) → eqb (symbol_of t) 45 ≡ x → (y : Bool) → eqb (symbol_of t) 40 ≡ y → Sound d 0 r (prefixed inner r)
-        → Sound d 0 (t ∷ r) (pick x (mapped negation (prefixed inner r)) (opening (pick y Bracket Operand) (bind (inner r) closed) (leaf t r)))
+        → Sound d 0 (t ∷ r) (pick x (mapped negation (prefixed inner r)) (pick y (bind (inner r) closed) (leaf t r)))
     go true e y f i = rw (one_byte t 45 (omega arith) (eqb-true _ _ e)) (sound_minus d r (prefixed inner r) i)
     go false e true f i = rw (one_byte t 40 (omega arith) (eqb-true _ _ f)) (sound_bracket d r (inner r) (h r))
     go false e false f i = sound_leaf d r t (is_operand t) refl

@@ -7,7 +7,7 @@ use Rattle.token.specs.Scan.{symbol_of}
 use Rattle.token.proofs.Symbols.{one_byte}
 use Rattle.expression.specs.Operands.{is_name, is_operand, Operator, operator_text, rank_of}
 use Rattle.expression.specs.Grammar.{Tree, negation, operation, Expression, single, unary_minus, bracketed, tighter, joined}
-use Rattle.expression.specs.Reading.{rank_by, rank, Out, read, bind, mapped, closed, opening, start_of, leaf, prefixed, follow, chain, ranked, inside, parse, head_rank}
+use Rattle.expression.specs.Reading.{rank_by, rank, Out, read, bind, mapped, closed, leaf, prefixed, follow, chain, ranked, inside, parse, head_rank}
 use Rattle.expression.proofs.Operators.{text_operator, text_rank}
 use Rattle.expression.proofs.Laws.{follow_stop, follow_more, within_parse}
 
@@ -50,7 +50,7 @@ unfolding head_rank
 next_stops o r e = inr (omega (arith, text_rank o, e))
 
 complete : {d k : ℕ} {ts : List Token} {t : Tree} → Expression d k ts t → (r : List Token) → Stops k r → parse d k (ts ++ r) ≡ goes_on_at d k t r
-unfolding parse ranked prefixed opening start_of leaf bind closed mapped inside head_rank rank rank_by symbol_of
+unfolding parse ranked prefixed leaf bind closed mapped inside head_rank rank rank_by symbol_of
 complete (single {w = w} e) r s = let (m, b) = operand_starts w e in rw (m, b, e)
 complete (unary_minus h) r s = ap (mapped negation) (complete h r (inr (omega arith)))
 complete (bracketed {d = d} {ts = ts} {t = t} h) r s =

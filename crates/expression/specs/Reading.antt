@@ -1,21 +1,19 @@
 -- The reading of an expression as a function on tokens, and what the code's parts say of it. Nothing here is promised to a
 -- caller: proofs/Unique.antt and proofs/Sound.antt show that `parse` finds the readings of the grammar and no other.
-use Rattle.std.specs.Prelude.{◌≡◌, ℕ, zero, suc, ◌+◌, ◌*◌, ◌%◌, ◌<◌, ◌≤◌, true, List, [], ◌∷◌, length, ◌==◌, nat_eq}
+use Rattle.std.specs.Prelude.{◌≡◌, ℕ, zero, suc, ◌+◌, ◌*◌, ◌%◌, ◌≤◌, Bool, false, not, List, [], ◌∷◌, length, drop, ◌==◌, Option, Some, None}
 use Rattle.word.specs.Word.{pick}
+use Rattle.token.specs.declared.Symbol.{Symbol}
 use Rattle.token.specs.Ascii.{byte}
 use Rattle.token.specs.Tokens.{Token}
-use Rattle.token.specs.Scan.{part, tokens_at, symbol_of}
+use Rattle.token.specs.Scan.{tokens_at, symbol_of, symbol_number}
+use Rattle.expression.specs.declared.Label.{Label as Held}
 use Rattle.expression.specs.declared.Value.{Value}
-use Rattle.expression.specs.declared.literals.Leaf.{Leaf}
-use Rattle.expression.specs.declared.literals.Leaf.TheVariants.{NoOperand, Means}
-use Rattle.expression.specs.declared.Answer.{Answer}
-use Rattle.expression.specs.declared.Answer.TheVariants.{Refused, Read}
-use Rattle.expression.specs.declared.prefix.Start.{Start}
-use Rattle.expression.specs.declared.prefix.Start.TheVariants.{Nothing, Bracket, Operand}
-use Rattle.expression.specs.declared.prefix.Lead.{Lead}
+use Rattle.expression.specs.declared.Parsed.{Parsed}
 use Rattle.expression.specs.declared.Join.{Join}
-use Rattle.expression.specs.declared.Join.TheVariants.{NoJoin, By}
-use Rattle.expression.specs.Operands.{Label, all_digits, digit_of, is_operand, operand_value, Operator, times, plus, minus, shift, and, or, negated}
+use Rattle.expression.specs.declared.prefix.Lead.{Lead}
+use Rattle.expression.specs.declared.arithmetic.Operator.{Operator as Sign}
+use Rattle.expression.specs.declared.arithmetic.Operator.TheVariants.{Times, Plus, Minus, Shift, And, Or}
+use Rattle.expression.specs.Operands.{Label, all_digits, digit_of, hexed, is_operand, operand_value, Operator, times, plus, minus, shift, and, or, rank_of, negated}
 use Rattle.expression.specs.Grammar.{Tree, operand, negation, operation, value_of}
 
 -- ---- Operands
@@ -26,18 +24,20 @@ reduced base n [] = n
 reduced base n (b ∷ w) = reduced base ((n * base + digit_of b) % 65536) w
 
 -- what `number` says of the digits w after those of n
-unfoldable pub number_leaf : ℕ → ℕ → List ℕ → Leaf
-number_leaf base n w = pick (all_digits base w) (Means (record { word = reduced base n w; known = true })) NoOperand
+unfoldable pub number_leaf : ℕ → ℕ → List ℕ → Option ℕ
+number_leaf base n w = pick (all_digits base w) (Some (reduced base n w)) None
 
-unfoldable pub leaf_of : List Label → Token → Leaf
-leaf_of names w = pick (is_operand w) (Means (operand_value names w)) NoOperand
+-- what `literal` says
+unfoldable pub literal_leaf : Token → Option ℕ
+literal_leaf w = pick (hexed w) (number_leaf 16 0 (drop 2 w)) (number_leaf 10 0 w)
 
--- the labels that a table holds, three numbers each: where the name begins and ends in the text, and its address
-unfoldable pub labels : List ℕ → List ℕ → List Label
-labels text [] = []
-labels text (s ∷ []) = []
-labels text (s ∷ e ∷ []) = []
-labels text (s ∷ e ∷ a ∷ r) = record { name = part s e text; address = a } ∷ labels text r
+unfoldable pub leaf_of : List Label → Token → Option Value
+leaf_of names w = pick (is_operand w) (Some (operand_value names w)) None
+
+-- the labels that the code holds
+unfoldable pub labels : List Held → List Label
+labels [] = []
+labels (l ∷ ls) = record { name = l.name.now; address = l.address } ∷ labels ls
 
 -- ---- Operators, by the symbols of their tokens
 
@@ -59,6 +59,20 @@ rank_by s =
     (pick (s == 256) 3
     (pick (s == (byte "&")) 4
     (pick (s == (byte "|")) 5 0)))))
+
+-- the operator that the code holds
+abbrev pub shown_operator : Sign → Operator
+shown_operator Times = times
+shown_operator Plus = plus
+shown_operator Minus = minus
+shown_operator Shift = shift
+shown_operator And = and
+shown_operator Or = or
+
+-- what `Operator::of` says
+abbrev pub OperatorOf : Symbol → Option Sign → Type 0
+OperatorOf s None = rank_by (symbol_number s) ≡ 0
+OperatorOf s (Some o) = (operator_by (symbol_number s) ≡ shown_operator o) × (rank_by (symbol_number s) ≡ rank_of (shown_operator o))
 
 unfoldable pub operator_of : Token → Operator
 operator_of t = operator_by (symbol_of t)
@@ -87,15 +101,6 @@ module _ {A : Type 0} where
   closed v [] = refused
   closed v (t ∷ r) = pick (symbol_of t == byte ")") (read v r) refused
 
-  unfoldable pub opening : Start → Out A → Out A → Out A
-  opening Nothing x y = refused
-  opening Bracket x y = x
-  opening Operand x y = y
-
--- what a token begins where an operand is wanted, and that is no minus sign
-unfoldable pub start_of : ℕ → Start
-start_of s = pick (nat_eq s (byte "(")) Bracket Operand
-
 unfoldable pub leaf : Token → List Token → Out Tree
 leaf t r = pick (is_operand t) (read (operand t) r) refused
 
@@ -103,7 +108,7 @@ leaf t r = pick (is_operand t) (read (operand t) r) refused
 unfoldable pub prefixed : (List Token → Out Tree) → List Token → Out Tree
 prefixed inner [] = refused
 prefixed inner (t ∷ r) =
-    pick (symbol_of t == (byte "-")) (mapped negation (prefixed inner r)) (opening (start_of (symbol_of t)) (bind (inner r) closed) (leaf t r))
+    pick (symbol_of t == byte "-") (mapped negation (prefixed inner r)) (pick (symbol_of t == byte "(") (bind (inner r) closed) (leaf t r))
 
 -- the operators of rank k that follow x, left to right; `next` reads an operand of them
 unfoldable pub rest : (List Token → Out Tree) → ℕ → ℕ → Tree → List Token → Out Tree
@@ -131,49 +136,54 @@ inside (suc d) = ranked (inside d) 5
 unfoldable pub parse : ℕ → ℕ → List Token → Out Tree
 parse d k = ranked (inside d) k
 
--- what an answer says, for a text
-unfoldable pub told : List ℕ → Answer → Out Value
-told text Refused = refused
-told text (Read v next) = read v (tokens_at text next)
+-- what the code has read of a text
+unfoldable pub told : List ℕ → Option Parsed → Out Value
+told text None = refused
+told text (Some p) = read p.value (tokens_at text p.next)
 
--- the promise of `operand`, `product`, `sum` and `value_at`: of a text, a table of names, a position, depth and rank
-abbrev pub Answers : List ℕ → List ℕ → ℕ → ℕ → ℕ → Answer → Type 0
-Answers text table at d k r = told text r ≡ mapped (value_of (operand_value (labels text table))) (parse d k (tokens_at text at))
-
--- so many minus signs before what was read
-unfoldable pub negated_by : ℕ → Out Value → Out Value
-negated_by zero o = o
-negated_by (suc n) o = mapped negated (negated_by n o)
-
--- one minus sign more, counted as 0, 1 or 2 of them
-unfoldable pub one_more_of : ℕ → ℕ
-one_more_of n = pick (n == 1) 2 1
+-- the promise of `operand`, `ranked` and `value_at`: of a text, the names, a position, depth and rank
+abbrev pub Answers : List ℕ → List Held → ℕ → ℕ → ℕ → Option Parsed → Type 0
+Answers text names at d k r = told text r ≡ mapped (value_of (operand_value (labels names))) (parse d k (tokens_at text at))
 
 -- the rank of the operator that comes first
 unfoldable pub head_rank : List Token → ℕ
 head_rank [] = 0
 head_rank (o ∷ ts) = rank o
 
--- what `operator_at` says
-pub record JoinedBy (text : List ℕ) (at k symbol end : ℕ) : Type 0 where
+-- what `operator_at` says of an operator that it finds
+pub record JoinedBy (text : List ℕ) (at : ℕ) (j : Join) : Type 0 where
   pub mark : Token
-  pub split : tokens_at text at ≡ mark ∷ tokens_at text end
-  pub number : symbol ≡ symbol_of mark
-  pub ranks : rank mark ≡ k
+  pub split : tokens_at text at ≡ mark ∷ tokens_at text j.end
+  pub same : operator_of mark ≡ shown_operator j.operator
+  pub ranks : rank mark ≡ rank_of (shown_operator j.operator)
 
-abbrev pub Joined : List ℕ → ℕ → ℕ → Join → Type 0
-Joined text at k NoJoin = head_rank (tokens_at text at) ≡ k → ⊥
-Joined text at k (By symbol end) = JoinedBy text at k symbol end
+abbrev pub Between : List ℕ → ℕ → ℕ → ℕ → Option Join → Type 0
+Between text at low high None = (k : ℕ) → low ≤ k → k ≤ high → head_rank (tokens_at text at) ≡ k → ⊥
+Between text at low high (Some j) = JoinedBy text at j × (low ≤ rank_of (shown_operator j.operator)) × (rank_of (shown_operator j.operator) ≤ high)
+
+-- so many minus signs before what was read
+unfoldable pub negated_by : ℕ → Out Value → Out Value
+negated_by zero o = o
+negated_by (suc n) o = mapped negated (negated_by n o)
+
+unfoldable pub odd : ℕ → Bool
+odd zero = false
+odd (suc n) = not (odd n)
 
 -- what `lead_at` says: the same value for every meaning of operands, and for every reading of parentheses
-pub record Led (text : List ℕ) (at : ℕ) (r : Lead) : Type 0 where
+pub record LedBy (text : List ℕ) (at : ℕ) (r : Lead) : Type 0 where
+  pub signs : ℕ
+  pub parity : r.negative ≡ odd signs
   pub same : (mean : Token → Value) (inner : List Token → Out Tree) →
       mapped (value_of mean) (prefixed inner (tokens_at text at))
-      ≡ negated_by r.minus (mapped (value_of mean) (opening r.begin (bind (inner (tokens_at text r.end)) closed)
-      (leaf (part r.start r.end text) (tokens_at text r.end))))
-  pub few : r.minus ≤ 2
-  pub bounds : r.begin ≡ Operand → (r.start < r.end) × (r.end ≤ length text)
+      ≡ negated_by signs (mapped (value_of mean) (pick (symbol_number r.first.symbol == byte "(")
+      (bind (inner (tokens_at text r.first.end)) closed)
+      (leaf r.first.word.now (tokens_at text r.first.end))))
 
--- what `negated_by` says
-abbrev pub NegatedBy : ℕ → Answer → Answer → Type 0
-NegatedBy n a r = (text : List ℕ) → told text r ≡ negated_by n (told text a)
+abbrev pub Led : List ℕ → ℕ → Option Lead → Type 0
+Led text at None = (mean : Token → Value) (inner : List Token → Out Tree) → mapped (value_of mean) (prefixed inner (tokens_at text at)) ≡ refused
+Led text at (Some r) = LedBy text at r
+
+-- what `signed` says
+abbrev pub Signed : Bool → Parsed → Parsed → Type 0
+Signed negative p r = (n : ℕ) → negative ≡ odd n → (text : List ℕ) → told text (Some r) ≡ negated_by n (told text (Some p))

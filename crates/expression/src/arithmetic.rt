@@ -1,68 +1,81 @@
-// The operators, by the symbols of their tokens, modulo 65,536.
-ghost use Rattle.std.specs.Prelude.{◌≡◌, ◌*◌, ◌%◌};
-ghost use Rattle.expression.specs.Operands.{shift_left, operated_of, operated, negated};
-ghost use Rattle.expression.specs.Reading.{operator_by, rank_by};
+// The operators, modulo 65,536.
+ghost use Rattle.std.specs.Prelude.{◌≡◌};
+ghost use Rattle.expression.specs.Operands.{rank_of, operated_of, operated, negated};
+ghost use Rattle.expression.specs.Reading.{shown_operator, OperatorOf};
 
 use crate::Value;
+use token::Symbol;
 
-fn product16(x: u16, y: u16) -> u16
-    ensures { result ≡ x * y % 65536 }
-{
-    ((x as u32) * (y as u32) % 65536) as u16
+#[derive(Clone, Copy)]
+pub enum Operator {
+    Times,
+    Plus,
+    Minus,
+    Shift,
+    And,
+    Or,
 }
 
-fn shift_left(x: u16, y: u16) -> u16
-    ensures { result ≡ shift_left x y }
-{
-    if 16 <= y {
-        return 0;
+impl Operator {
+    #[tactic(auto, unfolding(crate::specs::Reading::operator_by, crate::specs::Reading::rank_by, crate::specs::Operands::rank_of))]
+    pub fn of(symbol: Symbol) -> Option<Self>
+        ensures { OperatorOf symbol result }
+    {
+        match symbol {
+            Symbol::Byte(b'*') => Some(Self::Times),
+            Symbol::Byte(b'+') => Some(Self::Plus),
+            Symbol::Byte(b'-') => Some(Self::Minus),
+            Symbol::Shift => Some(Self::Shift),
+            Symbol::Byte(b'&') => Some(Self::And),
+            Symbol::Byte(b'|') => Some(Self::Or),
+            _ => None,
+        }
     }
-    (((x as u32) << (y as u32)) % 65536) as u16
-}
 
-// The symbols of `*`, `+`, `-`, `<<`, `&` and `|`. 0: no operator.
-pub fn rank_of(symbol: u16) -> usize
-    ensures { result ≡ rank_by symbol }
-{
-    match symbol {
-        42 => 1,
-        43 => 2,
-        45 => 2,
-        256 => 3,
-        38 => 4,
-        124 => 5,
-        _ => 0,
+    #[tactic(auto, unfolding(crate::specs::Operands::rank_of))]
+    pub fn rank(self) -> usize
+        ensures { result ≡ rank_of (shown_operator self) }
+    {
+        match self {
+            Self::Times => 1,
+            Self::Plus | Self::Minus => 2,
+            Self::Shift => 3,
+            Self::And => 4,
+            Self::Or => 5,
+        }
+    }
+
+    #[tactic(auto, unfolding(crate::specs::Operands::operated_of, crate::specs::Operands::shift_left))]
+    fn operated_words(self, x: u16, y: u16) -> u16
+        ensures { result ≡ operated_of (shown_operator self) x y }
+    {
+        match self {
+            Self::Times => x.wrapping_mul(y),
+            Self::Plus => x.wrapping_add(y),
+            Self::Minus => x.wrapping_sub(y),
+            Self::Shift => x.checked_shl(u32::from(y)).unwrap_or(0),
+            Self::And => x & y,
+            Self::Or => x | y,
+        }
+    }
+
+    #[tactic(auto, unfolding(crate::specs::Operands::operated))]
+    pub fn operated(self, x: Value, y: Value) -> Value
+        ensures { result ≡ operated (shown_operator self) x y }
+    {
+        Value {
+            word: self.operated_words(x.word, y.word),
+            known: x.known && y.known,
+        }
     }
 }
 
-// The symbol is an operator's.
-fn operated_words(symbol: u16, x: u16, y: u16) -> u16
-    ensures { result ≡ operated_of (operator_by symbol) x y }
-{
-    match symbol {
-        42 => product16(x, y),
-        43 => std::num::wrapping_add_u16(x, y),
-        45 => std::num::wrapping_sub_u16(x, y),
-        256 => shift_left(x, y),
-        38 => x & y,
-        _ => x | y,
-    }
-}
-
-pub fn operated(symbol: u16, x: Value, y: Value) -> Value
-    ensures { result ≡ operated (operator_by symbol) x y }
-{
-    Value {
-        word: operated_words(symbol, x.word, y.word),
-        known: x.known & y.known,
-    }
-}
-
+#[tactic(auto, unfolding(crate::specs::Operands::negated))]
 pub fn negated(x: Value) -> Value
     ensures { result ≡ negated x }
 {
     Value {
-        word: std::num::wrapping_sub_u16(0, x.word),
-        known: x.known,
+        word: 0u16.wrapping_sub(x.word),
+        ..x
     }
 }

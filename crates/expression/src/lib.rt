@@ -1,20 +1,25 @@
-// Constant expressions: the value of an expression at a position of a text, given a table of names. The table has three numbers
-// for each name: where it begins and ends in the text, and its address.
+// Constant expressions: the value of an expression at a position of a text, given the names and their addresses.
 #![tactic(auto)]
 
-ghost use Rattle.std.specs.Prelude.{◌≡◌, ℕ, ◌<◌, ◌≤◌, List, length};
-ghost use Rattle.token.specs.Scan.{part, tokens_at};
+ghost use Rattle.std.specs.Prelude.{◌≡◌, ◌≤◌};
+ghost use Rattle.token.specs.Scan.{tokens_at};
 ghost use Rattle.expression.specs.Grammar.{value_of};
-ghost use Rattle.expression.specs.declared.Join.TheVariants.{NoJoin, By};
-ghost use Rattle.expression.specs.Operands.{operand_value, operated};
-ghost use Rattle.expression.specs.Reading.{operator_by, rank_by, labels, leaf, mapped, bind, closed, told, Answers, Joined};
+ghost use Rattle.expression.specs.Operands.{operand_value};
+ghost use Rattle.expression.specs.Reading.{labels, leaf, mapped, closed, told, Signed, Answers, Between};
 
+use arithmetic::Operator;
 use token::Token;
 
 mod arithmetic;
 mod literals;
 pub mod names;
 mod prefix;
+
+#[derive(Clone, Copy)]
+pub struct Label<'a> {
+    pub name: &'a [u8],
+    pub address: usize,
+}
 
 // A word; known is false where a name in it is unknown.
 #[derive(Clone, Copy)]
@@ -23,159 +28,113 @@ pub struct Value {
     pub known: bool,
 }
 
-// What was read at a position: a value, and where it ends; or nothing.
+// A value, and where the text after it begins.
 #[derive(Clone, Copy)]
-pub enum Answer {
-    Refused,
-    Read { value: Value, next: usize },
+pub struct Parsed {
+    pub value: Value,
+    pub next: usize,
 }
 
-// The operator of a rank that stands at a position.
 #[derive(Clone, Copy)]
-pub enum Join {
-    NoJoin,
-    By { symbol: u16, end: usize },
+struct Join {
+    operator: Operator,
+    end: usize,
 }
 
 // The closing parenthesis after a value.
-fn close_bracket(text: &[u8], a: Answer) -> Answer
-    ensures { told text.now result ≡ bind (told text.now a) closed }
+#[tactic(auto, using(crate::proofs::After::closed_at), unfolding(crate::specs::Reading::told, crate::specs::Reading::closed))]
+fn closed(text: &[u8], inner: Parsed) -> Option<Parsed>
+    ensures { told text.now result ≡ closed inner.value (tokens_at text.now inner.next) }
 {
-    let Answer::Read { value, next } = a else {
-        return Answer::Refused;
-    };
-    let t = token::token_at(text, next);
-    let Token::Here {
-        symbol,
-        start: _,
-        end,
-    } = t
-    else {
-        return Answer::Refused;
-    };
-    if symbol == 41 {
-        return Answer::Read { value, next: end };
+    let t = token::token_at(text, inner.next)?;
+    if t.symbol.is(b')') {
+        return Some(Parsed {
+            next: t.end,
+            ..inner
+        });
     }
-    Answer::Refused
+    None
 }
 
-fn leaf_answer(text: &[u8], names: &[usize], start: usize, end: usize) -> Answer
-    requires { (start < end) × (end ≤ length text.now) }
-    ensures { told text.now result ≡ mapped (value_of (operand_value (labels text.now names.now))) (leaf (part start end text.now) (tokens_at text.now end)) }
+// The value of a token that is an operand.
+#[tactic(auto, using(crate::proofs::Digits::leaves), unfolding(crate::specs::Reading::told))]
+fn leaf(text: &[u8], names: &[Label], t: Token) -> Option<Parsed>
+    ensures { told text.now result ≡ mapped (value_of (operand_value (labels names.now))) (leaf t.entry.word.now (tokens_at text.now t.entry.end)) }
 {
-    let l = literals::leaf_of(text, names, start, end);
-    match l {
-        literals::Leaf::NoOperand => Answer::Refused,
-        literals::Leaf::Means { value } => Answer::Read { value, next: end },
-    }
+    let value = literals::leaf_of(names, t.word)?;
+    Some(Parsed { value, next: t.end })
 }
 
 // The operator at a position, if its rank is one from low to high.
-fn operator_at(text: &[u8], at: usize, low: usize, high: usize) -> Join
+#[tactic(auto, using(crate::proofs::After::operator))]
+fn operator_at(text: &[u8], at: usize, low: usize, high: usize) -> Option<Join>
     requires { 1 ≤ low }
-    ensures { ((k : ℕ) → low ≤ k → k ≤ high → result ≡ NoJoin → Joined text.now at k NoJoin) × ((symbol end : ℕ) → result ≡ By symbol end → Joined text.now at (rank_by symbol) (By symbol end) × (low ≤ rank_by symbol) × (rank_by symbol ≤ high)) }
+    ensures { Between text.now at low high result }
 {
-    let t = token::token_at(text, at);
-    let Token::Here {
-        symbol,
-        start: _,
-        end,
-    } = t
-    else {
-        return Join::NoJoin;
-    };
-    let rank = arithmetic::rank_of(symbol);
-    if rank < low {
-        return Join::NoJoin;
+    let t = token::token_at(text, at)?;
+    let operator = Operator::of(t.symbol)?;
+    let rank = operator.rank();
+    if low <= rank && rank <= high {
+        return Some(Join {
+            operator,
+            end: t.end,
+        });
     }
-    if high < rank {
-        return Join::NoJoin;
-    }
-    Join::By { symbol, end }
+    None
 }
 
-// A value, an operator and its right operand.
-fn joined(symbol: u16, x: Value, a: Answer) -> Answer
-    ensures { (text : List ℕ) → told text result ≡ mapped (operated (operator_by symbol) x) (told text a) }
+// What was read, with a minus sign before it if `negative`.
+#[tactic(auto, using(crate::proofs::Leads::signs), unfolding(crate::specs::Reading::told))]
+fn signed(negative: bool, p: Parsed) -> Parsed
+    ensures { Signed negative p result }
 {
-    let Answer::Read { value, next } = a else {
-        return Answer::Refused;
-    };
-    Answer::Read {
-        value: arithmetic::operated(symbol, x, value),
-        next,
+    if negative {
+        return Parsed {
+            value: arithmetic::negated(p.value),
+            ..p
+        };
     }
+    p
 }
 
 // An operand, or minus signs before one. Parentheses may nest to `depth`.
-#[cycle(operand_product_sum)]
-fn operand(text: &[u8], names: &[usize], at: usize, depth: usize) -> Answer
+#[cycle(operand_ranked)]
+#[tactic(auto, using(crate::proofs::Begun::beginnings))]
+fn operand(text: &[u8], names: &[Label], at: usize, depth: usize) -> Option<Parsed>
     ensures { Answers text.now names.now at depth 0 result }
 {
-    let l = prefix::lead_at(text, at);
-    let begin = l.begin;
-    match begin {
-        prefix::Start::Nothing => Answer::Refused,
-        prefix::Start::Bracket => {
-            if depth == 0 {
-                return Answer::Refused;
-            }
-            prefix::negated_by(
-                l.minus,
-                close_bracket(text, sum(text, names, l.end, 5, depth - 1)),
-            )
-        }
-        prefix::Start::Operand => {
-            prefix::negated_by(l.minus, leaf_answer(text, names, l.start, l.end))
-        }
+    let lead = prefix::lead_at(text, at)?;
+    let first = lead.first;
+    if first.symbol.is(b'(') {
+        let inner = ranked(text, names, first.end, 5, depth.checked_sub(1)?)?;
+        return Some(signed(lead.negative, closed(text, inner)?));
     }
+    Some(signed(lead.negative, leaf(text, names, first)?))
 }
 
-// Operands and `*`.
-#[cycle(operand_product_sum)]
-fn product(text: &[u8], names: &[usize], at: usize, depth: usize) -> Answer
-    ensures { Answers text.now names.now at depth 1 result }
-{
-    let mut total = operand(text, names, at, depth);
-    loop {
-        let Answer::Read { value, next } = total else {
-            return Answer::Refused;
-        };
-        let j = operator_at(text, next, 1, 1);
-        let Join::By { symbol, end } = j else {
-            return Answer::Read { value, next };
-        };
-        total = joined(symbol, value, operand(text, names, end, depth));
-    }
-}
-
-// Products and the operators of the ranks 2 to `rank`, at most 5. After one of rank `low` no tighter one comes.
-#[cycle(operand_product_sum)]
-fn sum(text: &[u8], names: &[usize], at: usize, rank: usize, depth: usize) -> Answer
-    requires { (1 ≤ rank) × (rank ≤ 5) }
+// Operands and the operators of the ranks 1 to `rank`, at most 5. After one of rank `low` no tighter one comes.
+#[cycle(operand_ranked)]
+#[tactic(auto, using(crate::proofs::Climb::climb_steps))]
+fn ranked(text: &[u8], names: &[Label], at: usize, rank: usize, depth: usize) -> Option<Parsed>
+    requires { rank ≤ 5 }
     ensures { Answers text.now names.now at depth rank result }
 {
-    let mut total = product(text, names, at, depth);
-    if rank == 1 {
-        return total;
-    }
-    let mut low = 2;
-    loop {
-        let Answer::Read { value, next } = total else {
-            return Answer::Refused;
+    let mut total = operand(text, names, at, depth)?;
+    let mut low = 1;
+    while let Some(join) = operator_at(text, total.next, low, rank) {
+        low = join.operator.rank();
+        let right = ranked(text, names, join.end, low - 1, depth)?;
+        total = Parsed {
+            value: join.operator.operated(total.value, right.value),
+            next: right.next,
         };
-        let j = operator_at(text, next, low, rank);
-        let Join::By { symbol, end } = j else {
-            return Answer::Read { value, next };
-        };
-        low = arithmetic::rank_of(symbol);
-        total = joined(symbol, value, sum(text, names, end, low - 1, depth));
     }
+    Some(total)
 }
 
-// The expression at a position: its value and where it ends, or nothing.
-pub fn value_at(text: &[u8], names: &[usize], at: usize) -> Answer
+// The expression at a position: its value and where it ends.
+pub fn value_at(text: &[u8], names: &[Label], at: usize) -> Option<Parsed>
     ensures { Answers text.now names.now at 16 5 result }
 {
-    sum(text, names, at, 5, 16)
+    ranked(text, names, at, 5, 16)
 }

@@ -1,64 +1,45 @@
 // Names and registers.
-ghost use Rattle.std.specs.Prelude.{◌≡◌, ◌<◌, ◌≤◌, length};
-ghost use Rattle.token.specs.Scan.{part};
+ghost use Rattle.std.specs.Prelude.{◌≡◌, ◌<◌, MatchOption};
 ghost use Rattle.expression.specs.Operands.{register_of, is_name, name_value};
 ghost use Rattle.expression.specs.Reading.{labels};
 
-use crate::Value;
+use crate::{Label, Value};
 
-// 0 to 7 for R0 to R7, 8 for any other token.
-pub fn register_of(text: &[u8], start: usize, end: usize) -> u8
-    requires { (start < end) × (end ≤ length text.now) }
-    ensures { result ≡ register_of (part start end text.now) }
+// 0 to 7 for R0 to R7.
+#[tactic(auto, unfolding(crate::specs::Operands::register_of, token::specs::Tokens::between))]
+pub fn register_of(word: &[u8]) -> Option<u8>
+    ensures { MatchOption result (register_of word.now ≡ 8) (λ k. (register_of word.now ≡ k) × (k < 8)) }
 {
-    if end - start != 2 {
-        return 8;
+    match word {
+        [b'R', k @ b'0'..=b'7'] => Some(*k - b'0'),
+        _ => None,
     }
-    if text[start] != b'R' {
-        return 8;
-    }
-    let k = text[start + 1];
-    if k < b'0' {
-        return 8;
-    }
-    if b'7' < k {
-        return 8;
-    }
-    k - b'0'
 }
 
-pub fn is_name(text: &[u8], start: usize, end: usize) -> bool
-    requires { (start < end) × (end ≤ length text.now) }
-    ensures { result ≡ is_name (part start end text.now) }
+#[tactic(auto, unfolding(crate::specs::Operands::is_name, token::specs::Tokens::is_letter, token::specs::Tokens::between))]
+pub fn is_name(word: &[u8]) -> bool
+    ensures { result ≡ is_name word.now }
 {
-    if token::is_letter(text[start]) {
-        if end - start <= 16 {
-            return register_of(text, start, end) == 8;
+    match word {
+        [first, ..] => {
+            token::is_letter(*first) && word.len() <= 16 && register_of(word).is_none()
         }
-        return false;
+        [] => false,
     }
-    false
 }
 
 // The address of the first label of that name, if there is one.
-pub fn name_value(text: &[u8], names: &[usize], start: usize, end: usize) -> Value
-    requires { (start < end) × (end ≤ length text.now) }
-    ensures { result ≡ name_value (labels text.now names.now) (part start end text.now) }
+pub fn name_value(names: &[Label], word: &[u8]) -> Value
+    ensures { result ≡ name_value (labels names.now) word.now }
 {
-    let mut i = 0;
-    while i + 2 < names.len() {
-        let from = names[i];
-        let to = names[i + 1];
-        if token::same_bytes(text, start, end, text, from, to) {
-            return Value {
-                word: (names[i + 2] % 65536) as u16,
-                known: true,
-            };
-        }
-        i += 3;
-    }
-    Value {
-        word: 0,
-        known: false,
+    match names.iter().find(|l| token::same_bytes(word, l.name)) {
+        Some(l) => Value {
+            word: (l.address % 65536) as u16,
+            known: true,
+        },
+        None => Value {
+            word: 0,
+            known: false,
+        },
     }
 }

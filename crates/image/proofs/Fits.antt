@@ -1,8 +1,8 @@
 -- A test of the refusal table, from the answer of the function that makes it; and what an accepted load is known to fit.
 -- Assumes nothing.
 use Prim.Native.Nat.{◌+◌, ◌*◌, ◌≤◌, ℕ}
-use mathlib.Core.Path.{◌≡◌, refl, sym, ◌∙◌}
-use mathlib.Core.Bool.{Bool, true, false, and-eq-true_iff}
+use mathlib.Core.Path.{◌≡◌, refl, sym}
+use mathlib.Core.Bool.{true, and-eq-true_iff}
 use mathlib.Core.List.{List}
 use native.Mathlib.Nat.{mul-le-mul_left}
 use lib.Dec.{leb, eqb}
@@ -16,12 +16,6 @@ use Rattle.image.specs.declared.Part.{Part}
 use Rattle.image.specs.declared.Range.{Range}
 use Rattle.image.specs.Parts.{PartInside, Placeable}
 use Rattle.image.specs.Image.{W, program_offset, C, data_offset, parts_fit, inside, parts_inside, board_holds, range_fits, then_range, LoadGiven, file_reply, load_reply}
-
-pub passes : {answer test : Bool} → answer ≡ test → answer ≡ true → test ≡ true
-passes e h = sym e ∙ h
-
-pub fails : {answer test : Bool} → answer ≡ test → answer ≡ false → test ≡ false
-fails e h = sym e ∙ h
 
 part_inside : (file : List ℕ) (part : Part) → part.count ≤ 65536 → inside file part.offset part.count ≡ true → PartInside file part
 part_inside file part k h =

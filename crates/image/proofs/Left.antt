@@ -10,18 +10,10 @@ use Rattle.refusal.specs.Refusals.{Verdict, accepted, refused}
 use Rattle.machine.specs.declared.State.{State}
 use Rattle.machine.specs.declared.Board.{Board}
 use Rattle.machine.specs.Machine.{reset, reset_on}
-use Rattle.image.specs.Image.{W, C, part_of, memory_of, single_memory_of, loaded_p, loaded_d, with_range, loaded, LoadLeft, LoadGiven, load_reply, load_left_by, load_left}
+use Rattle.image.specs.Image.{W, C, part_of, single_memory_of, loaded_p, loaded_d, with_range, loaded, LoadLeft, LoadGiven, load_reply, load_left_by, load_left}
 use Rattle.image.specs.declared.Part.{Part}
 use Rattle.image.specs.declared.Range.{Range}
-use Rattle.image.specs.Parts.{program_part, data_part, ReadAs, PartInside, Placeable}
-
-module _ {file : List ℕ} {part read : Part} {n : ℕ} (l : n ≡ 65536) (f : PartInside file part) (r : ReadAs part read) where
-  pub can_place : (read.offset + read.count ≤ length file) × (read.count ≤ n)
-  can_place = omega (arith, f, r)
-
-  pub memory_left : {M : List ℕ} → M ≡ take read.count (drop read.offset file) ++ replicate (n - read.count) 0
-      → M ≡ memory_of file part.offset part.count
-  memory_left e = e ∙ rw (r.offset, r.count, l)
+use Rattle.image.specs.Parts.{program_part, data_part, ReadAs, Placeable}
 
 -- bytes b placed over the zeros that follow the bytes a
 module _ (A : List ℕ) {a n : ℕ} {M : List ℕ} (l : length A ≡ a) (within : a ≤ n) (first : M ≡ A ++ replicate (n - a) 0) where
@@ -55,10 +47,6 @@ module _ {file : List ℕ} {p d : Part} {n : ℕ} {M : List ℕ} (f : Placeable 
 
   within : p.count ≤ n
   within = omega (arith, pr.count)
-
-  pub can_follow : (d.offset + d.count ≤ length file) × (d.count ≤ length (take (length M - p.count) (drop p.count M)))
-  can_follow =
-      (omega (arith, f.bytes.inside_file, dr.offset, dr.count), rw (room (part_of file p.offset p.count) part_length within first) (omega (arith, pr.count, dr.count)))
 
   pub both_left : {N : List ℕ} → N ≡ part_of file d.offset d.count ++ replicate (length (take (length M - p.count) (drop p.count M)) - d.count) 0
       → take p.count M ++ (N ++ drop (length M - p.count) (drop p.count M)) ≡ single_memory_of file

@@ -1,6 +1,6 @@
 -- The trim file, called an image here, and loading it (01, "Loading", "Refusal table").
 use Rattle.std.specs.Prelude.{ℕ, ◌+◌, ◌-◌, ◌*◌, Bool, true, ◌&&◌, ◌||◌, List, [], ◌++◌, ◌≡◌, eqb, leb, length, get_or, take, drop, replicate}
-use Rattle.refusal.specs.Refusals.{refusal_number, Verdict, accepted, refused}
+use Rattle.refusal.specs.Refusals.{Verdict, accepted, refused, shown_check}
 use Rattle.word.specs.Word.{pick}
 use Rattle.machine.specs.declared.State.{State}
 use Rattle.machine.specs.declared.Board.{Board}
@@ -10,8 +10,6 @@ use Rattle.machine.specs.Lengths.{lengths_fit}
 use Rattle.machine.specs.Slices.{MutSlice, Slice, before, after, read_before}
 use Rattle.image.specs.declared.Range.{Range}
 use Rattle.image.specs.declared.Loaded.{Loaded}
-use Rattle.image.specs.declared.Loading.{Loading}
-use Rattle.image.specs.declared.Loading.TheVariants.{Accepted, Refused}
 
 -- ---- The file
 
@@ -87,10 +85,6 @@ loaded file board range =
 
 -- ---- The call
 
-abbrev pub shown_loading : Loading → Verdict
-shown_loading Accepted = accepted
-shown_loading (Refused r) = refused (refusal_number r)
-
 pub record LoadGiven : Type 0 where
   pub file : List ℕ
   pub board : Board
@@ -164,7 +158,7 @@ file_shown file board range program memory inputs outputs =
 
 abbrev pub loaded_with : MutSlice → MutSlice → MutSlice → MutSlice → Loaded → LoadLeft
 loaded_with program memory inputs outputs r =
-    record { reply = shown_loading r.reply; state = r.state; P = after program; D = after memory; I = after inputs; O = after outputs }
+    record { reply = shown_check r.reply; state = r.state; P = after program; D = after memory; I = after inputs; O = after outputs }
 
 abbrev pub Loads : Slice → Board → Range → MutSlice → MutSlice → MutSlice → MutSlice → Loaded → Type 0
 Loads file board range program memory inputs outputs r =

@@ -2,28 +2,20 @@
 #![tactic(auto)]
 
 ghost use Rattle.std.specs.Prelude.{◌≡◌, ◌++◌, ◌+◌, ◌-◌, ◌*◌, ◌<◌, ◌≤◌, length, take, drop, replicate, true};
-ghost use Rattle.refusal.specs.Refusals.{accepted};
+ghost use Rattle.refusal.specs.Refusals.{accepted, shown_check};
 ghost use Rattle.machine.specs.declared.Board.TheVariants.{SingleMemory};
 ghost use Rattle.image.specs.Parts.{program_part, data_part, ReadAs, Placeable};
-ghost use Rattle.image.specs.Image.{W, C, number32, parts_fit, inside, parts_inside, board_holds, loaded_p, loaded_d, with_range, range_fits, then_range, file_reply, load_reply, load_left_by, shown_loading, file_lent, file_shown, loaded_with, Loads};
+ghost use Rattle.image.specs.Image.{W, C, number32, parts_fit, inside, parts_inside, board_holds, loaded_p, loaded_d, with_range, range_fits, file_reply, load_reply, load_left_by, file_lent, file_shown, loaded_with, Loads};
 
-use block::copy;
 use bus::lengths_fit;
 use machine::{Board, State};
 use refusal::Refusal;
 
-#[derive(Clone, Copy)]
-pub enum Loading {
-    Accepted,
-    Refused(Refusal),
-}
-
-// What a load replies. An enum cannot hold the state's array in covered form, so the state stands beside the reply; a
-// refused load's is the reset one.
+// What a load replies: the state, the reset one where it is refused, and the reply.
 #[derive(Clone, Copy)]
 pub struct Loaded {
     pub state: State,
-    pub reply: Loading,
+    pub reply: Result<(), Refusal>,
 }
 
 // The range of data memory that a load locks: none where `locked` is 0, else first to last, both in it.
@@ -52,20 +44,11 @@ const BYTES: usize = 8;
 
 const DATA_OFFSET: usize = 12;
 
-// A byte of a slice, with its bound.
-fn wide(x: u8) -> usize
-    ensures { (result ≡ x) × (result < 256) }
-{
-    x as usize
-}
-
 fn number32(file: &[u8], at: usize) -> usize
     requires { at + 4 ≤ length file.now }
     ensures { (result ≡ number32 file.now at) × (result < 4294967296) }
 {
-    let low = wide(file[at]) + 256 * wide(file[at + 1]);
-    let high = wide(file[at + 2]) + 256 * wide(file[at + 3]);
-    low + 65536 * high
+    u32::from_le_bytes([file[at], file[at + 1], file[at + 2], file[at + 3]]) as usize
 }
 
 pub fn program_part(file: &[u8]) -> Part
@@ -124,22 +107,23 @@ fn board_holds(file: &[u8], board: Board) -> bool
 }
 
 // The tests of the refusal table that look at the file and the board alone, in their order.
-pub fn file_verdict(file: &[u8], board: Board) -> Loading
-    ensures { shown_loading result ≡ file_reply file.now board }
+#[tactic(auto, unfolding(crate::specs::Image::file_reply))]
+pub fn file_verdict(file: &[u8], board: Board) -> Result<(), Refusal>
+    ensures { shown_check result ≡ file_reply file.now board }
 {
     if file.len() < HEADER_BYTES {
-        return Loading::Refused(Refusal::ShortFile);
+        return Err(Refusal::ShortFile);
     }
     if !parts_fit(file) {
-        return Loading::Refused(Refusal::LargePart);
+        return Err(Refusal::LargePart);
     }
     if !parts_inside(file) {
-        return Loading::Refused(Refusal::PartOutside);
+        return Err(Refusal::PartOutside);
     }
     if !board_holds(file, board) {
-        return Loading::Refused(Refusal::SmallBoard);
+        return Err(Refusal::SmallBoard);
     }
-    Loading::Accepted
+    Ok(())
 }
 
 // First is not over last, where a range is named. `&` and `|` make all tests, so that the answer has no branches.
@@ -160,23 +144,8 @@ fn with_range(range: Range, state: State) -> State
     }
 }
 
-// The range is tested after the file.
-fn then_range(range: Range, verdict: Loading) -> Loading
-    ensures { shown_loading result ≡ then_range range (shown_loading verdict) }
-{
-    match verdict {
-        Loading::Accepted => {
-            if range_fits(range) {
-                Loading::Accepted
-            } else {
-                Loading::Refused(Refusal::LockedRange)
-            }
-        }
-        Loading::Refused(refusal) => Loading::Refused(refusal),
-    }
-}
-
-// What is lent is tested before the file.
+// What is lent is tested before the file, and the range after it.
+#[tactic(auto, unfolding(crate::specs::Image::load_reply))]
 fn verdict(
     file: &[u8],
     board: Board,
@@ -185,33 +154,17 @@ fn verdict(
     memory: &[u8],
     inputs: &[u16],
     outputs: &[u16],
-) -> Loading
-    ensures { shown_loading result ≡ load_reply (file_shown file board range program memory inputs outputs) }
+) -> Result<(), Refusal>
+    ensures { shown_check result ≡ load_reply (file_shown file board range program memory inputs outputs) }
 {
     if !lengths_fit(program, memory, inputs, outputs) {
-        return Loading::Refused(Refusal::LentLength);
+        return Err(Refusal::LentLength);
     }
-    then_range(range, file_verdict(file, board))
-}
-
-fn zero_bytes(bytes: &mut [u8])
-    ensures { bytes.new ≡ replicate (length bytes.old) 0 }
-{
-    let mut at = 0;
-    while at < bytes.len() {
-        bytes[at] = 0;
-        at += 1;
+    file_verdict(file, board)?;
+    if !range_fits(range) {
+        return Err(Refusal::LockedRange);
     }
-}
-
-fn zero_ports(ports: &mut [u16])
-    ensures { ports.new ≡ replicate (length ports.old) 0 }
-{
-    let mut port = 0;
-    while port < ports.len() {
-        ports[port] = 0;
-        port += 1;
-    }
+    Ok(())
 }
 
 // The part of the file, and zeros to the end of the target.
@@ -219,11 +172,9 @@ fn place(file: &[u8], part: Part, target: &mut [u8])
     requires { (part.offset + part.count ≤ length file.now) × (part.count ≤ length target.old) }
     ensures { target.new ≡ take part.count (drop part.offset file.now) ++ replicate (length target.old - part.count) 0 }
 {
-    zero_bytes(target);
-    let offset = part.offset;
-    let count = part.count;
-    let end = offset + count;
-    copy(&file[offset..end], &mut target[..count]);
+    let end = part.offset + part.count;
+    target[..part.count].copy_from_slice(&file[part.offset..end]);
+    target[part.count..].fill(0);
 }
 
 // The single memory: the program part, straight after it the data part, and zeros.
@@ -248,7 +199,7 @@ fn fill(file: &[u8], board: Board, program: &mut [u8], memory: &mut [u8])
             place(file, data_part(file), memory);
         }
         Board::SingleMemory => {
-            zero_bytes(program);
+            program.fill(0);
             place_both(file, memory);
         }
     }
@@ -268,11 +219,11 @@ fn accept(
     ensures { loaded_with program memory inputs outputs result ≡ load_left_by accepted (file_lent file board range program memory inputs outputs) }
 {
     fill(file, board, program, memory);
-    zero_ports(inputs);
-    zero_ports(outputs);
+    inputs.fill(0);
+    outputs.fill(0);
     Loaded {
         state: with_range(range, State::reset_on(board)),
-        reply: Loading::Accepted,
+        reply: Ok(()),
     }
 }
 
@@ -289,12 +240,11 @@ pub fn load(
 ) -> Loaded
     ensures { Loads file board range program memory inputs outputs result }
 {
-    let reply = verdict(file, board, range, program, memory, inputs, outputs);
-    match reply {
-        Loading::Accepted => accept(file, board, range, program, memory, inputs, outputs),
-        Loading::Refused(refusal) => Loaded {
+    match verdict(file, board, range, program, memory, inputs, outputs) {
+        Ok(()) => accept(file, board, range, program, memory, inputs, outputs),
+        Err(refusal) => Loaded {
             state: State::reset(),
-            reply: Loading::Refused(refusal),
+            reply: Err(refusal),
         },
     }
 }

@@ -12,8 +12,8 @@ use Rattle.word.specs.Word.{pick}
 use Rattle.word.proofs.Computed.{all, all_at}
 use Rattle.kinds.specs.declared.Kind.{Kind}
 use Rattle.kinds.specs.declared.Kind.TheVariants.{And, Or, Xor, Not, Add, Sub, Sha, Shl, Cmplt, Cmple, Cmpeq, Cmpltu, Cmpleu, Addi, Ld, St, Ldb, Stb, Jalr, Bz, Bnz, Movi, Movhi, In, Out, Mul, Mulh, Mulhu, Div, Divu, Ei, Di, Reti, Getiid}
-use Rattle.isa.specs.declared.rows.Entry.{Entry}
-use Rattle.isa.specs.declared.rows.Entry.TheVariants.{Unassigned, Assigned}
+use Rattle.std.specs.Prelude.{Option}
+use Rattle.std.specs.declared.option.Option.TheVariants.{Some, None}
 use Rattle.kinds.specs.Kinds.{kinds, kind_number}
 use Rattle.isa.specs.Sheet.{kind_at}
 use Rattle.isa.specs.Layouts.{entry_number}
@@ -60,18 +60,18 @@ every f t k = subst (λ (j : Kind). T (f j)) (listed k).1 (all_at (length kinds)
 
 -- ---- The entries of the opcodes' rows, by number
 
-abbrev pub entry_at : ℕ → Entry
-entry_at n = pick (eqb n (length kinds)) Unassigned (Assigned (get_or kinds n And))
+abbrev pub entry_at : ℕ → Option Kind
+entry_at n = pick (eqb n (length kinds)) None (Some (get_or kinds n And))
 
-pub entry_is : (x : Entry) → entry_at (entry_number x) ≡ x
-entry_is Unassigned = refl
-entry_is (Assigned k) = rw (ne_eqb (kind_number k) (length kinds) (λ e. omega (arith, (listed k).0))) (ap Assigned (listed k).1)
+pub entry_is : (x : Option Kind) → entry_at (entry_number x) ≡ x
+entry_is None = refl
+entry_is (Some k) = rw (ne_eqb (kind_number k) (length kinds) (λ e. omega (arith, (listed k).0))) (ap Some (listed k).1)
 
-pub entry_few : (x : Entry) → entry_number x ≤ length kinds
-entry_few Unassigned = omega arith
-entry_few (Assigned k) = omega (arith, (listed k).0)
+pub entry_few : (x : Option Kind) → entry_number x ≤ length kinds
+entry_few None = omega arith
+entry_few (Some k) = omega (arith, (listed k).0)
 
-pub entry_fixed : (x y : Entry) → T (eqb (entry_number x) (entry_number y)) → x ≡ y
+pub entry_fixed : (x y : Option Kind) → T (eqb (entry_number x) (entry_number y)) → x ≡ y
 entry_fixed x y t = sym (entry_is x) ∙ ap entry_at (eqb→eq (entry_number x) (entry_number y) t) ∙ entry_is y
 
 -- ---- Words, whose opcode, e and f the code computes by / and %

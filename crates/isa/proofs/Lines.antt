@@ -18,11 +18,11 @@ use Rattle.word.proofs.Signed.{signed_is, low_lt}
 use Rattle.kinds.specs.declared.Kind.{Kind}
 use Rattle.kinds.specs.declared.Kind.TheVariants.{And}
 use Rattle.isa.specs.declared.Instruction.{Instruction}
-use Rattle.isa.specs.declared.Writing.TheVariants.{Refused}
+use Rattle.std.specs.declared.result.Result.TheVariants.{Err}
 use Rattle.isa.specs.declared.layout.Form.{Form}
 use Rattle.isa.specs.declared.layout.Form.TheVariants.{Abd, Axd, AdSigned, AbSigned, Adx, ASigned, AUnsigned, DSigned, DUnsigned, Xxx, Xxd}
 use Rattle.isa.specs.declared.layout.Layout.{Layout}
-use Rattle.isa.specs.declared.parts.Low.TheVariants.{Nothing, Bits}
+use Rattle.std.specs.declared.option.Option.TheVariants.{Some, None}
 use Rattle.kinds.specs.Kinds.{kinds, kind_number}
 use Rattle.isa.specs.Sheet.{Format, R3, R3-NOT, R2-ab, R2-ad, R2-JALR, R1-a, R1-d, R0, R1-GETIID, Code, F, E, only, Number, signed_n, unsigned_n, Line, sheet_line}
 use Rattle.isa.specs.Instructions.{parts_of, word, write_refused, shown_writing, in_range, word_of, write_as}
@@ -142,7 +142,7 @@ word_in (Xxx v) g a b d x p q r s = omega (arith, g.low)
 word_in (Xxd v) g a b d x p q r s = omega (arith, g.low)
 
 bits_in : (y : Form) (n : ℤ) → bits_of (layout_of y).size (layout_of y).negatives n
-    ≡ pick (in_range (line_of y).number (line_of y).format.n n) (Bits (low_bits (line_of y).format.n.count n)) Nothing
+    ≡ pick (in_range (line_of y).number (line_of y).format.n n) (Some (low_bits (line_of y).format.n.count n)) None
 bits_in (Abd v) n = unsigned_bits 0 n
 bits_in (Axd v) n = unsigned_bits 0 n
 bits_in (AdSigned v) n = signed_bits 6 31 n refl
@@ -177,7 +177,7 @@ sizes (Xxd v) = record { a = refl; b = refl; d = refl; n = refl }
 
 -- the code's tests one after the other are the line's
 tested : (a b d n : Bool) (m : Layout) (i : Instruction) (x v : ℕ) → (a ≡ true → b ≡ true → d ≡ true → word_sum m i.a i.b i.d x ≡ v)
-    → shown_writing (pick a (pick b (pick d (write_bits m i (pick n (Bits x) Nothing)) (Refused InstructionPart)) (Refused InstructionPart)) (Refused InstructionPart))
+    → shown_writing (pick a (pick b (pick d (write_bits m i (pick n (Some x) None)) (Err InstructionPart)) (Err InstructionPart)) (Err InstructionPart))
     ≡ pick (a && b && d && n) (word v) (write_refused 7)
 tested true true true true m i x v h = ap word (h refl refl refl)
 tested true true true false m i x v h = refl

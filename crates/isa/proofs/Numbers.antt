@@ -12,7 +12,7 @@ use lib.IntN.{ℤ, pos, negsuc}
 use lib.Signed.{le_z, lt_z}
 use Rattle.word.specs.Word.{pick, low_bits}
 use Rattle.word.proofs.Tests.{clash}
-use Rattle.isa.specs.declared.parts.Low.TheVariants.{Nothing, Bits}
+use Rattle.std.specs.declared.option.Option.TheVariants.{Some, None}
 use Rattle.isa.specs.Layouts.{number_of, bits_of}
 
 -- ---- The code's forms
@@ -21,27 +21,27 @@ pub unsigned_is : (size x : ℕ) → x < size → number_of size 0 x ≡ pos x
 unsigned_is size x h = let l : x < size - 0 = omega arith in rw (lt-ltb _ _ l)
 
 -- bits x under a test that says whether x is among `size` numbers
-few : (b : Bool) (x y : ℕ) → (b ≡ true → x ≡ y) → pick b (Bits x) Nothing ≡ pick b (Bits y) Nothing
-few true x y h = ap Bits (h refl)
+few : (b : Bool) (x y : ℕ) → (b ≡ true → x ≡ y) → pick b (Some x) None ≡ pick b (Some y) None
+few true x y h = ap Some (h refl)
 few false x y h = refl
 
 and_true : (b : Bool) → b && true ≡ b
 and_true true = refl
 and_true false = refl
 
-pub unsigned_bits : (k : ℕ) (n : ℤ) → bits_of (2 ^ k) 0 n ≡ pick (le_z (pos 0) n && lt_z n (pos (2 ^ k))) (Bits (low_bits k n)) Nothing
+pub unsigned_bits : (k : ℕ) (n : ℤ) → bits_of (2 ^ k) 0 n ≡ pick (le_z (pos 0) n && lt_z n (pos (2 ^ k))) (Some (low_bits k n)) None
 unfolding low_bits
 unsigned_bits k (pos x) =
     rw (leb-zero x)
-    (ap (λ (s : ℕ). pick (ltb x s) (Bits x) Nothing) (omega arith)
+    (ap (λ (s : ℕ). pick (ltb x s) (Some x) None) (omega arith)
     ∙ few (ltb x (2 ^ k)) x (x % 2 ^ k) (λ t. sym (mod-eq_of_lt (ltb-true _ _ t))))
 unsigned_bits k (negsuc y) = let l : 0 ≤ y = omega arith in rw (le-ltb _ _ l)
 
 -- half of the 2^k numbers, suc g of them, are negative
-pub signed_bits : (k g : ℕ) (n : ℤ) → 2 ^ k ≡ suc g + suc g → bits_of (2 ^ k) (suc g) n ≡ pick (le_z (negsuc g) n && lt_z n (pos (suc g))) (Bits (low_bits k n)) Nothing
+pub signed_bits : (k g : ℕ) (n : ℤ) → 2 ^ k ≡ suc g + suc g → bits_of (2 ^ k) (suc g) n ≡ pick (le_z (negsuc g) n && lt_z n (pos (suc g))) (Some (low_bits k n)) None
 unfolding low_bits
 signed_bits k g (pos x) h =
-    ap (λ (s : ℕ). pick (ltb x s) (Bits x) Nothing) (omega arith)
+    ap (λ (s : ℕ). pick (ltb x s) (Some x) None) (omega arith)
     ∙ few (ltb x (suc g)) x (x % 2 ^ k) (λ t. let l : x < suc g = ltb-true _ _ t in sym (mod-eq_of_lt (omega arith)))
 signed_bits k g (negsuc y) h =
     rw (leb-suc-suc y g, and_true (leb y g))
@@ -49,12 +49,12 @@ signed_bits k g (negsuc y) h =
 
 -- ---- Number and bits give each other back
 
-pick_bits : (t : Bool) (x y : ℕ) → pick t (Bits x) Nothing ≡ Bits y → (t ≡ true) × (x ≡ y)
+pick_bits : (t : Bool) (x y : ℕ) → pick t (Some x) None ≡ Some y → (t ≡ true) × (x ≡ y)
 pick_bits true x y e = (refl, cc)
 pick_bits false x y e = clash (cc)
 
 -- the bits of a number are below the size and stand for it
-pub back : (size negatives : ℕ) (n : ℤ) (x : ℕ) → negatives < size → bits_of size negatives n ≡ Bits x → (x < size) × (number_of size negatives x ≡ n)
+pub back : (size negatives : ℕ) (n : ℤ) (x : ℕ) → negatives < size → bits_of size negatives n ≡ Some x → (x < size) × (number_of size negatives x ≡ n)
 back size negatives (pos v) x h e =
     let p = pick_bits (ltb v (size - negatives)) v x e in
     let q = ltb-true v (size - negatives) p.0 in

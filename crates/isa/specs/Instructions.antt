@@ -1,17 +1,14 @@
 -- Reading and writing one instruction (01, "Reading and writing one instruction").
-use Rattle.std.specs.Prelude.{ℕ, ◌+◌, ◌-◌, ◌*◌, ◌^◌, Bool, ◌&&◌, ltb, ℤ, pos, neg_ℤ}
+use Rattle.std.specs.Prelude.{ℕ, ◌+◌, ◌-◌, ◌*◌, ◌^◌, Bool, ◌&&◌, ltb, ℤ, pos, neg_ℤ, Option, Result}
+use Rattle.std.specs.declared.option.Option.TheVariants.{Some, None}
+use Rattle.std.specs.declared.result.Result.TheVariants.{Ok, Err}
 use Rattle.std.specs.Int.Signed.{le_z, lt_z}
+use Rattle.refusal.specs.declared.Refusal.{Refusal}
 use Rattle.refusal.specs.Refusals.{refusal_number}
 use Rattle.word.specs.Fields.{Bits, bits, field, opcode, e_of, f_of}
 use Rattle.word.specs.Word.{pick, signed, low_bits}
 use Rattle.kinds.specs.declared.Kind.{Kind}
 use Rattle.isa.specs.declared.Instruction.{Instruction}
-use Rattle.isa.specs.declared.rows.Entry.{Entry}
-use Rattle.isa.specs.declared.rows.Entry.TheVariants.{Unassigned, Assigned}
-use Rattle.isa.specs.declared.Reading.{Reading}
-use Rattle.isa.specs.declared.Reading.TheVariants.{Instruction as ReadInstruction, Unassigned as ReadUnassigned}
-use Rattle.isa.specs.declared.Writing.{Writing}
-use Rattle.isa.specs.declared.Writing.TheVariants.{Word, Refused}
 use Rattle.isa.specs.Sheet.{Code, F, E, only, Number, signed_n, unsigned_n, Line, sheet_line, kind_at}
 
 -- ---- The registers of an instruction, each in a part of it
@@ -31,9 +28,9 @@ pub data Read : Type 0 where
   instruction : Instruction → Read
   unassigned : Read
 
-abbrev pub shown_reading : Reading → Read
-shown_reading (ReadInstruction i) = instruction i
-shown_reading ReadUnassigned = unassigned
+abbrev pub shown_reading : Option Instruction → Read
+shown_reading (Some i) = instruction i
+shown_reading None = unassigned
 
 -- the number that x in the bits of n stands for
 abbrev pub number_in : Number → Bits → ℕ → ℤ
@@ -51,9 +48,9 @@ parts_of l k w =
       n = number_in l.number l.format.n (field l.format.n w);
     }
 
-abbrev pub read_as : Entry → ℕ → Read
-read_as (Assigned k) w = instruction (parts_of (sheet_line k) k w)
-read_as Unassigned w = unassigned
+abbrev pub read_as : Option Kind → ℕ → Read
+read_as (Some k) w = instruction (parts_of (sheet_line k) k w)
+read_as None w = unassigned
 
 unfoldable pub read_of : ℕ → Read
 read_of w = read_as (kind_at (opcode w) (e_of w) (f_of w)) w
@@ -65,9 +62,9 @@ pub data WriteReply : Type 0 where
   word : ℕ → WriteReply
   write_refused : ℕ → WriteReply
 
-abbrev pub shown_writing : Writing → WriteReply
-shown_writing (Word w) = word w
-shown_writing (Refused r) = write_refused (refusal_number r)
+abbrev pub shown_writing : Result ℕ Refusal → WriteReply
+shown_writing (Ok w) = word w
+shown_writing (Err r) = write_refused (refusal_number r)
 
 -- n is one of the numbers that its bits can stand for
 abbrev pub in_range : Number → Bits → ℤ → Bool

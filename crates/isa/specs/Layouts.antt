@@ -1,25 +1,22 @@
 -- The sheet's lines in the numbers that the code computes with. Nothing here is promised to a caller: proofs/Lines.antt
 -- shows that each layout says what the sheet's line says.
-use Rattle.std.specs.Prelude.{ℕ, suc, ◌+◌, ◌-◌, ◌*◌, ◌/◌, ◌%◌, ◌^◌, ◌<◌, ◌≤◌, List, [], ◌∷◌, eqb, ltb, ℤ, pos, negsuc, length, get_or}
+use Rattle.std.specs.Prelude.{ℕ, suc, ◌+◌, ◌-◌, ◌*◌, ◌/◌, ◌%◌, ◌^◌, ◌<◌, ◌≤◌, List, [], ◌∷◌, eqb, ltb, ℤ, pos, negsuc, length, get_or, Option, Result}
+use Rattle.std.specs.declared.option.Option.TheVariants.{Some, None}
+use Rattle.std.specs.declared.result.Result.TheVariants.{Ok, Err}
+use Rattle.refusal.specs.declared.Refusal.{Refusal}
 use Rattle.refusal.specs.declared.Refusal.TheVariants.{InstructionPart}
 use Rattle.word.specs.Word.{pick}
 use Rattle.kinds.specs.declared.Kind.{Kind}
 use Rattle.isa.specs.declared.Instruction.{Instruction}
-use Rattle.isa.specs.declared.Writing.{Writing}
-use Rattle.isa.specs.declared.Writing.TheVariants.{Word, Refused}
 use Rattle.isa.specs.declared.layout.Form.{Form}
 use Rattle.isa.specs.declared.layout.Form.TheVariants.{Abd, Axd, AdSigned, AbSigned, Adx, ASigned, AUnsigned, DSigned, DUnsigned, Xxx, Xxd}
 use Rattle.isa.specs.declared.layout.Layout.{Layout}
-use Rattle.isa.specs.declared.parts.Low.{Low}
-use Rattle.isa.specs.declared.parts.Low.TheVariants.{Nothing, Bits}
-use Rattle.isa.specs.declared.rows.Entry.{Entry}
-use Rattle.isa.specs.declared.rows.Entry.TheVariants.{Unassigned, Assigned}
 use Rattle.kinds.specs.Kinds.{kinds, kind_number}
 
 -- the number of an entry's kind; where there is none, how many kinds there are
-abbrev pub entry_number : Entry → ℕ
-entry_number (Assigned k) = kind_number k
-entry_number Unassigned = length kinds
+abbrev pub entry_number : Option Kind → ℕ
+entry_number (Some k) = kind_number k
+entry_number None = length kinds
 
 -- by the kind's number
 abbrev pub forms : List Form
@@ -77,9 +74,9 @@ abbrev pub number_of : ℕ → ℕ → ℕ → ℤ
 number_of size negatives x = pick (ltb x (size - negatives)) (pos x) (negsuc (size - suc x))
 
 -- the bits of n where -negatives ≤ n < size - negatives
-abbrev pub bits_of : ℕ → ℕ → ℤ → Low
-bits_of size negatives (pos x) = pick (ltb x (size - negatives)) (Bits x) Nothing
-bits_of size negatives (negsuc y) = pick (ltb y negatives) (Bits (size - suc y)) Nothing
+abbrev pub bits_of : ℕ → ℕ → ℤ → Option ℕ
+bits_of size negatives (pos x) = pick (ltb x (size - negatives)) (Some x) None
+bits_of size negatives (negsuc y) = pick (ltb y negatives) (Some (size - suc y)) None
 
 abbrev pub fields_of : Layout → Kind → ℕ → Instruction
 fields_of m k w =
@@ -91,14 +88,14 @@ fields_of m k w =
       n = number_of m.size m.negatives (w % m.size);
     }
 
-abbrev pub write_bits : Layout → Instruction → Low → Writing
-write_bits m i Nothing = Refused InstructionPart
-write_bits m i (Bits x) = Word (word_sum m i.a i.b i.d x)
+abbrev pub write_bits : Layout → Instruction → Option ℕ → Result ℕ Refusal
+write_bits m i None = Err InstructionPart
+write_bits m i (Some x) = Ok (word_sum m i.a i.b i.d x)
 
-abbrev pub write_in : Layout → Instruction → Writing
+abbrev pub write_in : Layout → Instruction → Result ℕ Refusal
 write_in m i =
     pick (ltb i.a m.a)
     (pick (ltb i.b m.b)
-    (pick (ltb i.d m.d) (write_bits m i (bits_of m.size m.negatives i.n)) (Refused InstructionPart))
-    (Refused InstructionPart))
-    (Refused InstructionPart)
+    (pick (ltb i.d m.d) (write_bits m i (bits_of m.size m.negatives i.n)) (Err InstructionPart))
+    (Err InstructionPart))
+    (Err InstructionPart)

@@ -1,5 +1,6 @@
 -- Which registers an instruction touches (02, L4). In a mask of 8 bits, bit k stands for Rk.
-use Rattle.std.specs.Prelude.{ℕ, ◌^◌, Bool, eqb}
+use Rattle.std.specs.Prelude.{ℕ, ◌^◌, Bool, eqb, Option}
+use Rattle.std.specs.declared.option.Option.TheVariants.{Some, None}
 use Rattle.std.specs.Int.Bits.{bit_or}
 use Rattle.word.specs.Fields.{Bits, bits, field, opcode, e_of, f_of}
 use Rattle.word.specs.Word.{pick}
@@ -7,8 +8,6 @@ use Rattle.kinds.specs.declared.Kind.{Kind}
 use Rattle.kinds.specs.declared.Kind.TheVariants.{Movhi}
 use Rattle.kinds.specs.Kinds.{kind_number}
 use Rattle.isa.specs.declared.Decoded.{Decoded}
-use Rattle.isa.specs.declared.rows.Entry.{Entry}
-use Rattle.isa.specs.declared.rows.Entry.TheVariants.{Unassigned, Assigned}
 use Rattle.isa.specs.Sheet.{sheet_line, kind_at}
 use Rattle.isa.specs.Instructions.{Read, shown_reading, read_of}
 
@@ -41,9 +40,9 @@ abbrev pub writes_of : Kind → ℕ → ℕ
 writes_of k w = register_mask (sheet_line k).format.d w
 
 -- unassigned words give 0 and 0
-abbrev pub masks_as : Entry → ℕ → Masks
-masks_as (Assigned k) w = record { reads = reads_of k w; writes = writes_of k w }
-masks_as Unassigned w = record { reads = 0; writes = 0 }
+abbrev pub masks_as : Option Kind → ℕ → Masks
+masks_as (Some k) w = record { reads = reads_of k w; writes = writes_of k w }
+masks_as None w = record { reads = 0; writes = 0 }
 
 unfoldable pub masks_of : ℕ → Masks
 masks_of w = masks_as (kind_at (opcode w) (e_of w) (f_of w)) w

@@ -1,12 +1,11 @@
 -- The reference sheet (004): its instruction formats, its table, a line for each of its 25 instructions, and the opcodes; with the five
 -- instructions of opcode 11 (02, L6) and the four of opcode 12 (02, L12).
-use Rattle.std.specs.Prelude.{ℕ, List, [], ◌∷◌, eqb, get_or}
+use Rattle.std.specs.Prelude.{ℕ, List, [], ◌∷◌, eqb, get_or, Option}
+use Rattle.std.specs.declared.option.Option.TheVariants.{Some, None}
 use Rattle.word.specs.Fields.{Bits, bits}
 use Rattle.word.specs.Word.{pick}
 use Rattle.kinds.specs.declared.Kind.{Kind}
 use Rattle.kinds.specs.declared.Kind.TheVariants.{And, Or, Xor, Not, Add, Sub, Sha, Shl, Cmplt, Cmple, Cmpeq, Cmpltu, Cmpleu, Addi, Ld, St, Ldb, Stb, Jalr, Bz, Bnz, Movi, Movhi, In, Out, Mul, Mulh, Mulhu, Div, Divu, Ei, Di, Reti, Getiid}
-use Rattle.isa.specs.declared.rows.Entry.{Entry}
-use Rattle.isa.specs.declared.rows.Entry.TheVariants.{Unassigned, Assigned}
 
 -- ---- Instruction formats: where the parts a, b, d and n stand in the word. A part that a format lacks is `no_bits`: no
 -- instruction of that format uses it. `ignored` are the bits x, which reading ignores and writing sets to 0.
@@ -156,26 +155,26 @@ sheet_line Getiid = line R1-GETIID 0xC (F 3)
 -- ---- The opcodes: what tells the instructions of one opcode apart is f, nothing, or e; or the opcode is unassigned.
 
 pub data KindRow : Type 0 where
-  by_f : List Entry → KindRow
+  by_f : List (Option Kind) → KindRow
   one : Kind → KindRow
   by_e : Kind → Kind → KindRow
   unassigned : KindRow
 
 -- AND, OR, XOR, NOT, ADD, SUB, SHA, SHL
-abbrev pub operation_kinds : List Entry
-operation_kinds = Assigned And ∷ Assigned Or ∷ Assigned Xor ∷ Assigned Not ∷ Assigned Add ∷ Assigned Sub ∷ Assigned Sha ∷ Assigned Shl ∷ []
+abbrev pub operation_kinds : List (Option Kind)
+operation_kinds = Some And ∷ Some Or ∷ Some Xor ∷ Some Not ∷ Some Add ∷ Some Sub ∷ Some Sha ∷ Some Shl ∷ []
 
 -- CMPLT, CMPLE, -, CMPEQ, CMPLTU, CMPLEU, -, -
-abbrev pub comparison_kinds : List Entry
-comparison_kinds = Assigned Cmplt ∷ Assigned Cmple ∷ Unassigned ∷ Assigned Cmpeq ∷ Assigned Cmpltu ∷ Assigned Cmpleu ∷ Unassigned ∷ Unassigned ∷ []
+abbrev pub comparison_kinds : List (Option Kind)
+comparison_kinds = Some Cmplt ∷ Some Cmple ∷ None ∷ Some Cmpeq ∷ Some Cmpltu ∷ Some Cmpleu ∷ None ∷ None ∷ []
 
 -- MUL, MULH, MULHU, -, DIV, DIVU, -, -
-abbrev pub muldiv_kinds : List Entry
-muldiv_kinds = Assigned Mul ∷ Assigned Mulh ∷ Assigned Mulhu ∷ Unassigned ∷ Assigned Div ∷ Assigned Divu ∷ Unassigned ∷ Unassigned ∷ []
+abbrev pub muldiv_kinds : List (Option Kind)
+muldiv_kinds = Some Mul ∷ Some Mulh ∷ Some Mulhu ∷ None ∷ Some Div ∷ Some Divu ∷ None ∷ None ∷ []
 
 -- EI, DI, RETI, GETIID, and other f unassigned
-abbrev pub interrupt_kinds : List Entry
-interrupt_kinds = Assigned Ei ∷ Assigned Di ∷ Assigned Reti ∷ Assigned Getiid ∷ Unassigned ∷ Unassigned ∷ Unassigned ∷ Unassigned ∷ []
+abbrev pub interrupt_kinds : List (Option Kind)
+interrupt_kinds = Some Ei ∷ Some Di ∷ Some Reti ∷ Some Getiid ∷ None ∷ None ∷ None ∷ None ∷ []
 
 abbrev pub kind_rows : List KindRow
 kind_rows =
@@ -202,12 +201,12 @@ kind_rows =
     ∷ unassigned
     ∷ []
 
-abbrev pub kind_in_row : KindRow → ℕ → ℕ → Entry
-kind_in_row (by_f entries) e f = get_or entries f Unassigned
-kind_in_row (one k) e f = Assigned k
-kind_in_row (by_e k₀ k₁) e f = pick (eqb e 0) (Assigned k₀) (Assigned k₁)
-kind_in_row unassigned e f = Unassigned
+abbrev pub kind_in_row : KindRow → ℕ → ℕ → Option Kind
+kind_in_row (by_f entries) e f = get_or entries f None
+kind_in_row (one k) e f = Some k
+kind_in_row (by_e k₀ k₁) e f = pick (eqb e 0) (Some k₀) (Some k₁)
+kind_in_row unassigned e f = None
 
 -- the kind of the words with this opcode, e and f
-unfoldable pub kind_at : ℕ → ℕ → ℕ → Entry
+unfoldable pub kind_at : ℕ → ℕ → ℕ → Option Kind
 kind_at op e f = kind_in_row (get_or kind_rows op unassigned) e f

@@ -1,8 +1,6 @@
 // The sheet's lines in the numbers that reading and writing compute with.
-ghost use Rattle.std.specs.Prelude.{◌≡◌, ◌<◌, length, get_or};
-ghost use Rattle.isa.specs.declared.layout.Form.TheVariants.{Abd};
-ghost use Rattle.kinds.specs.Kinds.{kinds};
-ghost use Rattle.isa.specs.Layouts.{forms, form_of, numbers_of, layout_of, Sound};
+ghost use Rattle.std.specs.Prelude.{◌≡◌};
+ghost use Rattle.isa.specs.Layouts.{form_of, numbers_of, layout_of, Sound};
 
 use kinds::Kind;
 
@@ -45,50 +43,65 @@ pub struct Layout {
     pub negatives: u16,
 }
 
-// The form of each kind, by the kind's number.
-const FORMS: [Form; 34] = [
-    Form::Abd(0x0000), // AND
-    Form::Abd(0x0001), // OR
-    Form::Abd(0x0002), // XOR
-    Form::Axd(0x0003), // NOT
-    Form::Abd(0x0004), // ADD
-    Form::Abd(0x0005), // SUB
-    Form::Abd(0x0006), // SHA
-    Form::Abd(0x0007), // SHL
-    Form::Abd(0x1000), // CMPLT
-    Form::Abd(0x1001), // CMPLE
-    Form::Abd(0x1003), // CMPEQ
-    Form::Abd(0x1004), // CMPLTU
-    Form::Abd(0x1005), // CMPLEU
-    Form::AdSigned(0x2000), // ADDI
-    Form::AdSigned(0x3000), // LD
-    Form::AbSigned(0x4000), // ST
-    Form::AdSigned(0x5000), // LDB
-    Form::AbSigned(0x6000), // STB
-    Form::Adx(0x7000), // JALR
-    Form::ASigned(0x8000), // BZ
-    Form::ASigned(0x8100), // BNZ
-    Form::DSigned(0x9000), // MOVI
-    Form::DUnsigned(0x9100), // MOVHI
-    Form::DUnsigned(0xA000), // IN
-    Form::AUnsigned(0xA100), // OUT
-    Form::Abd(0xB000), // MUL
-    Form::Abd(0xB001), // MULH
-    Form::Abd(0xB002), // MULHU
-    Form::Abd(0xB004), // DIV
-    Form::Abd(0xB005), // DIVU
-    Form::Xxx(0xC000), // EI
-    Form::Xxx(0xC001), // DI
-    Form::Xxx(0xC002), // RETI
-    Form::Xxd(0xC003), // GETIID
-];
+impl Form {
+    fn of(kind: Kind) -> Form
+        ensures { result ≡ form_of kind }
+    {
+        match kind {
+            Kind::And => Form::Abd(0x0000),
+            Kind::Or => Form::Abd(0x0001),
+            Kind::Xor => Form::Abd(0x0002),
+            Kind::Not => Form::Axd(0x0003),
+            Kind::Add => Form::Abd(0x0004),
+            Kind::Sub => Form::Abd(0x0005),
+            Kind::Sha => Form::Abd(0x0006),
+            Kind::Shl => Form::Abd(0x0007),
+            Kind::Cmplt => Form::Abd(0x1000),
+            Kind::Cmple => Form::Abd(0x1001),
+            Kind::Cmpeq => Form::Abd(0x1003),
+            Kind::Cmpltu => Form::Abd(0x1004),
+            Kind::Cmpleu => Form::Abd(0x1005),
+            Kind::Addi => Form::AdSigned(0x2000),
+            Kind::Ld => Form::AdSigned(0x3000),
+            Kind::St => Form::AbSigned(0x4000),
+            Kind::Ldb => Form::AdSigned(0x5000),
+            Kind::Stb => Form::AbSigned(0x6000),
+            Kind::Jalr => Form::Adx(0x7000),
+            Kind::Bz => Form::ASigned(0x8000),
+            Kind::Bnz => Form::ASigned(0x8100),
+            Kind::Movi => Form::DSigned(0x9000),
+            Kind::Movhi => Form::DUnsigned(0x9100),
+            Kind::In => Form::DUnsigned(0xA000),
+            Kind::Out => Form::AUnsigned(0xA100),
+            Kind::Mul => Form::Abd(0xB000),
+            Kind::Mulh => Form::Abd(0xB001),
+            Kind::Mulhu => Form::Abd(0xB002),
+            Kind::Div => Form::Abd(0xB004),
+            Kind::Divu => Form::Abd(0xB005),
+            Kind::Ei => Form::Xxx(0xC000),
+            Kind::Di => Form::Xxx(0xC001),
+            Kind::Reti => Form::Xxx(0xC002),
+            Kind::Getiid => Form::Xxd(0xC003),
+        }
+    }
 
-fn form_at(number: u8) -> Form
-    requires { number < length kinds }
-    ensures { result ≡ get_or forms number (Abd 0) }
-{
-    let at = number as usize;
-    FORMS[at]
+    fn layout(self) -> Layout
+        ensures { result ≡ layout_of self }
+    {
+        match self {
+            Form::Abd(base) => numbers(base, 8, 8, 8, 8, 1, 0),
+            Form::Axd(base) => numbers(base, 8, 1, 8, 8, 1, 0),
+            Form::AdSigned(base) => numbers(base, 8, 1, 8, 64, 64, 32),
+            Form::AbSigned(base) => numbers(base, 8, 8, 1, 64, 64, 32),
+            Form::Adx(base) => numbers(base, 8, 1, 8, 64, 1, 0),
+            Form::ASigned(base) => numbers(base, 8, 1, 1, 512, 256, 128),
+            Form::AUnsigned(base) => numbers(base, 8, 1, 1, 512, 256, 0),
+            Form::DSigned(base) => numbers(base, 1, 1, 8, 512, 256, 128),
+            Form::DUnsigned(base) => numbers(base, 1, 1, 8, 512, 256, 0),
+            Form::Xxx(base) => numbers(base, 1, 1, 1, 8, 1, 0),
+            Form::Xxd(base) => numbers(base, 1, 1, 8, 8, 1, 0),
+        }
+    }
 }
 
 fn numbers(base: u16, a: u16, b: u16, d: u16, weight: u16, size: u16, negatives: u16) -> Layout
@@ -105,27 +118,11 @@ fn numbers(base: u16, a: u16, b: u16, d: u16, weight: u16, size: u16, negatives:
     }
 }
 
-fn in_numbers(form: Form) -> Layout
-    ensures { result ≡ layout_of form }
-{
-    match form {
-        Form::Abd(base) => numbers(base, 8, 8, 8, 8, 1, 0),
-        Form::Axd(base) => numbers(base, 8, 1, 8, 8, 1, 0),
-        Form::AdSigned(base) => numbers(base, 8, 1, 8, 64, 64, 32),
-        Form::AbSigned(base) => numbers(base, 8, 8, 1, 64, 64, 32),
-        Form::Adx(base) => numbers(base, 8, 1, 8, 64, 1, 0),
-        Form::ASigned(base) => numbers(base, 8, 1, 1, 512, 256, 128),
-        Form::AUnsigned(base) => numbers(base, 8, 1, 1, 512, 256, 0),
-        Form::DSigned(base) => numbers(base, 1, 1, 8, 512, 256, 128),
-        Form::DUnsigned(base) => numbers(base, 1, 1, 8, 512, 256, 0),
-        Form::Xxx(base) => numbers(base, 1, 1, 1, 8, 1, 0),
-        Form::Xxd(base) => numbers(base, 1, 1, 8, 8, 1, 0),
+impl Layout {
+    pub fn of(kind: Kind) -> Layout
+        ensures is { result ≡ layout_of (form_of kind) }
+        ensures sound { Sound result }
+    {
+        Form::of(kind).layout()
     }
-}
-
-pub fn layout_of(kind: Kind) -> Layout
-    ensures is { result ≡ layout_of (form_of kind) }
-    ensures sound { Sound result }
-{
-    in_numbers(form_at(kinds::kind_number(kind)))
 }

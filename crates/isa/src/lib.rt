@@ -5,6 +5,7 @@ ghost use Rattle.std.specs.Prelude.{◌≡◌};
 ghost use Rattle.isa.specs.Instructions.{write_of, shown_writing};
 ghost use Rattle.isa.specs.Masks.{decoding_of, shown_decoded};
 
+use crate::layout::Layout;
 use kinds::Kind;
 use refusal::Refusal;
 
@@ -23,53 +24,40 @@ pub struct Instruction {
     pub n: i16,
 }
 
-#[derive(Clone, Copy)]
-pub enum Reading {
-    Instruction(Instruction),
-    Unassigned,
-}
-
 // What a word reads as, and the registers that it touches, bit k of a mask for Rk: those whose value it uses, and the one that it
 // writes, if any. Both masks are 0 where the word is unassigned.
 #[derive(Clone, Copy)]
 pub struct Decoded {
-    pub reading: Reading,
+    pub reading: Option<Instruction>,
     pub reads: u8,
     pub writes: u8,
 }
 
-#[derive(Clone, Copy)]
-pub enum Writing {
-    Word(u16),
-    Refused(Refusal),
-}
-
 // The instruction that a word stands for, and the registers that it touches.
+#[tactic(auto, unfolding(crate::specs::Instructions::read_of, crate::specs::Masks::masks_of))]
 pub fn read(w: u16) -> Decoded
     ensures { shown_decoded result ≡ decoding_of w }
 {
     match rows::kind_of(w) {
-        rows::Entry::Unassigned => Decoded {
-            reading: Reading::Unassigned,
-            reads: 0,
-            writes: 0,
-        },
-        rows::Entry::Assigned(kind) => {
+        Some(kind) => {
             let touched = masks::touched_by(kind, w);
             Decoded {
-                reading: Reading::Instruction(parts::parts_of(kind, w)),
+                reading: Some(parts::parts_of(kind, w)),
                 reads: touched.reads,
                 writes: touched.writes,
             }
         }
+        None => Decoded {
+            reading: None,
+            reads: 0,
+            writes: 0,
+        },
     }
 }
 
 // The word of an instruction, or refusal 7.
-pub fn write(i: Instruction) -> Writing
+pub fn write(i: Instruction) -> Result<u16, Refusal>
     ensures { shown_writing result ≡ write_of i }
 {
-    let kind = i.kind;
-    let m = layout::layout_of(kind);
-    parts::word_of(m, i)
+    Layout::of(i.kind).word_of(i)
 }

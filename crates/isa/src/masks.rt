@@ -14,41 +14,25 @@ pub struct Touched {
     pub writes: u8,
 }
 
-const MOVHI: u8 = 22;
-
 // Rk alone; none where the part has one value only, so that the kind does not use it.
 fn register_mask(values: u16, k: u16) -> u8
     requires { k < 8 }
     ensures { result ≡ mask_in values k }
 {
-    if values == 1 {
-        return 0;
-    }
-    1 << k
-}
-
-// The register written is read too.
-fn reads_destination(kind: Kind) -> bool
-    ensures { result ≡ reads_destination kind }
-{
-    kinds::kind_number(kind) == MOVHI
-}
-
-fn chosen(test: bool, mask: u8) -> u8
-    ensures { result ≡ pick test mask 0 }
-{
-    if test { mask } else { 0 }
+    if values == 1 { 0 } else { 1 << k }
 }
 
 pub fn touched_by(kind: Kind, w: u16) -> Touched
     ensures { (result.reads ≡ reads_of kind w) × (result.writes ≡ writes_of kind w) }
 {
-    let m = crate::layout::layout_of(kind);
+    let m = Layout::of(kind);
     let a = register_mask(m.a, w / 512 % 8);
     let b = register_mask(m.b, w / 64 % 8);
     let d = register_mask(m.d, w / m.weight % 8);
+    // It keeps the low byte of the register that it writes.
+    let kept = if kind == Kind::Movhi { d } else { 0 };
     Touched {
-        reads: a | b | chosen(reads_destination(kind), d),
+        reads: a | b | kept,
         writes: d,
     }
 }

@@ -1,28 +1,31 @@
--- What the arms of `undo` promise, by the number `what`.
+-- What the arms of `undo` promise, by what an entry says was overwritten.
 -- Assumes nothing.
-use mathlib.Core.Path.{◌≡◌, refl, sym, ap, ◌∙◌}
+use mathlib.Core.Path.{◌≡◌, sym, ap, ◌∙◌}
 use mathlib.Core.List.{List}
-use Prim.Native.Nat.{ℕ, zero, suc, ◌-◌, ◌≤◌}
-use native.Mathlib.Omega.{arith}
-use lib.ListN.{get_or}
-use Rattle.word.proofs.Tables.{vacant}
+use Prim.Native.Nat.{ℕ, ◌-◌, ◌/◌, ◌%◌}
+use lib.ListN.{get_or, get_or-map}
+use Rattle.word.specs.Word.{clear0}
 use Rattle.machine.specs.declared.State.{State}
 use Rattle.machine.specs.Machine.{put_pc, put_n, on_state}
-use Rattle.journal.specs.Journal.{Overwritten, nothing, pc_in, what_in, readings, overwritten_in, put_back, undo}
-use Rattle.journal.specs.Parts.{machine_with, IsUndone}
+use Rattle.journal.specs.declared.What.{What}
+use Rattle.journal.specs.declared.What.TheVariants.{Nothing, Register, DataWord, DataByte, Output, KeyRead, EnableFlag, LineTaken}
+use Rattle.journal.specs.Journal.{Overwritten, nothing, register, data_word, data_byte, output_word, key_read, enable_flag, line_taken, value_in, place_in, which_in, pc_in, what_in, readings, overwritten_in, put_back, undo}
+use Rattle.journal.specs.Parts.{whats, machine_with, IsUndone}
 
 -- PC is that before the step, and n is less by 1
 abbrev pub retreated_by : ℕ → State → State
 retreated_by x s = put_pc (pc_in x) (put_n (s.n - 1) s)
 
--- f is none of the numbers 1 to n, as a `match` tells it to its last arm
-abbrev NoneTo : ℕ → ℕ → Type 0
-NoneTo zero f = Unit {0}
-NoneTo (suc n) f = NoneTo n f × (f ≡ suc n → ⊥)
-
-pub over_to : (n f : ℕ) → NoneTo n f → (f ≡ 0 → ⊥) → suc n ≤ f
-over_to zero f p z = omega arith
-over_to (suc n) f p z = omega (arith, over_to n f p.0 z)
+-- what a number says, by what was overwritten
+abbrev pub reading_of : ℕ → What → Overwritten
+reading_of x Nothing = nothing
+reading_of x Register = register (place_in x % 8) (value_in x)
+reading_of x DataWord = data_word (clear0 (place_in x)) (value_in x)
+reading_of x DataByte = data_byte (place_in x) (value_in x)
+reading_of x Output = output_word (place_in x % 256) (value_in x)
+reading_of x KeyRead = key_read (which_in x % 8) (value_in x) (place_in x)
+reading_of x EnableFlag = enable_flag (value_in x % 256)
+reading_of x LineTaken = line_taken (which_in x % 8) (place_in x % 256) (place_in x / 256) (value_in x)
 
 module _ (x : ℕ) (s : State) (D I O : List ℕ) (s' : State) (D' I' O' : List ℕ) where
   -- what is overwritten is put back
@@ -33,8 +36,5 @@ module _ (x : ℕ) (s : State) (D I O : List ℕ) (s' : State) (D' I' O' : List 
   unfolding undo overwritten_in
   put_back_lem t e = λ P L. ap (λ y. on_state (retreated_by x) (put_back y (machine_with s D I O P L))) t ∙ e P L
 
-  pub undo_at : (j : ℕ) → what_in x ≡ j → PutsBack (get_or (readings x) j nothing) → IsUndone x s D I O s' D' I' O'
-  undo_at j has = put_back_lem (ap (λ k. get_or (readings x) k nothing) has)
-
-  pub undo_of_none : ((what_in x ≡ 0 → ⊥) → 8 ≤ what_in x) → PutsBack nothing → IsUndone x s D I O s' D' I' O'
-  undo_of_none h = put_back_lem (sym (vacant (readings x) 0 nothing (what_in x) refl h))
+  pub undo_as : {what : What} → what ≡ get_or whats (what_in x) Nothing → PutsBack (reading_of x what) → IsUndone x s D I O s' D' I' O'
+  undo_as said = put_back_lem (get_or-map (reading_of x) whats (what_in x) Nothing ∙ ap (reading_of x) (sym said))

@@ -223,7 +223,7 @@ module _ (m : Machine) (w : ℕ) where
 -- ---- A line taken
 
 -- some line is pending
-some_line : (s : State) → takes_line s ≡ true → 0 < s.pending
+pub some_line : (s : State) → takes_line s ≡ true → 0 < s.pending
 some_line s e =
     let none : eqb s.pending 0 ≡ false = not-true _ ((and-eq-true_iff (is_enabled s) (not (eqb s.pending 0))).0 e).1 in
     omega (arith, eqb-false s.pending 0 none)

@@ -1,12 +1,28 @@
 -- What the functions of this crate promise, of the state and the lent slices that they see of a machine. Nothing here is promised to a
 -- caller.
-use Rattle.std.specs.Prelude.{◌≡◌, List, ℕ, eqb, get_or}
+use Rattle.std.specs.Prelude.{◌≡◌, List, [], ◌∷◌, ℕ, eqb, get_or}
 use Rattle.word.specs.Fields.{a_of, e_of, f_of, N6, N8}
 use Rattle.word.specs.Word.{pick, add, clear0, SE}
 use Rattle.machine.specs.declared.State.{State}
 use Rattle.machine.specs.Machine.{Machine, R, word_at}
 use Rattle.machine.specs.Step.{d5_3, d11_9}
+use Rattle.journal.specs.declared.What.{What}
+use Rattle.journal.specs.declared.What.TheVariants.{Nothing, Register, DataWord, DataByte, Output, KeyRead, EnableFlag, LineTaken}
 use Rattle.journal.specs.Journal.{Overwritten, register, data_word, data_byte, output_word, key_read, enable_flag, entry_with, overwritten, undo}
+
+-- the numbers of what is overwritten, and back
+abbrev pub what_number : What → ℕ
+what_number Nothing = 0
+what_number Register = 1
+what_number DataWord = 2
+what_number DataByte = 3
+what_number Output = 4
+what_number KeyRead = 5
+what_number EnableFlag = 6
+what_number LineTaken = 7
+
+abbrev pub whats : List What
+whats = Nothing ∷ Register ∷ DataWord ∷ DataByte ∷ Output ∷ KeyRead ∷ EnableFlag ∷ LineTaken ∷ []
 
 -- what they see, and the rest
 abbrev pub machine_with : State → List ℕ → List ℕ → List ℕ → List ℕ → List ℕ → Machine

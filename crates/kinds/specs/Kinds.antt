@@ -1,5 +1,6 @@
 -- The 34 kinds of instruction.
-use Rattle.std.specs.Prelude.{ℕ, List, [], ◌∷◌, length}
+use Rattle.std.specs.Prelude.{◌≡◌, ℕ, ◌<◌, ◌≤◌, List, [], ◌∷◌, length, get_or, Result, MatchResult}
+use Rattle.kinds.specs.declared.UnknownKind.{UnknownKind}
 use Rattle.kinds.specs.declared.Kind.{Kind}
 use Rattle.kinds.specs.declared.Kind.TheVariants.{And, Or, Xor, Not, Add, Sub, Sha, Shl, Cmplt, Cmple, Cmpeq, Cmpltu, Cmpleu, Addi, Ld, St, Ldb, Stb, Jalr, Bz, Bnz, Movi, Movhi, In, Out, Mul, Mulh, Mulhu, Div, Divu, Ei, Di, Reti, Getiid}
 
@@ -48,3 +49,7 @@ kind_number Ei = 30
 kind_number Di = 31
 kind_number Reti = 32
 kind_number Getiid = 33
+
+-- the kind that has the number, or an error with a number that no kind has
+abbrev pub Numbered : ℕ → Result Kind UnknownKind → Type 0
+Numbered n r = MatchResult r (λ kind. (n < kind_count) × (kind ≡ get_or kinds n And)) (λ e. (kind_count ≤ n) × (e.0 ≡ n))

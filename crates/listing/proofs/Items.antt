@@ -1,59 +1,51 @@
 -- The operands of an instruction, one item after another.
 -- Assumes nothing.
 use Prim.Native.Nat.{ℕ, ◌+◌, ◌-◌, ◌*◌, ◌<◌, ◌≤◌}
-use mathlib.Core.Bool.{Bool, true, false}
-use mathlib.Core.Path.{◌≡◌, ◌∙◌}
+use mathlib.Core.Path.{◌≡◌, ap, ◌∙◌}
 use mathlib.Core.List.{List, [], ◌∷◌, ◌++◌, append_assoc, append-nil}
 use native.Mathlib.Omega.{arith}
 use borrow.Author.Tests.{ne_eqb}
-use lib.Dec.{eqb}
 use lib.IntN.{ℤ}
 use lib.ListN.{length, take, drop, get_or}
-use Rattle.word.specs.Word.{pick, add, low_bits}
+use mir.Syntax.{w16}
+use mir.Val.{SFits, of_z}
+use Rattle.word.specs.Word.{add, low_bits}
 use Rattle.isa.specs.declared.Instruction.{Instruction}
 use Rattle.token.specs.Scan.{part}
 use Rattle.token.proofs.Scanning.{part_cons}
-use Rattle.statement.specs.Syntax.{Field, number, eight_bits}
-use Rattle.statement.specs.Table.{item_of, items_of, field_of}
-use Rattle.printing.specs.declared.Printed.{Printed}
+use Rattle.statement.specs.Syntax.{Field, target}
+use Rattle.statement.specs.Table.{item_of, items_of}
 use Rattle.printing.specs.Writing.{Wrote}
 use Rattle.printing.proofs.Writing.{◌then◌, at_most, wrote_nothing}
-use Rattle.listing.specs.Listing.{number_text, word_text, operand_text, item_text, items_text}
+use Rattle.listing.proofs.Numbers.{bits_are}
+use Rattle.listing.specs.Listing.{word_text, operand_text, item_text, items_text}
 
 -- ---- The operand for n
 
--- m is n as a call hands it on; 2 is a target
-module _ {f : ℕ} (address : ℕ) {m n : ℤ} (e : m ≡ n) {t r : Printed} where
-  pub target_written : {b v : ℕ} → f ≡ 2 → b ≡ low_bits 16 m → v ≡ add (add address 2) (b * 2) → Wrote 6 (word_text v) t r
-      → Wrote 21 (operand_text address (field_of f) n) t r
-  unfolding field_of
-  target_written h p q w = rw h (at_most (omega arith) (rw (q, p, e) at w))
-
-  pub number_written : (f ≡ 2 → ⊥) → Wrote 21 (number_text m) t r → Wrote 21 (operand_text address (field_of f) n) t r
-  unfolding field_of
-  number_written h w = rw (ne_eqb f 2 h) (go (eqb f 1))
-    where
-      go : (b : Bool) → Wrote 21 (operand_text address (pick b eight_bits number) n) t r
-      go true = rw e at w
-      go false = rw e at w
+-- m is n as a call hands it on
+pub target_written : (address : ℕ) {m n : ℤ} {b v : ℕ} {t r : List ℕ} → m ≡ n → SFits w16 n → b ≡ of_z w16 m
+    → v ≡ add (add address 2) (b * 2) → Wrote 6 (word_text v) t r → Wrote 21 (operand_text address target n) t r
+target_written address {n = n} {b} e fits p q w =
+    let bits : b ≡ low_bits 16 n = p ∙ ap (of_z w16) e ∙ bits_are n fits in
+    at_most (omega arith) (rw (q, bits) at w)
 
 -- ---- The items of a row
 
 -- the items of the first i of six bytes have been written
-pub record Writing (address : ℕ) (s : Instruction) (f : Field) (table : List ℕ) (from : ℕ) (t u : Printed) (i : ℕ) : Type 0 where
+pub record Writing (address : ℕ) (s : Instruction) (f : Field) (table : List ℕ) (from : ℕ) (t u : List ℕ) (i : ℕ) : Type 0 where
   pub done : List ℕ
   pub wrote : Wrote (21 * i) done t u
   pub rest : items_text address s f (items_of (take 6 (drop from table))) ≡ done ++ items_text address s f (items_of (part (from + i) (from + 6) table))
   pub within : i ≤ 6
 
-module _ {address : ℕ} {s : Instruction} {f : Field} {table : List ℕ} {from : ℕ} {t : Printed} where
+module _ {address : ℕ} {s : Instruction} {f : Field} {table : List ℕ} {from : ℕ} {t : List ℕ} where
   pub writing : Writing address s f table from t t 0
   writing =
       let e : from + 0 ≡ from = omega arith in
       let n : from + 6 - from ≡ 6 = omega arith in
       record { done = []; wrote = wrote_nothing; rest = rw (e, n); within = omega arith }
 
-  module _ {u : Printed} {i : ℕ} (w : Writing address s f table from t u i) where
+  module _ {u : List ℕ} {i : ℕ} (w : Writing address s f table from t u i) where
     abbrev byte : ℕ
     byte = get_or table (from + i) 0
 
@@ -80,7 +72,7 @@ module _ {address : ℕ} {s : Instruction} {f : Field} {table : List ℕ} {from 
       unfolding items_of items_text
       last_written e = whole w.within (next_byte ∙ rw e)
 
-      pub item_written : {r : Printed} → (byte ≡ 32 → ⊥) → Wrote 21 (item_text address s f (item_of byte)) u r → Writing address s f table from t r (i + 1)
+      pub item_written : {r : List ℕ} → (byte ≡ 32 → ⊥) → Wrote 21 (item_text address s f (item_of byte)) u r → Writing address s f table from t r (i + 1)
       unfolding items_of items_text
       item_written {r} n v =
           let z = w.wrote then v in

@@ -3,12 +3,16 @@
 use Prim.Native.Nat.{ℕ, zero, suc, ◌+◌, ◌*◌, ◌/◌, ◌%◌, ◌<◌, ◌≤◌}
 use mathlib.Core.Bool.{Bool, true, false}
 use mathlib.Core.Path.{◌≡◌, refl, sym, ap, ◌∙◌}
+use mathlib.Core.Logic.{inl, inr}
 use mathlib.Core.List.{List, [], ◌∷◌}
 use native.Mathlib.Omega.{arith}
-use borrow.Author.Tests.{lt-ltb, le-ltb, lt-leb, le-leb, ltb-true}
+use borrow.Author.Tests.{lt-leb, le-leb}
 use lib.Dec.{leb}
-use lib.ListN.{length, get_or, take, drop, get_or-append, get_or-eq_default, length-drop}
+use lib.ListN.{length, get_or, take, drop, get_or-append, length-drop}
 use lib.Seq.{length-take-le, get_or-take, get_or-drop}
+use Rattle.std.specs.Prelude.{Option}
+use Rattle.std.specs.declared.option.Option.TheVariants.{None, Some}
+use Rattle.std.proofs.lemmas.Option.{slice_get-get_or, slice_get_past, slice_get_cases}
 use Rattle.refusal.specs.Refusals.{Verdict, accepted, refused}
 use Rattle.word.specs.Word.{pick}
 use Rattle.machine.specs.Machine.{word_at}
@@ -18,35 +22,27 @@ use Rattle.image.specs.Image.{W, memory_of, file_reply}
 use Rattle.image.specs.Parts.{program_part, ReadAs}
 use Rattle.image.specs.Parts.{Placeable}
 use Rattle.image.proofs.Fits.{file_fits}
-use Rattle.printing.specs.declared.Printed.{Printed}
-use Rattle.printing.specs.Text.{in_array}
-use Rattle.printing.proofs.Writing.{count_fits}
 use Rattle.report.specs.Printed.{refused_line}
-use Rattle.listing.specs.declared.Line.{Line}
 use Rattle.listing.specs.Listing.{line_text}
 use Rattle.listing.specs.File.{program_word, lines_from, word_lines, listing_by, listing, listed_line}
 
-line_is : {there there' : Bool} {text text' : Printed} → there ≡ there' → text ≡ text'
-    → ◌≡◌ {A = Line} (record { there = there; text = text }) (record { there = there'; text = text' })
-line_is p q = λ j. record { there = p j; text = q j }
-
 -- ---- Any listing
 
-module _ (lines : List (List ℕ)) {k : ℕ} {text : Printed} where
-  line_there_lem : {l : List ℕ} → k < length lines → get_or lines k [] ≡ l → text ≡ in_array l → record { there = true; text = text } ≡ listed_line lines k
-  line_there_lem h e p = line_is (sym (lt-ltb _ _ h)) (p ∙ ap in_array (sym e))
+module _ (lines : List (List ℕ)) {k : ℕ} where
+  line_there_lem : {l text : List ℕ} → k < length lines → get_or lines k [] ≡ l → text ≡ l → Some text ≡ listed_line lines k
+  line_there_lem h e p = ap Some (p ∙ sym e) ∙ sym (slice_get-get_or lines k [] h)
 
-  past_the_end : length lines ≤ k → text ≡ in_array [] → record { there = false; text = text } ≡ listed_line lines k
-  past_the_end h p = line_is (sym (le-ltb _ _ h)) (p ∙ ap in_array (sym (get_or-eq_default lines [] h)))
+  past_the_end : length lines ≤ k → None ≡ listed_line lines k
+  past_the_end h = sym (slice_get_past lines k h)
 
 -- ---- A refusal's line alone
 
-module _ (l : List ℕ) {k : ℕ} {text : Printed} where
-  pub first_line_lem : k ≡ 0 → text ≡ in_array l → record { there = true; text = text } ≡ listed_line (l ∷ []) k
-  first_line_lem e p = rw e (line_there_lem (l ∷ []) {k = 0} (omega arith) refl p)
+module _ (l : List ℕ) {k : ℕ} where
+  pub first_line_lem : {text : List ℕ} → k ≡ 0 → text ≡ l → Some text ≡ listed_line (l ∷ []) k
+  first_line_lem e p = rw e (ap Some p)
 
-  pub no_other_line : (k ≡ 0 → ⊥) → text ≡ in_array [] → record { there = false; text = text } ≡ listed_line (l ∷ []) k
-  no_other_line n p = past_the_end (l ∷ []) {k = k} (omega arith) p
+  pub no_other_line : (k ≡ 0 → ⊥) → None ≡ listed_line (l ∷ []) k
+  no_other_line n = past_the_end (l ∷ []) {k = k} (omega arith)
 
 -- ---- The lines of the words
 
@@ -83,8 +79,8 @@ module _ (file : List ℕ) (offset count : ℕ) (inside : offset + count ≤ len
 -- ---- A file that load takes
 
 module _ (file : List ℕ) {k : ℕ} {read : Part} (r : ReadAs (program_part file) read) where
-  pub no_word : {text : Printed} → read.count / 2 ≤ k → text ≡ in_array [] → record { there = false; text = text } ≡ listed_line (word_lines file) k
-  no_word h p = past_the_end (word_lines file) {k = k} (rw lines_length (omega (arith, r.count))) p
+  pub no_word : read.count / 2 ≤ k → None ≡ listed_line (word_lines file) k
+  no_word h = past_the_end (word_lines file) {k = k} (rw lines_length (omega (arith, r.count)))
 
   module _ (f : Placeable file) (h : k < read.count / 2) where
     pub word_inside : read.offset + 2 * k + 1 < length file
@@ -93,18 +89,18 @@ module _ (file : List ℕ) {k : ℕ} {read : Part} (r : ReadAs (program_part fil
     pub address_fits : 2 * k < 65536
     address_fits = omega (arith, f.program, r.count)
 
-    pub word_there : {w : ℕ} {text : Printed} → w ≡ get_or file (read.offset + 2 * k) 0 + 256 * get_or file (read.offset + 2 * k + 1) 0
-        → text ≡ in_array (line_text (2 * k) w) → record { there = true; text = text } ≡ listed_line (word_lines file) k
+    pub word_there : {w : ℕ} {text : List ℕ} → w ≡ get_or file (read.offset + 2 * k) 0 + 256 * get_or file (read.offset + 2 * k + 1) 0
+        → text ≡ line_text (2 * k) w → Some text ≡ listed_line (word_lines file) k
     word_there {w} e p =
         let few : k < W file = omega (arith, r.count) in
         let is : w ≡ program_word file k =
         e ∙ rw r.offset (word_at_lem file _ _ f.program.inside_file k (omega arith) f.program.inside_memory)
         in
-        line_there_lem (word_lines file) {k = k} (rw lines_length few) (line_is_word file k few) (p ∙ ap (λ x. in_array (line_text (2 * k) x)) is)
+        line_there_lem (word_lines file) {k = k} (rw lines_length few) (line_is_word file k few) (p ∙ ap (line_text (2 * k)) is)
 
 -- ---- Any file
 
-module _ (file : List ℕ) (k : ℕ) {r : Line} where
+module _ (file : List ℕ) (k : ℕ) {r : Option (List ℕ)} where
   pub too_long : 65536 < length file → r ≡ listed_line (refused_line 8 ∷ []) k → r ≡ listed_line (listing file) k
   unfolding listing
   too_long h e = rw (lt-leb (length file) 65536 h) e
@@ -124,12 +120,9 @@ listing_short file = go (leb (length file) 65536) (file_reply file TwoMemories) 
     go true (refused q) e = omega arith
     go false x e = omega arith
 
-module _ (file : List ℕ) (k : ℕ) {r : Line} (e : r ≡ listed_line (listing file) k) where
-  pub text_fits : r.text.count ≤ length r.text.bytes
-  text_fits = count_fits (get_or (listing file) k []) (ap (λ (l : Line). l.text) e)
+module _ (file : List ℕ) (k : ℕ) {text : List ℕ} (e : Some text ≡ listed_line (listing file) k) where
+  pub still_there : k < length (listing file)
+  still_there = elim (slice_get_cases (listing file) k).1 [ inl h ↦ h.1 | inr h ↦ cc ]
 
-  pub still_there : r.there ≡ true → k < length (listing file)
-  still_there t = ltb-true k (length (listing file)) (sym (ap (λ (l : Line). l.there) e) ∙ t)
-
-  pub few_lines : r.there ≡ true → k < 65536
-  few_lines t = omega (arith, still_there t, listing_short file)
+  pub few_lines : k < 65536
+  few_lines = omega (arith, still_there, listing_short file)

@@ -1,32 +1,28 @@
--- A signed number as text, and as the 16 bits that it stands for, by its sign.
+-- A signed number as text, and as the 16 bits that it stands for.
 -- Assumes nothing.
-use Prim.Native.Nat.{◌+◌, ◌-◌}
-use mathlib.Core.Path.{◌≡◌, sym, ap, subst, ◌∙◌}
-use mathlib.Core.List.{[], ◌∷◌}
-use native.Mathlib.Numerals.{add-one}
+use Prim.Native.Nat.{suc, ◌≤◌}
+use mathlib.Core.Path.{◌≡◌, ap}
+use mathlib.Core.List.{◌∷◌}
 use native.Mathlib.Omega.{arith}
-use lib.IntN.{ℤ, pos, nat_abs}
+use lib.IntN.{ℤ, pos, negsuc}
+use lib.ListN.{length}
+use mir.Syntax.{w16}
+use mir.Val.{SFits, of_z}
+use Rattle.std.specs.Fmt.{signed_decimal}
+use Rattle.std.proofs.lemmas.Fmt.{length_signed_le}
 use Rattle.word.specs.Word.{low_bits}
-use Rattle.isa.proofs.Signs.{Negative, Natural}
-use Rattle.printing.specs.declared.Printed.{Printed}
-use Rattle.printing.specs.Text.{decimal}
-use Rattle.printing.specs.Writing.{Wrote}
-use Rattle.printing.proofs.Writing.{◌then◌, at_most}
+use Rattle.printing.proofs.Decimal.{decimal_is}
 use Rattle.listing.specs.Listing.{number_text}
 
-module _ {n z : ℤ} where
-  pub negative_text : (v : Negative n) → z ≡ pos v.y → {t u r : Printed} → Wrote 1 (45 ∷ []) t u → Wrote 20 (decimal (nat_abs z + 1)) u r → Wrote 21 (number_text n) t r
-  negative_text v e {t} {u} {r} a b =
-      subst (λ (m : ℤ). Wrote 21 (number_text m) t r) (sym v.is) (a then (rw (e, add-one) at b))
+pub text_is : (n : ℤ) → SFits w16 n → number_text n ≡ signed_decimal n
+text_is (pos x) f = decimal_is x (omega (arith, f.sfits))
+text_is (negsuc y) f = ap (λ l. 45 ∷ l) (decimal_is (suc y) (omega (arith, f.sfits)))
 
-  pub natural_text : (v : Natural n) → z ≡ pos v.x → {t r : Printed} → Wrote 20 (decimal (nat_abs z)) t r → Wrote 21 (number_text n) t r
-  natural_text v e {t} {r} b =
-      subst (λ (m : ℤ). Wrote 21 (number_text m) t r) (sym v.is) (at_most (omega arith) (rw e at b))
+pub text_short : (n : ℤ) → SFits w16 n → length (signed_decimal n) ≤ 6
+text_short (pos x) f = length_signed_le 5 (pos x) (omega (arith, f.sfits)) (omega (arith, f.sfits))
+text_short (negsuc y) f = length_signed_le 5 (negsuc y) (omega (arith, f.sfits)) (omega (arith, f.sfits))
 
-  pub negative_bits : (v : Negative n) → z ≡ pos v.y → 65535 - nat_abs z ≡ low_bits 16 n
-  unfolding low_bits
-  negative_bits v e = ap (λ (m : ℤ). 65535 - nat_abs m) e ∙ rw v.is (omega (arith, v.small))
-
-  pub natural_bits : (v : Natural n) → z ≡ pos v.x → nat_abs z ≡ low_bits 16 n
-  unfolding low_bits
-  natural_bits v e = ap nat_abs e ∙ rw v.is (omega (arith, v.small))
+pub bits_are : (n : ℤ) → SFits w16 n → of_z w16 n ≡ low_bits 16 n
+unfolding low_bits
+bits_are (pos x) f = omega (arith, f.sfits)
+bits_are (negsuc y) f = omega (arith, f.sfits)

@@ -15,13 +15,12 @@ use Rattle.word.proofs.Computed.{both, both_split, all, all_at}
 use Rattle.word.proofs.Tests.{clash}
 use Rattle.kinds.specs.declared.Kind.{Kind}
 use Rattle.isa.specs.declared.Instruction.{Instruction}
-use Rattle.isa.specs.declared.rows.Entry.{Entry}
-use Rattle.isa.specs.declared.rows.Entry.TheVariants.{Unassigned, Assigned}
+use Rattle.std.specs.Prelude.{Option}
+use Rattle.std.specs.declared.option.Option.TheVariants.{Some, None}
 use Rattle.isa.specs.Sheet.{sheet_line, kind_at}
 use Rattle.isa.specs.Instructions.{instruction, parts_of, read_as, read_of}
 use Rattle.isa.specs.Masks.{in_mask}
 use Rattle.isa.proofs.Every.{every}
-use Rattle.printing.specs.declared.Printed.{Printed}
 use Rattle.printing.specs.Writing.{Wrote}
 use Rattle.printing.proofs.Writing.{◌then◌, wrote_nothing}
 use Rattle.listing.specs.Listing.{register_text, register_in}
@@ -44,9 +43,9 @@ below_8 p w t =
     let most : 2 ^ p.count ≤ 2 ^ 3 = pow_mono (leb→le _ _ t) in
     omega arith
 
-entry_registers : (x : Entry) (w : ℕ) {i : Instruction} → instruction i ≡ read_as x w → Registers i
-entry_registers Unassigned w e = clash (cc)
-entry_registers (Assigned k) w {i} e =
+entry_registers : (x : Option Kind) (w : ℕ) {i : Instruction} → instruction i ≡ read_as x w → Registers i
+entry_registers None w e = clash (cc)
+entry_registers (Some k) w {i} e =
     let f = (sheet_line k).format in
     let t = both_split (few f.a) _ (few_bits k) in
     let u = both_split (few f.b) _ t.1 in
@@ -63,10 +62,10 @@ module _ (mask k : ℕ) where
   bit_is : (b : Bool) → eqb (mask / 2 ^ k % 2) 1 ≡ b → in_mask mask k ≡ b
   bit_is b h = let e : k + 1 - k ≡ 1 = omega arith in rw e h
 
-  pub in_mask_lem : {t u r : Printed} → mask / 2 ^ k % 2 ≡ 1 → Wrote 1 (32 ∷ []) t u → Wrote 2 (register_text k) u r → Wrote 3 (register_in mask k) t r
+  pub in_mask_lem : {t u r : List ℕ} → mask / 2 ^ k % 2 ≡ 1 → Wrote 1 (32 ∷ []) t u → Wrote 2 (register_text k) u r → Wrote 3 (register_in mask k) t r
   in_mask_lem e v w = rw (bit_is true (eq-eqb _ _ e)) (v then w)
 
-  pub not_in_mask : {t : Printed} → (mask / 2 ^ k % 2 ≡ 1 → ⊥) → Wrote 3 (register_in mask k) t t
+  pub not_in_mask : {t : List ℕ} → (mask / 2 ^ k % 2 ≡ 1 → ⊥) → Wrote 3 (register_in mask k) t t
   not_in_mask n = rw (bit_is false (ne_eqb _ _ n)) wrote_nothing
 
 abbrev pub eight : List ℕ

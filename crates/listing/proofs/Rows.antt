@@ -16,7 +16,6 @@ use Rattle.token.proofs.Scanning.{part_cons}
 use Rattle.statement.specs.Syntax.{Item, Field, table as rows, row_at}
 use Rattle.statement.specs.Table.{row_text, mnemonic_lengths, items_of, cell}
 use Rattle.statement.proofs.Tables.{mnemonic_row, short_row, items_row}
-use Rattle.printing.specs.declared.Printed.{Printed}
 use Rattle.printing.specs.Writing.{Wrote}
 use Rattle.printing.proofs.Writing.{◌then◌, at_most}
 use Rattle.listing.specs.Listing.{items_text, operands_text, instruction_text, text_as, text_of}
@@ -29,7 +28,7 @@ module _ {row n : ℕ} (h : row < length rows) (l : n ≡ get_or mnemonic_length
   pub name_short : n ≤ 6
   name_short = omega (arith, short_row row h)
 
-  name_written : {m : ℕ} {table : List ℕ} {t u : Printed} → table ≡ row_text
+  name_written : {m : ℕ} {table : List ℕ} {t u : List ℕ} → table ≡ row_text
       → Wrote m (part (12 * row) (12 * row + n) table) t u → Wrote 6 (row_at row).mnemonic t u
   name_written {m} {table} p w =
       let same : part (12 * row) (12 * row + n) table ≡ (row_at row).mnemonic = rw (p, l) (mnemonic_row row h) in
@@ -54,7 +53,7 @@ module _ (address : ℕ) (i : Instruction) (f : Field) (table : List ℕ) (at : 
   some_operands n = rw (from_first, ne_eqb (get_or table at 0) 32 n)
 
 -- the text of an instruction, of which the mnemonic has been written, by the row of its kind
-module _ (address : ℕ) (i : Instruction) {row n m : ℕ} {table : List ℕ} {t u : Printed}
+module _ (address : ℕ) (i : Instruction) {row n m : ℕ} {table : List ℕ} {t u : List ℕ}
     (e : row ≡ kind_number i.kind) (l : n ≡ get_or mnemonic_lengths row 0) (p : table ≡ row_text)
     (a : Wrote m (part (12 * row) (12 * row + n) table) t u) where
   small : row < length rows
@@ -64,7 +63,7 @@ module _ (address : ℕ) (i : Instruction) {row n m : ℕ} {table : List ℕ} {t
   inside = omega (arith, small, ap length p)
 
   -- where the operands are xs
-  whole : (f : Field) {xs : List ℕ} {most : ℕ} {r : Printed} → f ≡ (row_at row).field → operands_text address i f (items_at table (12 * row + 6)) ≡ xs
+  whole : (f : Field) {xs : List ℕ} {most : ℕ} {r : List ℕ} → f ≡ (row_at row).field → operands_text address i f (items_at table (12 * row + 6)) ≡ xs
       → Wrote most ((row_at row).mnemonic ++ xs) t r → most ≤ 133 → Wrote 133 (instruction_text address i) t r
   unfolding instruction_text cell
   whole f q o w b =
@@ -76,11 +75,11 @@ module _ (address : ℕ) (i : Instruction) {row n m : ℕ} {table : List ℕ} {t
       let w : Wrote 6 ((row_at row).mnemonic ++ []) t u = rw (append-nil (row_at row).mnemonic) (name_written small l p a) in
       whole (row_at row).field refl (no_operands address i _ table (12 * row + 6) inside s) w (omega arith)
 
-  pub operands_written : {f : Field} {v r : Printed} → f ≡ (row_at row).field → (get_or table (12 * row + 6) 0 ≡ 32 → ⊥) → Wrote 1 (32 ∷ []) u v
+  pub operands_written : {f : Field} {v r : List ℕ} → f ≡ (row_at row).field → (get_or table (12 * row + 6) 0 ≡ 32 → ⊥) → Wrote 1 (32 ∷ []) u v
       → Wrote 126 (items_text address i f (items_at table (12 * row + 6))) v r → Wrote 133 (instruction_text address i) t r
   operands_written {f} q s b w =
       whole f q (some_operands address i f table (12 * row + 6) inside s) (name_written small l p a then (b then w)) (omega arith)
 
-pub text_written : (address w : ℕ) {x : Read} {most : ℕ} {t r : Printed} → x ≡ read_of w → Wrote most (text_as address w x) t r → most ≤ 133 → Wrote 133 (text_of address w) t r
+pub text_written : (address w : ℕ) {x : Read} {most : ℕ} {t r : List ℕ} → x ≡ read_of w → Wrote most (text_as address w x) t r → most ≤ 133 → Wrote 133 (text_of address w) t r
 unfolding text_of
 text_written address w e v h = rw (← e) (at_most h v)

@@ -1,13 +1,11 @@
 -- The listing of a trim file: the lines that `panellist` prints for it.
-use Rattle.std.specs.Prelude.{ℕ, zero, suc, ◌*◌, List, [], ◌∷◌, leb, ltb, length, get_or}
+use Rattle.std.specs.Prelude.{ℕ, zero, suc, ◌*◌, List, [], ◌∷◌, leb, length, slice_get, Option}
 use Rattle.refusal.specs.Refusals.{Verdict, accepted, refused}
 use Rattle.word.specs.Word.{pick}
 use Rattle.machine.specs.Machine.{word_at}
 use Rattle.machine.specs.declared.Board.TheVariants.{TwoMemories}
 use Rattle.image.specs.Image.{W, program_offset, memory_of, file_reply}
-use Rattle.printing.specs.Text.{in_array}
 use Rattle.report.specs.Printed.{refused_line}
-use Rattle.listing.specs.declared.Line.{Line}
 use Rattle.listing.specs.Listing.{line_text}
 
 -- word k of the program memory that a load of the file leaves
@@ -32,5 +30,5 @@ unfoldable pub listing : List ℕ → List (List ℕ)
 listing file = pick (leb (length file) 65536) (listing_by (file_reply file TwoMemories) file) (refused_line 8 ∷ [])
 
 -- line k, from 0, or none past the end
-abbrev pub listed_line : List (List ℕ) → ℕ → Line
-listed_line lines k = record { there = ltb k (length lines); text = in_array (get_or lines k []) }
+abbrev pub listed_line : List (List ℕ) → ℕ → Option (List ℕ)
+listed_line lines k = slice_get lines k

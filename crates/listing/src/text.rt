@@ -1,16 +1,16 @@
 // The line of a word. The number after `Wrote` is the most bytes that the text can have.
 ghost use Rattle.std.specs.Prelude.{◌≡◌, ◌+◌, ◌<◌, ◌≤◌, length, take, drop};
-ghost use Rattle.word.specs.Word.{low_bits};
 ghost use Rattle.isa.specs.Instructions.{shown_reading, read_of};
 ghost use Rattle.statement.specs.Table.{item_of, items_of, field_of};
-ghost use Rattle.printing.specs.Text.{in_array};
 ghost use Rattle.printing.specs.Writing.{Wrote};
 ghost use Rattle.listing.specs.Listing.{register_text, number_text, word_text, operand_text, item_text, items_text, instruction_text, text_of, register_in, registers_text, line_text};
 ghost use Rattle.listing.specs.Parts.{Registers};
 
-use isa::{Instruction, Reading};
+use isa::Instruction;
+use itoa::Buffer;
 use printing::Printed;
 use statement::rows;
+use statement::rows::{Field, Operation};
 
 const TAB: u8 = b'\t';
 
@@ -26,22 +26,7 @@ fn with_register(text: Printed, k: u8) -> Printed
 fn with_number(text: Printed, n: i16) -> Printed
     ensures { Wrote 21 (number_text n) text result }
 {
-    if n < 0 {
-        let before = (!n) as u64;
-        return text.with_byte(b'-').with_decimal(before + 1);
-    }
-    text.with_decimal(n as u64)
-}
-
-// The low 16 bits of n.
-fn bits_of(n: i16) -> u16
-    ensures { result ≡ low_bits 16 n }
-{
-    if n < 0 {
-        65535 - ((!n) as u16)
-    } else {
-        n as u16
-    }
+    text.with_word(Buffer::new().format(n).as_bytes())
 }
 
 fn with_value(text: Printed, v: u16) -> Printed
@@ -50,18 +35,18 @@ fn with_value(text: Printed, v: u16) -> Printed
     text.with_word(b"0x").with_hex(v)
 }
 
-// The operand for n in a row of that field: 2 is a branch's target.
-fn with_operand(text: Printed, address: u16, field: u8, n: i16) -> Printed
+// The operand for n in a row of that field.
+fn with_operand(text: Printed, address: u16, field: Field, n: i16) -> Printed
     ensures { Wrote 21 (operand_text address (field_of field) n) text result }
 {
-    if field == 2 {
-        return with_value(text, word::target(address, bits_of(n)));
+    match field {
+        Field::Target => with_value(text, word::target(address, n.cast_unsigned())),
+        Field::Number | Field::EightBits => with_number(text, n),
     }
-    with_number(text, n)
 }
 
 // The item that a byte of the table stands for.
-fn with_item(text: Printed, item: u8, address: u16, field: u8, i: Instruction) -> Printed
+fn with_item(text: Printed, item: u8, address: u16, field: Field, i: Instruction) -> Printed
     requires { Registers i }
     ensures { Wrote 21 (item_text address i (field_of field) (item_of item)) text result }
 {
@@ -81,7 +66,7 @@ fn with_items(
     table: &[u8],
     from: usize,
     address: u16,
-    field: u8,
+    field: Field,
     i: Instruction,
 ) -> Printed
     requires { (from + 6 ≤ length table.now) × Registers i }
@@ -105,7 +90,7 @@ fn with_instruction(text: Printed, address: u16, i: Instruction) -> Printed
     ensures { Wrote 133 (instruction_text address i) text result }
 {
     let kind = i.kind;
-    let row = kinds::kind_number(kind) as usize;
+    let row = u8::from(kind) as usize;
     let table = rows::table();
     let from = rows::ROW_BYTES * row;
     let to = from + rows::mnemonic_length(row);
@@ -119,18 +104,18 @@ fn with_instruction(text: Printed, address: u16, i: Instruction) -> Printed
         &table,
         operands,
         address,
-        rows::field_of(row),
+        rows::field_of(Operation::Instruction(kind)),
         i,
     )
 }
 
-fn with_text(text: Printed, address: u16, word: u16, reading: Reading) -> Printed
+fn with_text(text: Printed, address: u16, word: u16, reading: Option<Instruction>) -> Printed
     requires { shown_reading reading ≡ read_of word }
     ensures { Wrote 133 (text_of address word) text result }
 {
     match reading {
-        Reading::Instruction(i) => with_instruction(text, address, i),
-        Reading::Unassigned => with_value(text.with_word(b".word "), word),
+        Some(i) => with_instruction(text, address, i),
+        None => with_value(text.with_word(b".word "), word),
     }
 }
 
@@ -148,17 +133,11 @@ fn with_register_in(text: Printed, mask: u8, k: u8) -> Printed
 fn with_registers(text: Printed, mask: u8) -> Printed
     ensures { Wrote 24 (registers_text mask) text result }
 {
-    let mut written = text;
-    let mut k = 0u8;
-    while k < 8 {
-        written = with_register_in(written, mask, k);
-        k += 1;
-    }
-    written
+    (0..8).fold(text, |text, k| with_register_in(text, mask, k))
 }
 
 pub fn line_of(address: u16, word: u16) -> Printed
-    ensures { result ≡ in_array (line_text address word) }
+    ensures { result ≡ line_text address word }
 {
     let decoded = isa::read(word);
     let reading = decoded.reading;

@@ -1,11 +1,12 @@
 -- What an engine holds between two steps, as a machine. It serves the contracts of the engines' step functions, not a caller.
-use Rattle.std.specs.Prelude.{◌≡◌, Bool, false, ◌&&◌, List, ℕ, ◌<◌, ◌≤◌, eqb, leb, length, take, drop}
+use Rattle.std.specs.Prelude.{◌≡◌, Bool, false, ◌&&◌, List, ℕ, ◌≤◌, eqb, leb, length, take, drop, Result}
+use Rattle.std.specs.declared.result.Result.TheVariants.{Ok, Err}
 use Rattle.machine.specs.declared.State.{State}
-use Rattle.machine.specs.declared.Stepped.{Stepped}
+use Rattle.machine.specs.declared.Stop.{Stop}
+use Rattle.machine.specs.Stops.{stop_number}
 use Rattle.machine.specs.Machine.{Machine}
 use Rattle.machine.specs.Step.{fetched, Next, cannot, to}
 use Rattle.machine.specs.Run.{Outcome, unless}
-use Rattle.machine.specs.Slices.{MutSlice, before, after}
 
 -- w is the word that a machine of this state, program and data memory fetches
 abbrev pub Fetches : State → List ℕ → List ℕ → ℕ → Type 0
@@ -31,14 +32,6 @@ machine_of P h = record { state = h.state; P = P; D = h.D; I = h.I; O = h.O; L =
 abbrev pub is_full : Held → Bool
 is_full h = leb (length h.log) h.entries
 
--- what a step needs: a count that can grow, memories and ports of their lengths, and no more entries than the log has places
-pub record Ready (h : Held) : Type 0 where
-  pub counts : h.state.n < 4294967295
-  pub memory : length h.D ≡ 65536
-  pub inputs : length h.I ≡ 256
-  pub outputs : length h.O ≡ 256
-  pub filled : h.entries ≤ length h.log
-
 -- what comes of m: reason 0 and what it steps to, or why it can't step, and m
 abbrev pub outcome_of : Machine → Next → Outcome
 outcome_of m (cannot q) = record { reason = q; after = m }
@@ -61,8 +54,13 @@ is_lock_stop (to next) = false
 abbrev pub TestsLock : (Machine → Next) → State → Bool → Type 0
 TestsLock next s r = (m : Machine) → m.state ≡ s → is_lock_stop (next m) ≡ r
 
--- the contract of a step function, of its parameters and what it hands back
-abbrev pub StepsAs : (Machine → Next) → Bool → State → MutSlice → MutSlice → MutSlice → MutSlice → ℕ → Stepped → Type 0
-StepsAs next writes state memory inputs outputs log entries r =
-    StepMeets next writes (held state (before memory) (before inputs) (before outputs) (before log) entries) r.stop
-    (held r.state (after memory) (after inputs) (after outputs) (after log) r.entries)
+-- ---- What a step function answers: the next state, or why there is none
+
+abbrev pub reason_of : Result State Stop → ℕ
+reason_of (Ok t) = 0
+reason_of (Err q) = stop_number q
+
+-- with a stop it is the one before
+abbrev pub state_left : State → Result State Stop → State
+state_left s (Ok t) = t
+state_left s (Err q) = s

@@ -4,3 +4,4 @@ pub mod Run
 pub mod Lengths
 pub mod Slices
 pub mod Held
+pub mod Stops

@@ -4,13 +4,14 @@
 ghost use Rattle.std.specs.Prelude.{◌≡◌, ◌+◌, ◌-◌, ◌%◌, ◌<◌, eqb};
 ghost use Rattle.word.specs.Fields.{a_of, b_of};
 ghost use Rattle.word.specs.Word.{pick, add};
+ghost use Rattle.machine.specs.Stops.{stop_number};
 ghost use Rattle.machine.specs.Machine.{reset, R, put_r, put_pc, put_n, put_journaled, count, board_number, board_of, reset_on, lowest_line, with_line, without_line, takes_line, line_taken_by, put_locked, is_locked, touches_locked, bytes_at, fetch_locked, even_places, put_enabled, put_pending, put_taken};
 
 // R0 to R7, PC, n, the count of steps done, the count of journal entries, and the board: 0 with two memories, any other number the
 // single-memory one. Then interrupts: enabled where it is not 0, a pending byte with bit k for line k, the number of the line last taken and the
 // address to return to. Then the locked range of data memory, first to last, none where `locked` is 0.
 #[repr(C)]
-#[derive(Clone, Copy)]
+#[derive(Clone, Copy, Debug, PartialEq, Eq)]
 pub struct State {
     pub r: [u16; 8],
     pub pc: u16,
@@ -27,53 +28,70 @@ pub struct State {
 }
 
 // The board that a load names: instructions are fetched from program memory, or from data memory, the only one.
-#[derive(Clone, Copy)]
+#[derive(Clone, Copy, Debug, PartialEq, Eq)]
 pub enum Board {
     TwoMemories,
     SingleMemory,
 }
 
-// What an engine's step hands back: stop 0, the register state, and how many places of the log are filled; or why it can't be
-// made (1 the word is unassigned, 3 its divisor is zero, 2 it writes a port and the log is full), with both as they were. Stop 4 is tested
-// before a step is called.
-#[derive(Clone, Copy)]
-pub struct Stepped {
-    pub stop: u8,
-    pub state: State,
-    pub entries: usize,
+impl From<Board> for u8 {
+    ghost from_gives = { λ board number. number ≡ board_number board };
+
+    fn from(board: Board) -> u8 {
+        match board {
+            Board::TwoMemories => 0,
+            Board::SingleMemory => 1,
+        }
+    }
 }
 
-impl Stepped {
-    pub fn done(state: State, entries: usize) -> Self
-        ensures { result ≡ record { stop = 0; state = state; entries = entries } }
-    {
-        Self::stopped(0, state, entries)
-    }
+// The board that a number names: 0 the one with two memories, any other the single-memory one.
+impl From<u8> for Board {
+    ghost from_gives = { λ number board. board ≡ board_of number };
 
-    pub fn stopped(stop: u8, state: State, entries: usize) -> Self
-        ensures { result ≡ record { stop = stop; state = state; entries = entries } }
-    {
-        Self {
-            stop,
-            state,
-            entries,
+    fn from(number: u8) -> Board {
+        match number {
+            0 => Board::TwoMemories,
+            _ => Board::SingleMemory,
+        }
+    }
+}
+
+// Why a word is not stepped.
+#[derive(Clone, Copy, Debug, PartialEq, Eq)]
+pub enum Stop {
+    Unassigned,
+    FullLog,
+    ZeroDivisor,
+    LockedByte,
+}
+
+impl From<Stop> for u8 {
+    ghost from_gives = { λ stop n. n ≡ stop_number stop };
+
+    fn from(stop: Stop) -> u8 {
+        match stop {
+            Stop::Unassigned => 1,
+            Stop::FullLog => 2,
+            Stop::ZeroDivisor => 3,
+            Stop::LockedByte => 4,
         }
     }
 }
 
 // Ra and Rb of an instruction word: x is Ra, y is Rb.
-#[derive(Clone, Copy)]
+#[derive(Clone, Copy, Debug, PartialEq, Eq)]
 pub struct Sources {
     pub x: u16,
     pub y: u16,
 }
 
 // A port number.
-#[derive(Clone, Copy)]
+#[derive(Clone, Copy, Debug, PartialEq, Eq)]
 pub struct Port(pub u8);
 
 // An address of data memory.
-#[derive(Clone, Copy)]
+#[derive(Clone, Copy, Debug, PartialEq, Eq)]
 pub struct Address(pub u16);
 
 fn choose(d: u16, i: u16, v: u16, old: u16) -> u16
@@ -82,38 +100,12 @@ fn choose(d: u16, i: u16, v: u16, old: u16) -> u16
     if d == i { v } else { old }
 }
 
-fn one_less(n: u32) -> u32
-    ensures { result ≡ n - 1 }
-{
-    if n == 0 { 0 } else { n - 1 }
-}
-
-fn board_number(board: Board) -> u8
-    ensures { result ≡ board_number board }
-{
-    match board {
-        Board::TwoMemories => 0,
-        Board::SingleMemory => 1,
-    }
-}
-
 // A pending byte without its lowest line.
 fn without_lowest(pending: u8) -> u8
     requires { 0 < pending }
     ensures { result ≡ without_line (lowest_line pending) pending }
 {
     pending & (pending - 1)
-}
-
-// The board that a number names.
-pub fn board_of(number: u8) -> Board
-    ensures { result ≡ board_of number }
-{
-    if number == 0 {
-        Board::TwoMemories
-    } else {
-        Board::SingleMemory
-    }
 }
 
 impl State {
@@ -132,13 +124,12 @@ impl State {
     pub fn reset_on(board: Board) -> Self
         ensures { result ≡ reset_on board }
     {
-        let number = board_number(board);
         Self {
             r: [0; 8],
             pc: 0,
             n: 0,
             journaled: 0,
-            board: number,
+            board: u8::from(board),
             enabled: 0,
             pending: 0,
             line: 0,
@@ -197,41 +188,14 @@ impl State {
             choose(d, 6, v, r[6]),
             choose(d, 7, v, r[7]),
         ];
-        State {
-            r: written,
-            pc: self.pc,
-            n: self.n,
-            journaled: self.journaled,
-            board: self.board,
-            enabled: self.enabled,
-            pending: self.pending,
-            line: self.line,
-            return_address: self.return_address,
-            locked: self.locked,
-            first_locked: self.first_locked,
-            last_locked: self.last_locked,
-        }
+        State { r: written, ..self }
     }
 
     // (A whole literal: a `mut self` would move the struct's padding along.)
     pub fn with_pc(self, v: u16) -> Self
         ensures { result ≡ put_pc v self }
     {
-        let r = self.r;
-        State {
-            r,
-            pc: v,
-            n: self.n,
-            journaled: self.journaled,
-            board: self.board,
-            enabled: self.enabled,
-            pending: self.pending,
-            line: self.line,
-            return_address: self.return_address,
-            locked: self.locked,
-            first_locked: self.first_locked,
-            last_locked: self.last_locked,
-        }
+        State { pc: v, ..self }
     }
 
     // One step more is done.
@@ -253,47 +217,22 @@ impl State {
     pub fn with_n(self, v: u32) -> Self
         ensures { result ≡ put_n v self }
     {
-        let r = self.r;
-        State {
-            r,
-            pc: self.pc,
-            n: v,
-            journaled: self.journaled,
-            board: self.board,
-            enabled: self.enabled,
-            pending: self.pending,
-            line: self.line,
-            return_address: self.return_address,
-            locked: self.locked,
-            first_locked: self.first_locked,
-            last_locked: self.last_locked,
-        }
+        State { n: v, ..self }
     }
 
     // PC is v, and one step less is done.
     pub fn retreated(self, v: u16) -> Self
         ensures { result ≡ put_pc v (put_n (self.n - 1) self) }
     {
-        self.with_n(one_less(self.n)).with_pc(v)
+        self.with_n(self.n.saturating_sub(1)).with_pc(v)
     }
 
     pub fn with_journaled(self, v: u64) -> Self
         ensures { result ≡ put_journaled v self }
     {
-        let r = self.r;
         State {
-            r,
-            pc: self.pc,
-            n: self.n,
             journaled: v,
-            board: self.board,
-            enabled: self.enabled,
-            pending: self.pending,
-            line: self.line,
-            return_address: self.return_address,
-            locked: self.locked,
-            first_locked: self.first_locked,
-            last_locked: self.last_locked,
+            ..self
         }
     }
 
@@ -336,20 +275,11 @@ impl State {
     pub fn with_locked(self, locked: u8, first_locked: u16, last_locked: u16) -> Self
         ensures { result ≡ put_locked locked first_locked last_locked self }
     {
-        let r = self.r;
         State {
-            r,
-            pc: self.pc,
-            n: self.n,
-            journaled: self.journaled,
-            board: self.board,
-            enabled: self.enabled,
-            pending: self.pending,
-            line: self.line,
-            return_address: self.return_address,
             locked,
             first_locked,
             last_locked,
+            ..self
         }
     }
 
@@ -369,59 +299,26 @@ impl State {
         let line = self.lowest_line();
         let pending = without_lowest(self.pending);
         State {
-            r,
             pc: 0x0100,
             n: self.n + 1,
-            journaled: self.journaled,
-            board: self.board,
             enabled: 0,
             pending,
             line,
             return_address: self.pc,
-            locked: self.locked,
-            first_locked: self.first_locked,
-            last_locked: self.last_locked,
+            ..self
         }
     }
 
     pub fn with_enabled(self, v: u8) -> Self
         ensures { result ≡ put_enabled v self }
     {
-        let r = self.r;
-        State {
-            r,
-            pc: self.pc,
-            n: self.n,
-            journaled: self.journaled,
-            board: self.board,
-            enabled: v,
-            pending: self.pending,
-            line: self.line,
-            return_address: self.return_address,
-            locked: self.locked,
-            first_locked: self.first_locked,
-            last_locked: self.last_locked,
-        }
+        State { enabled: v, ..self }
     }
 
     pub fn with_pending(self, v: u8) -> Self
         ensures { result ≡ put_pending v self }
     {
-        let r = self.r;
-        State {
-            r,
-            pc: self.pc,
-            n: self.n,
-            journaled: self.journaled,
-            board: self.board,
-            enabled: self.enabled,
-            pending: v,
-            line: self.line,
-            return_address: self.return_address,
-            locked: self.locked,
-            first_locked: self.first_locked,
-            last_locked: self.last_locked,
-        }
+        State { pending: v, ..self }
     }
 
     // The line's bit is set, set or not before.
@@ -436,20 +333,10 @@ impl State {
     pub fn with_taken(self, line: u8, return_address: u16) -> Self
         ensures { result ≡ put_taken line return_address self }
     {
-        let r = self.r;
         State {
-            r,
-            pc: self.pc,
-            n: self.n,
-            journaled: self.journaled,
-            board: self.board,
-            enabled: self.enabled,
-            pending: self.pending,
             line,
             return_address,
-            locked: self.locked,
-            first_locked: self.first_locked,
-            last_locked: self.last_locked,
+            ..self
         }
     }
 }

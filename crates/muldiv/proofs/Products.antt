@@ -1,74 +1,52 @@
--- Products of words: the high half of the signed product, as the code makes it from the unsigned one.
+-- Products of words read as signed, as the code makes them in 32 bits.
 -- Assumes nothing.
-use mathlib.Core.Path.{◌≡◌, sym, ap, ◌∙◌}
-use mathlib.Core.Bool.{Bool, true, false}
-use Prim.Native.Nat.{ℕ, zero, suc, ◌+◌, ◌-◌, ◌*◌, ◌/◌, ◌%◌, ◌^◌, ◌<◌, ◌≤◌}
-use native.Mathlib.Nat.{add-mul, mul-add, mul-le-mul, add-mul-div_right, mod-eq_of_lt, mod_self, zero-mod, mod-mod, mod-add-mod, add-mod_right}
+use mathlib.Core.Path.{◌≡◌, sym, ◌∙◌}
+use Prim.Native.Nat.{ℕ, zero, suc, ◌*◌, ◌/◌, ◌^◌, ◌<◌, ◌≤◌}
+use native.Mathlib.Nat.{mul-le-mul, mod-eq_of_lt}
 use native.Mathlib.Omega.{arith}
-use lib.Dec.{ltb}
-use lib.IntN.{pos, negsuc, neg_ℤ, ◌*ℤ◌}
-use lib.Pow.{field}
-use mir.Syntax.{w16, w32}
-use mir.Val.{Fits}
-use Rattle.word.specs.Word.{pick, subtract, low_bits}
-use Rattle.word.proofs.Signed.{signed_is}
-use Rattle.muldiv.specs.Muldiv.{high, mulh, mulhu}
+use lib.IntN.{ℤ, pos, negsuc, neg_ℤ, ◌*ℤ◌}
+use lib.Signed.{mag}
+use mir.Syntax.{Width, w16, w32}
+use mir.Val.{bits, hbits, of_z, to_z}
+use Rattle.std.proofs.lemmas.Int.{to_z-of_z}
+use Rattle.word.specs.Word.{signed, low_bits}
+use Rattle.word.proofs.Signed.{cast_is, low_lt}
+use Rattle.muldiv.specs.Muldiv.{high, mulh}
 
--- a product of words has 32 bits
-pub product_fits : (x y : ℕ) → Fits w16 x → Fits w16 y → Fits w32 (x * y)
-product_fits x y hx hy =
-    let l : x * y ≤ 65535 * 65535 = mul-le-mul {n₂ = 65535} {m₂ = 65535} (omega arith) (omega arith) in
-    omega arith
+-- a number that fits is read as it was written
+pub kept : (w : Width) (z : ℤ) → mag z < 2 ^ hbits w → to_z w (of_z w z) ≡ z
+kept w z h = to_z-of_z w z (record { sfits = h })
 
--- the low k bits of -q
-pub low_neg : (k q : ℕ) → q ≤ 2 ^ k → low_bits k (neg_ℤ (pos q)) ≡ (2 ^ k - q) % 2 ^ k
+-- its bits are its low bits
+pub low_of : (w : Width) (z : ℤ) → mag z < 2 ^ bits w → of_z w z ≡ low_bits (bits w) z
 unfolding low_bits
-low_neg k zero h = zero-mod (2 ^ k) ∙ sym (mod_self (2 ^ k)) ∙ ap (λ n. n % 2 ^ k) (omega arith)
-low_neg k (suc q) h = rw (mod-eq_of_lt {n = q} {m = 2 ^ k} h, mod-eq_of_lt {n = 2 ^ k - suc q} {m = 2 ^ k} (omega arith))
+low_of w (pos n) h = sym (mod-eq_of_lt h)
+low_of w (negsuc n) h = rw (mod-eq_of_lt {n = n} {m = 2 ^ bits w} h)
 
--- p with u and v less in its high half, modulo 2^32
-abbrev less : ℕ → ℕ → ℕ → ℕ
-less p u v = p + (65536 - u + (65536 - v)) * 65536
+pub mag_neg : (n : ℕ) → mag (neg_ℤ (pos n)) ≤ n
+mag_neg zero = omega arith
+mag_neg (suc n) = omega arith
 
-high_less : (p u v : ℕ) → subtract (subtract (high p) u) v ≡ high (less p u v % 4294967296)
-high_less p u v =
-    rw (
-      field (less p u v) 16 16,
-      mod-mod (less p u v / 65536) 65536,
-      add-mul-div_right p (65536 - u + (65536 - v)) {z = 65536} (omega arith),
-      mod-add-mod (p / 65536 % 65536 + (65536 - u)) 65536 (65536 - v),
-    )
-    (omega arith)
+small : (a b : ℕ) → a ≤ 32768 → b ≤ 32768 → a * b ≤ 1073741824
+small a b h k = mul-le-mul {n₂ = 32768} {m₂ = 32768} h k
 
-less_neg : (p q u v : ℕ) → u + v ≤ 65536 → p + q ≡ (u + v) * 65536 → less p u v % 4294967296 ≡ low_bits 32 (neg_ℤ (pos q))
-less_neg p q u v h e =
-    let s : less p u v ≡ 4294967296 - q + 4294967296 = omega arith in
-    ap (λ n. n % 4294967296) s ∙ add-mod_right (4294967296 - q) 4294967296 ∙ sym (low_neg 32 q (omega arith))
+-- a product of two words has 32 bits
+product_fits : (a b : ℤ) → mag a < 32768 → mag b < 32768 → mag (a *ℤ b) < 2147483648
+product_fits (pos a) (pos b) h k = omega (arith, small a b (omega arith) (omega arith))
+product_fits (pos a) (negsuc b) h k = omega (arith, mag_neg (a * suc b), small a (suc b) (omega arith) (omega arith))
+product_fits (negsuc a) (pos b) h k = omega (arith, mag_neg (suc a * b), small (suc a) b (omega arith) (omega arith))
+product_fits (negsuc a) (negsuc b) h k = omega (arith, small (suc a) (suc b) (omega arith) (omega arith))
 
--- each factor may be 65,536 less: x or -(a + 1), y or -(b + 1)
-module _ (x y a b : ℕ) (ex : x + suc a ≡ 65536) (ey : y + suc b ≡ 65536) where
-  left : x * y + suc a * y ≡ 65536 * y
-  left = rw (← add-mul, ex)
-
-  right : (k : ℕ) → k * y + k * suc b ≡ k * 65536
-  right k = rw (← mul-add, ey)
-
-  less_signed :
-      (s t : Bool)
-      → less (x * y) (pick s 0 y) (pick t 0 x) % 4294967296
-      ≡ low_bits 32 (pick s (pos x) (negsuc a) *ℤ pick t (pos y) (negsuc b))
-  unfolding low_bits
-  less_signed true true = omega arith
-  less_signed true false = less_neg (x * y) (x * suc b) 0 x (omega arith) (omega (arith, right x))
-  less_signed false true = less_neg (x * y) (suc a * y) y 0 (omega arith) (omega (arith, left))
-  less_signed false false = omega (arith, left, right (suc a))
-
--- the high half of the signed product is that of the unsigned one, with y less where x is negative, and x where y is
+-- the upper half of the product of a and b, which x and y are read as
 pub mulh_is :
-    (x y : ℕ) → x < 65536 → y < 65536
-    → subtract (subtract (mulhu x y) (pick (ltb x 32768) 0 y)) (pick (ltb y 32768) 0 x) ≡ mulh x y
-mulh_is x y hx hy =
-    rw (signed_is 16 x hx, signed_is 16 y hy)
-    (high_less (x * y) (pick (ltb x 32768) 0 y) (pick (ltb y 32768) 0 x)
-    ∙ ap high
-    (less_signed x y (65536 - suc x) (65536 - suc y) (omega arith) (omega arith) (ltb x 32768) (ltb y 32768)))
+    (x y : ℕ) (a b : ℤ) → x < 65536 → y < 65536 → a ≡ to_z w16 x → b ≡ to_z w16 y → mag a < 32768 → mag b < 32768
+    → of_z w32 (to_z w32 (of_z w32 (to_z w32 (of_z w32 a) *ℤ to_z w32 (of_z w32 b)))) / 65536 ≡ mulh x y
+mulh_is x y a b hx hy ea eb ha hb =
+    (λ i. of_z w32 (to_z w32 (of_z w32 (kept w32 a (omega arith) i *ℤ kept w32 b (omega arith) i))) / 65536)
+    ∙ (λ i. of_z w32 (kept w32 (a *ℤ b) (product_fits a b ha hb) i) / 65536)
+    ∙ (λ i. low_of w32 (a *ℤ b) (omega (arith, product_fits a b ha hb)) i / 65536)
+    ∙ (λ i. low_bits 32 ((ea ∙ cast_is x hx) i *ℤ (eb ∙ cast_is y hy) i) / 65536)
+    ∙ upper (low_bits 32 (signed 16 x *ℤ signed 16 y)) (low_lt 32 (signed 16 x *ℤ signed 16 y))
+  where
+    upper : (p : ℕ) → p < 4294967296 → p / 65536 ≡ high p
+    upper p h = omega arith

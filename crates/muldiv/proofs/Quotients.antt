@@ -1,45 +1,42 @@
--- Quotients of words: the signed quotient, as the code makes it from the quotient of the absolute values.
+-- Quotients of words read as signed, as the code makes them in 16 bits.
 -- Assumes nothing.
-use mathlib.Core.Path.{◌≡◌, refl}
-use mathlib.Core.Bool.{Bool, true, false}
-use Prim.Native.Nat.{ℕ, suc, ◌-◌, ◌/◌, ◌<◌, ◌≤◌}
-use native.Mathlib.Nat.{div-le_self}
+use mathlib.Core.Path.{◌≡◌, ◌∙◌}
+use Prim.Native.Nat.{ℕ, suc, ◌/◌, ◌<◌}
+use native.Mathlib.Nat.{div-le_self, div-zero}
 use native.Mathlib.Omega.{arith}
-use borrow.Author.Tests.{ltb-true, ltb-false, eq-eqb, ne_eqb}
-use lib.Dec.{ltb, eqb}
-use lib.IntN.{ℤ, pos, negsuc, neg_ℤ, nat_abs}
-use lib.Signed.{quot_z}
-use Rattle.word.specs.Word.{pick, subtract, signed, low_bits}
-use Rattle.word.proofs.Signed.{signed_is}
+use lib.IntN.{ℤ, pos, negsuc}
+use lib.Signed.{mag, quot_z}
+use mir.Syntax.{w16}
+use mir.Val.{of_z, to_z}
+use Rattle.std.proofs.lemmas.Int.{of_z-to_z}
+use Rattle.word.specs.Word.{signed, low_bits}
+use Rattle.word.proofs.Signed.{cast_is, low_lt}
 use Rattle.muldiv.specs.Muldiv.{div}
-use Rattle.muldiv.proofs.Products.{low_neg}
+use Rattle.muldiv.proofs.Products.{kept, low_of, mag_neg}
 
--- x, or x - 65,536
-abbrev read : Bool → ℕ → ℤ
-read s x = pick s (pos x) (negsuc (65536 - suc x))
+-- a quotient of two words has 16 bits
+quotient_fits : (a b : ℤ) → mag a < 32768 → mag (quot_z a b) < 65536
+quotient_fits (pos a) (pos b) h = omega (arith, div-le_self a b)
+quotient_fits (pos a) (negsuc b) h = omega (arith, div-le_self a (suc b), mag_neg (a / suc b))
+quotient_fits (negsuc a) (pos b) h = omega (arith, div-le_self (suc a) b, mag_neg (suc a / b))
+quotient_fits (negsuc a) (negsuc b) h = omega (arith, div-le_self (suc a) (suc b))
 
--- q where x and y have the same sign, else -q
-abbrev by_signs : ℕ → ℕ → ℕ → ℕ
-by_signs x y q = pick (eqb (x / 32768) (y / 32768)) q (subtract 0 q)
-
-by_signs_same : (x y n d : ℕ) → n ≤ 32768 → x / 32768 ≡ y / 32768 → by_signs x y (n / d) ≡ low_bits 16 (pos (n / d))
-unfolding low_bits
-by_signs_same x y n d l e = rw (eq-eqb _ _ e) (omega (arith, div-le_self n d))
-
-by_signs_apart :
-    (x y n d : ℕ) → n ≤ 32768 → (x / 32768 ≡ y / 32768 → ⊥) → by_signs x y (n / d) ≡ low_bits 16 (neg_ℤ (pos (n / d)))
-by_signs_apart x y n d l e = rw (ne_eqb _ _ e, low_neg 16 (n / d) (omega (arith, div-le_self n d))) (omega arith)
-
--- the signed quotient is that of the absolute values, negative where the signs differ
+-- the quotient of a and b, which x and y are read as
 pub div_is :
-    (x y : ℕ) → x < 65536 → y < 65536
-    → by_signs x y (nat_abs (signed 16 x) / nat_abs (signed 16 y)) ≡ div x y
-div_is x y hx hy = rw (signed_is 16 x hx, signed_is 16 y hy) (go (ltb x 32768) refl (ltb y 32768) refl)
+    (x y : ℕ) (a b : ℤ) → x < 65536 → y < 65536 → a ≡ to_z w16 x → b ≡ to_z w16 y → mag a < 32768 → mag b < 32768
+    → of_z w16 (to_z w16 (of_z w16 (quot_z (to_z w16 (of_z w16 a)) (to_z w16 (of_z w16 b))))) ≡ div x y
+div_is x y a b hx hy ea eb ha hb =
+    let l = low_of w16 (quot_z a b) (quotient_fits a b ha) in
+    (λ i. of_z w16 (to_z w16 (of_z w16 (quot_z (kept w16 a ha i) (kept w16 b hb i)))))
+    ∙ (λ i. of_z w16 (to_z w16 (l i)))
+    ∙ of_z-to_z w16 (low_bits 16 (quot_z a b)) (low_lt 16 (quot_z a b))
+    ∙ (λ i. low_bits 16 (quot_z ((ea ∙ cast_is x hx) i) ((eb ∙ cast_is y hy) i)))
+
+-- a quotient by 0 is 0
+pub by_zero : (x : ℕ) → 0 ≡ div x 0
+unfolding signed low_bits
+by_zero x = go (signed 16 x)
   where
-    go :
-        (s : Bool) → ltb x 32768 ≡ s → (t : Bool) → ltb y 32768 ≡ t
-        → by_signs x y (nat_abs (read s x) / nat_abs (read t y)) ≡ low_bits 16 (quot_z (read s x) (read t y))
-    go true e true f = by_signs_same x y _ _ (omega (arith, ltb-true)) (omega (arith, ltb-true))
-    go true e false f = by_signs_apart x y _ _ (omega (arith, ltb-true)) (omega (arith, ltb-true, ltb-false))
-    go false e true f = by_signs_apart x y _ _ (omega (arith, ltb-false)) (omega (arith, ltb-true, ltb-false))
-    go false e false f = by_signs_same x y _ _ (omega (arith, ltb-false)) (omega (arith, ltb-false))
+    go : (z : ℤ) → 0 ≡ low_bits 16 (quot_z z (pos 0))
+    go (pos a) = rw (div-zero a)
+    go (negsuc a) = rw (div-zero (suc a))

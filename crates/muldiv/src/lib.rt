@@ -1,42 +1,26 @@
 // Products and quotients of words: the operations of opcode 11.
 #![tactic(auto)]
 
-ghost use Rattle.std.specs.Prelude.{◌≡◌, ltb, nat_abs};
-ghost use Rattle.word.specs.Word.{pick, signed};
+ghost use Rattle.std.specs.Prelude.{◌≡◌};
 ghost use Rattle.muldiv.specs.Muldiv.{mul, mulh, mulhu, div, divu, muldiv};
 
 pub fn low_product(x: u16, y: u16) -> u16
     ensures { result ≡ mul x y }
 {
-    ((x as u32) * (y as u32) % 65536) as u16
+    x.wrapping_mul(y)
 }
 
 pub fn high_product(x: u16, y: u16) -> u16
     ensures { result ≡ mulhu x y }
 {
-    ((x as u32) * (y as u32) / 65536) as u16
+    (u32::from(x) * u32::from(y) / 65536) as u16
 }
 
-// y where x, read as signed, is negative, else 0.
-fn where_negative(x: u16, y: u16) -> u16
-    ensures { result ≡ pick (ltb x 32768) 0 y }
-{
-    if x < 32768 { 0 } else { y }
-}
-
-// Read as signed, a negative x is x - 65,536: the high half of the unsigned product has y too much, and x for a negative y.
 pub fn high_product_signed(x: u16, y: u16) -> u16
     ensures { result ≡ mulh x y }
 {
-    let less = word::difference(high_product(x, y), where_negative(x, y));
-    word::difference(less, where_negative(y, x))
-}
-
-// The absolute value of x read as signed.
-fn magnitude(x: u16) -> u16
-    ensures { result ≡ nat_abs (signed 16 x) }
-{
-    if x < 32768 { x } else { word::difference(0, x) }
+    let product = i32::from(x.cast_signed()) * i32::from(y.cast_signed());
+    (product.cast_unsigned() / 65536) as u16
 }
 
 // 0 where y is 0.
@@ -46,19 +30,20 @@ pub fn quotient(x: u16, y: u16) -> u16
     if y == 0 { 0 } else { x / y }
 }
 
-// 0 where y is 0. The quotient of the absolute values, negative where one of the two is.
+// 0 where y is 0.
 pub fn quotient_signed(x: u16, y: u16) -> u16
     ensures { result ≡ div x y }
 {
-    let q = quotient(magnitude(x), magnitude(y));
-    if x / 32768 == y / 32768 {
-        q
+    if y == 0 {
+        0
     } else {
-        word::difference(0, q)
+        let q = x.cast_signed().wrapping_div(y.cast_signed());
+        q.cast_unsigned()
     }
 }
 
 // The operations of opcode 11, by f; 0 where f is not one of theirs.
+#[tactic(auto, unfolding(crate::specs::Muldiv::muldiv))]
 pub fn compute(f: u16, x: u16, y: u16) -> u16
     ensures { result ≡ muldiv f x y }
 {

@@ -13,6 +13,7 @@ fn mixed(t: u32) -> u32
 }
 
 // Number k of case c.
+#[tactic(auto, unfolding(crate::specs::Numbers::number_of))]
 pub fn number(c: u16, k: u16) -> u16
     ensures { result ≡ number_of c k }
 {

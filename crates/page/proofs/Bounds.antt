@@ -1,6 +1,6 @@
 -- What a run reports is within its budget and its log.
 -- Assumes nothing.
-use mathlib.Core.Bool.{Bool, true, false, ◌||◌}
+use mathlib.Core.Bool.{◌||◌}
 use mathlib.Core.List.{List, [], ◌∷◌}
 use Prim.Native.Nat.{ℕ, ◌*◌, ◌≤◌}
 use native.Mathlib.Omega.{arith}
@@ -11,8 +11,6 @@ use Rattle.kinds.specs.declared.Kind.TheVariants.{Ld, St, Ldb, Stb}
 use Rattle.machine.specs.Machine.{Machine}
 use Rattle.machine.specs.Run.{Stepper}
 use Rattle.machine.proofs.Runs.{Lawful}
-use Rattle.control.specs.Control.{table}
-use Rattle.control.proofs.Laws.{lawful_control, lawful_rules}
 use Rattle.usage.specs.declared.Usage.{Usage}
 use Rattle.usage.specs.Usage.{does, ticks_at, ticks_of, unused}
 use Rattle.usage.proofs.Sums.{Sized, AtMost, unused_sized, unused_most, trace_sized}
@@ -20,11 +18,7 @@ use Rattle.run.specs.Runs.{Given, outcome_on, trace_on, verdict_on, CountedLeft,
 use Rattle.run.proofs.Journals.{is_started}
 use Rattle.run.proofs.Ticks.{traced_on, trace_most, steps_traced}
 use Rattle.page.specs.Pages.{report}
-use Rattle.page.specs.Parts.{engine_of, FewCounts}
-
-pub lawful : (t : Bool) → Lawful (engine_of t)
-lawful true = lawful_control table
-lawful false = lawful_rules
+use Rattle.page.specs.Parts.{FewCounts}
 
 tick_most : (m : Machine) → ticks_at m ≤ 4
 tick_most m = either (λ n. n ≤ 4) (does Ld m || does St m || does Ldb m || does Stb m) (omega arith) (omega arith)

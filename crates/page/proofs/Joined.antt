@@ -9,7 +9,7 @@ use lib.ListN.{length, take, drop, length-append, length-take, length-drop}
 use lib.Seq.{take_at, drop_at, take-append-add, drop-append-add, take-append-le, drop-append-le}
 use Rattle.run.specs.Runs.{CountedLeft}
 use Rattle.page.specs.Pages.{rejoined}
-use Rattle.page.specs.Parts.{Each, Joins}
+use Rattle.page.specs.Parts.{Joins}
 
 -- ---- A part from k places after its start on
 
@@ -115,19 +115,3 @@ module _ {n : ℕ} {f : CountedLeft → List ℕ} {past : List ℕ} (done : List
         omega (arith, ap length e, length-append (take k (f c)) ys, length-take k (f c), l, ap length cut_out, length-drop k (f c), h.long) in
         let z = h.again d long in
         record { sized = z.sized; is = put h.pre (f c) h.post h.is from to k starts stops inside ys ∙ ap (λ l. h.pre ++ (l ++ h.post)) (sym e) ∙ z.is }
-
--- ---- Its length
-
-pub joined_long : (n : ℕ) (f : CountedLeft → List ℕ) (cs : List CountedLeft) → Each (λ c. length (f c) ≡ n) cs → length (rejoined f cs) ≡ length cs * n
-unfolding rejoined
-joined_long n f [] s = omega arith
-joined_long n f (c ∷ cs) s = omega (arith, s.0, joined_long n f cs s.1, length-append (f c) (rejoined f cs), suc-mul (length cs) n)
-
--- that of the lists of as many trims
-pub as_long : {n : ℕ} {f : CountedLeft → List ℕ} {past : List ℕ} (cs ds : List CountedLeft) {xs ys : List ℕ} → length cs ≡ length ds → Joins n f past cs xs → Joins n f past ds ys → length ys ≡ length xs
-as_long {n} {f} {past} cs ds e j k =
-    ap length k.is
-    ∙ length-append (rejoined f ds) past
-    ∙ ap (λ m. m + length past) (joined_long n f ds k.sized ∙ ap (λ m. m * n) (sym e) ∙ sym (joined_long n f cs j.sized))
-    ∙ sym (length-append (rejoined f cs) past)
-    ∙ ap length (sym j.is)

@@ -1,7 +1,7 @@
 -- An accepted page: its first round can begin, its second can follow, and what that leaves is what the definition says.
 -- Assumes nothing.
 use mathlib.Core.Path.{◌≡◌, refl, sym, ap, subst, ◌∙◌}
-use mathlib.Core.Bool.{Bool, true, false}
+use mathlib.Core.Bool.{true, false}
 use mathlib.Core.List.{List, [], ◌∷◌, append-nil}
 use Prim.Native.Nat.{ℕ, ◌+◌, ◌-◌, ◌*◌, ◌≤◌}
 use native.Mathlib.Nat.{mul-div-le, div-le_self}
@@ -10,12 +10,13 @@ use lib.ListN.{length, drop, replicate}
 use Rattle.refusal.specs.Refusals.{accepted, refused}
 use Rattle.machine.specs.Machine.{reset}
 use Rattle.machine.specs.Run.{Stepper}
+use Rattle.machine.proofs.Runs.{Lawful}
 use Rattle.run.specs.Runs.{CountedLeft, counted_left}
 use Rattle.page.specs.declared.TrimAnswer.{TrimAnswer}
 use Rattle.page.specs.declared.turns.Progress.{Progress}
 use Rattle.page.specs.Pages.{PageGiven, PageLeft, up_from, of_each, places, trim, page_verdict, report, share, first_round, total_steps, second_round, trims_end, answer_of, no_answer, rejoined, accepted_page, page_left_by, page_left, PageMeets}
-use Rattle.page.specs.Parts.{engine_of, Each, Joins, Past, Stands, CanRunOn, round_by, CanRound, RoundedTo}
-use Rattle.page.proofs.Bounds.{lawful, Within, within, unused_few}
+use Rattle.page.specs.Parts.{Each, Joins, Past, Stands, CanRunOn, round_by, CanRound, RoundedTo}
+use Rattle.page.proofs.Bounds.{Within, within, unused_few}
 use Rattle.page.proofs.Verdicts.{Accepts, accepts, accepted_less}
 use Rattle.page.proofs.Handed.{untouched, each_long, joins_parts, joins_all, places_all, same_all, each_of, no_steps}
 use Rattle.page.proofs.Shares.{shared_out, rest_out}
@@ -35,10 +36,7 @@ unfolding total_steps
 each_steps rest budget [] h = tt
 each_steps rest budget (c ∷ cs) h = (omega arith, each_steps rest budget cs (omega arith))
 
-module _ (through_table : Bool) (g : PageGiven) (ok : accepted ≡ page_verdict g) (fits : g.budget ≤ 4294967295) (eight : length g.states ≡ 8) where
-  abbrev v : Stepper
-  v = engine_of through_table
-
+module _ (v : Stepper) (law : Lawful v) (g : PageGiven) (ok : accepted ≡ page_verdict g) (fits : g.budget ≤ 4294967295) (eight : length g.states ≡ 8) where
   a : Accepts g
   a = accepts g ok
 
@@ -94,7 +92,7 @@ module _ (through_table : Bool) (g : PageGiven) (ok : accepted ≡ page_verdict 
 
   shares : round_by v false (share g) g.budget (of_each g handed) ≡ first_round v g
   shares =
-      shared_out v (lawful through_table) g (share g) few_share 0 g.count g.budget enough
+      shared_out v law g (share g) few_share 0 g.count g.budget enough
       (each_map (λ k e. let t = trim g (share g) k in accepted_less t.state t.P t.D t.I t.O (div-le_self g.budget g.count) e) (up_from 0 g.count) a.trims)
 
   module _ {none : TrimAnswer} (is_none : none ≡ no_answer) {p : Progress} {D' I' O' log' : List ℕ}
@@ -115,7 +113,7 @@ module _ (through_table : Bool) (g : PageGiven) (ok : accepted ≡ page_verdict 
     first_can =
         each_with (λ c w h. record { entries = w.entries; steps = omega (arith, h, fits); ticks = omega (arith, w.ticks, few_share); counts = w.counts })
         (first_round v g)
-        (each_of (Within (share g)) (λ k. counted_left v (trim g (share g) k)) (λ k. within v (lawful through_table) (trim g (share g) k) few_share) 0 g.count)
+        (each_of (Within (share g)) (λ k. counted_left v (trim g (share g) k)) (λ k. within v law (trim g (share g) k) few_share) 0 g.count)
         (each_steps p.rest g.budget (first_round v g) (omega (arith, unused_is)))
 
     pub can_go_on : CanRound g.count (places g) p g.P D' I' O' log'

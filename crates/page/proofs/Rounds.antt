@@ -14,7 +14,6 @@ use Rattle.page.specs.declared.turns.Turned.{Turned}
 use Rattle.page.specs.declared.turns.Progress.{Progress}
 use Rattle.page.specs.Pages.{report, answer_of, total_steps}
 use Rattle.page.specs.Parts.{Each, Past, Stands, CanRunOn, turn_by, round_by, CanTurn, TurnedTo, CanRound, RoundedTo}
-use Rattle.page.proofs.Joined.{as_long}
 
 -- ---- An array of one of each trim
 
@@ -163,25 +162,6 @@ module _ (v : Stepper) (again : Bool) (most count places : ℕ) where
             }
 
     -- ---- Its end
-
-    -- what is lent has as many places as before
-    pub record AsLong (D₀ I₀ O₀ log₀ : List ℕ) : Type 0 where
-      pub memories : length D ≡ length D₀
-      pub inputs : length I ≡ length I₀
-      pub outputs : length O ≡ length O₀
-      pub parts : length log ≡ length log₀
-
-    pub as_long_as : {ss₀ : List State} {ans₀ : List TrimAnswer} {P₀ D₀ I₀ O₀ log₀ : List ℕ} → Stands places past cs₀ ss₀ ans₀ P₀ D₀ I₀ O₀ log₀ → length cs₀ ≡ count → AsLong D₀ I₀ O₀ log₀
-    as_long_as s e =
-        let n : length cs₀ ≡ length (g.done ++ g.todo) = e ∙ sym g.number ∙ sym (length-append g.done g.todo) in
-        let l = s.lent in
-        let m = g.stands.lent in
-        record {
-          memories = as_long cs₀ _ n l.memories m.memories;
-          inputs = as_long cs₀ _ n l.inputs m.inputs;
-          outputs = as_long cs₀ _ n l.outputs m.outputs;
-          parts = as_long cs₀ _ n l.parts m.parts;
-        }
 
     pub ends : count ≤ i → RoundedTo v again most rest₀ places past cs₀ (record { states = ss; answers = ans; rest = rest }) P D I O log
     unfolding round_by

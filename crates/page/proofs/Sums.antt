@@ -1,15 +1,13 @@
 -- The loop that adds counts stores their sums (`Filled`).
 -- Assumes nothing.
 use mathlib.Core.Path.{◌≡◌, refl, ap, ◌∙◌}
-use mathlib.Core.List.{List, [], ◌∷◌, ◌++◌, map}
+use mathlib.Core.List.{List, [], ◌∷◌, ◌++◌}
 use Prim.Native.Nat.{ℕ, zero, suc, ◌+◌, ◌<◌}
 use native.Mathlib.Nat.{le_of_suc-le-suc, not-suc-le-zero}
 use native.Mathlib.Omega.{arith}
-use borrow.Author.Rules.{length_unmapped}
 use lib.ListN.{length, get_or, take, drop, set}
 use Rattle.block.proofs.Filling.{Filled, start, turn}
 use Rattle.usage.specs.Usage.{plus_counts}
-use Rattle.usage.specs.Counting.{Few}
 use Rattle.page.specs.Parts.{Addable}
 
 plus_length : (xs ys : List ℕ) → length ys ≡ length xs → length (plus_counts xs ys) ≡ length xs
@@ -40,29 +38,15 @@ pub record Added (counts more target : List ℕ) (i : ℕ) : Type 0 where
 pub add_start : {counts more : List ℕ} → Addable counts more → Added counts more counts 0
 add_start {counts} {more} a = record { can = a; filled = start (plus_length counts more a.alike) }
 
-module _ {counts more target : List ℕ} {i : ℕ} (a : Added counts more target i) (h : i < length target) where
+module _ {counts more target : List ℕ} {i : ℕ} (a : Added counts more target i) (h : i < length counts) where
   old : get_or target i 0 ≡ get_or counts i 0
   old =
       ap (λ (l : List ℕ). get_or l i 0) a.filled.stored
       ∙ not_yet (plus_counts counts more) counts i (omega (arith, a.filled)) (omega (arith, a.filled))
 
-  pub add_within : i < length more
-  add_within = omega (arith, a.filled, a.can)
-
-  pub add_fits : get_or target i 0 + get_or more i 0 < 18446744073709551616
-  add_fits = omega (arith, old, a.can.fits i)
-
   pub add_turn : {v : ℕ} → v ≡ get_or target i 0 + get_or more i 0 → Added counts more (set target i v) (i + 1)
   add_turn e =
       record {
         can = a.can;
-        filled = turn a.filled h (e ∙ rw old (plus_at counts more i (omega (arith, a.filled)) a.can.alike));
+        filled = turn a.filled (omega (arith, a.filled)) (e ∙ rw old (plus_at counts more i (omega (arith, a.filled)) a.can.alike));
       }
-
--- arrays of one length with counts of 32 bits can be added
-pub addable : (xs ys : List ℕ) (n : ℕ) → length (map (λ (v : ℕ). v) xs) ≡ n → length (map (λ (v : ℕ). v) ys) ≡ n → Few xs → Few ys → Addable xs ys
-addable xs ys n a b p q =
-    record {
-      alike = length_unmapped ℕ ys n b ∙ rw (length_unmapped ℕ xs n a);
-      fits = λ k. omega (arith, p k, q k);
-    }

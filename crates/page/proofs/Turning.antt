@@ -1,7 +1,7 @@
 -- The turn of one of the trims: the parts that it is lent, and what its run makes of it.
 -- Assumes nothing.
 use mathlib.Core.Path.{◌≡◌, refl, sym, ap, subst, ◌∙◌}
-use mathlib.Core.Bool.{Bool, true, false, ◌&&◌}
+use mathlib.Core.Bool.{Bool, false, ◌&&◌}
 use mathlib.Core.List.{List, ◌∷◌, ◌++◌}
 use Prim.Native.Nat.{ℕ, ◌+◌, ◌-◌, ◌*◌, ◌≤◌}
 use native.Mathlib.Nat.{add-zero}
@@ -160,17 +160,3 @@ module _ {at places : ℕ} {s : State} {a : TrimAnswer} {P D I O : List ℕ} {bu
             steps = ap (λ d. (report d).steps) (sym runs) ∙ ap (λ k. (report x.c).steps + k) (sym steps_are);
             few = omega (arith, steps_are, few.steps);
           }
-
-  -- ---- A trim that is left nothing
-
-  pub left_out : (v : Stepper) (again : Bool) → again && eqb budget 0 ≡ true
-      → TurnedTo v again budget places x.past x.done x.c x.todo (record { state = s; answer = a; steps = 0 }) P D I O log
-  left_out v again e =
-      let stays : x.c ≡ turn_by v again budget x.c = ap (λ t. pick t x.c (as_one x.c (run_on v budget x.c))) (sym e) in
-      record {
-        lent = subst (λ d. Lent places x.past (x.done ++ d ∷ x.todo) P D I O log) stays x.lent;
-        state = x.state ∙ ap (λ d. d.left.state) stays;
-        answer = x.answer ∙ ap answer_of stays;
-        steps = ap (λ d. (report d).steps) (sym stays) ∙ sym (add-zero _);
-        few = omega arith;
-      }

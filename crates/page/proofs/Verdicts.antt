@@ -58,9 +58,6 @@ module _ (g : PageGiven) where
     pub place : i ≤ g.count
     pub others : first_refusal (map verdict_at (up_from i (g.count - i))) ≡ in_order g
 
-  pub check_start : Checking 0
-  check_start = let n : g.count - 0 ≡ g.count = omega arith in record { place = omega arith; others = ap (λ k. first_refusal (map verdict_at (up_from 0 k))) n }
-
   module _ {i : ℕ} (c : Checking i) where
     module _ (h : i < g.count) where
       next_is : up_from i (g.count - i) ≡ i ∷ up_from (i + 1) (g.count - (i + 1))

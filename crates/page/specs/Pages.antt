@@ -1,6 +1,6 @@
 -- Several trims, one allowance (02, L13): what a page is given, refuses, replies and leaves, by the rules or by a control table.
 use Rattle.std.specs.Prelude.{◌≡◌, Bool, ◌&&◌, List, [], ◌∷◌, ◌++◌, map, ℕ, zero, suc, ◌+◌, ◌-◌, ◌*◌, ◌/◌, eqb, leb, length, get_or, take, drop, replicate}
-use Rattle.refusal.specs.Refusals.{Verdict, accepted, refused}
+use Rattle.refusal.specs.Refusals.{Verdict, accepted, refused, shown_check}
 use Rattle.word.specs.Word.{pick}
 use Rattle.machine.specs.declared.State.{State}
 use Rattle.machine.specs.Machine.{reset}
@@ -8,7 +8,7 @@ use Rattle.machine.specs.Slices.{MutSlice, Slice, before, after, read_before, re
 use Rattle.machine.specs.Run.{Stepper}
 use Rattle.usage.specs.Usage.{unused, plus_usage}
 use Rattle.run.specs.declared.Report.{Report}
-use Rattle.run.specs.Runs.{no_journal, Given, given, left, RunReply, stopped, run_refused, verdict_on, shown_verdict, CountedLeft, counted_left}
+use Rattle.run.specs.Runs.{no_journal, Given, given, left, RunReply, stopped, run_refused, verdict_on, CountedLeft, counted_left}
 use Rattle.page.specs.declared.Trims.{Trims}
 use Rattle.page.specs.declared.TrimAnswer.{TrimAnswer}
 use Rattle.page.specs.declared.Paged.{Paged}
@@ -209,7 +209,7 @@ lent_page trims count programs memories inputs outputs budget log =
 abbrev pub left_page : Slice → MutSlice → MutSlice → MutSlice → MutSlice → Paged → PageLeft
 left_page programs memories inputs outputs log r =
     record {
-      reply = shown_verdict r.check;
+      reply = shown_check r.check;
       states = r.trims.states;
       answers = r.answers;
       P = read_after programs;

@@ -1,12 +1,11 @@
 -- What the functions of this crate promise one another: of the trims as they stand between two runs, and of the lists that these are joined
 -- to. Nothing here is promised to a caller.
-use Rattle.std.specs.Prelude.{◌≡◌, Bool, true, false, ◌&&◌, List, [], ◌∷◌, ◌++◌, map, ℕ, ◌+◌, ◌-◌, ◌*◌, ◌≤◌, min, eqb, length, get_or}
+use Rattle.std.specs.Prelude.{◌≡◌, Bool, ◌&&◌, List, [], ◌∷◌, ◌++◌, map, ℕ, ◌+◌, ◌-◌, ◌*◌, ◌≤◌, min, eqb, length, get_or}
 use Rattle.refusal.specs.Refusals.{Verdict}
 use Rattle.word.specs.Word.{pick}
 use Rattle.machine.specs.declared.State.{State}
 use Rattle.machine.specs.Slices.{MutSlice, Slice, before, after, read_before, read_after}
-use Rattle.machine.specs.Run.{Stepper, by_rules}
-use Rattle.control.specs.Control.{by_the_table}
+use Rattle.machine.specs.Run.{Stepper}
 use Rattle.usage.specs.declared.Usage.{Usage}
 use Rattle.usage.specs.Usage.{plus_usage}
 use Rattle.usage.specs.Counting.{Few}
@@ -16,11 +15,6 @@ use Rattle.page.specs.declared.TrimAnswer.{TrimAnswer}
 use Rattle.page.specs.declared.turns.Turned.{Turned}
 use Rattle.page.specs.declared.turns.Progress.{Progress}
 use Rattle.page.specs.Pages.{PageGiven, of_each, trim, first_refusal, report, run_on, as_one, answer_of, rejoined, total_steps}
-
--- what a page goes by
-abbrev pub engine_of : Bool → Stepper
-engine_of true = by_the_table
-engine_of false = by_rules
 
 abbrev pub Each : {A : Type 0} → (A → Type 0) → List A → Type 0
 Each Q [] = Unit {0}

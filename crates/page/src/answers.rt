@@ -5,7 +5,8 @@ ghost use Rattle.run.specs.Runs.{shown_answer};
 ghost use Rattle.page.specs.Pages.{report_of};
 ghost use Rattle.page.specs.Parts.{FewCounts, Addable};
 
-use run::{Answer, Report};
+use refusal::Refusal;
+use run::Report;
 use usage::Usage;
 
 // Adds counts place by place.
@@ -13,10 +14,8 @@ fn add_counts(counts: &mut [u64], more: &[u64])
     requires { Addable counts.old more.now }
     ensures { counts.new ≡ plus_counts counts.old more.now }
 {
-    let mut i = 0;
-    while i < counts.len() {
-        counts[i] += more[i];
-        i += 1;
+    for (i, count) in counts.iter_mut().enumerate() {
+        *count += more[i];
     }
 }
 
@@ -25,31 +24,21 @@ pub fn add_usage(usage: Usage, more: Usage) -> Usage
     requires few_counts_2 { FewCounts more }
     ensures { result ≡ plus_usage usage more }
 {
-    let taken = usage.taken + more.taken;
-    let mut kinds = usage.kinds;
-    let mut reads = usage.reads;
-    let mut writes = usage.writes;
-    let more_kinds = more.kinds;
-    let more_reads = more.reads;
-    let more_writes = more.writes;
-    add_counts(&mut kinds, &more_kinds);
-    add_counts(&mut reads, &more_reads);
-    add_counts(&mut writes, &more_writes);
-    Usage {
-        kinds,
-        taken,
-        reads,
-        writes,
-    }
+    let mut sum = usage;
+    sum.taken += more.taken;
+    add_counts(&mut sum.kinds, &more.kinds);
+    add_counts(&mut sum.reads, &more.reads);
+    add_counts(&mut sum.writes, &more.writes);
+    sum
 }
 
 // What a run reports; one that is refused reports nothing.
-pub fn report_of(answer: Answer) -> Report
+pub fn report_of(answer: Result<Report, Refusal>) -> Report
     ensures { result ≡ report_of (shown_answer answer) }
 {
     match answer {
-        Answer::Stopped(report) => report,
-        Answer::Refused(refusal) => Report {
+        Ok(report) => report,
+        Err(_) => Report {
             stop: 0,
             steps: 0,
             entries: 0,

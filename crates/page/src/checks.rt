@@ -1,13 +1,12 @@
 // The refusals of a page.
 ghost use Rattle.std.specs.Prelude.{◌≡◌, List, [], ℕ};
-ghost use Rattle.run.specs.Runs.{shown_verdict};
+ghost use Rattle.refusal.specs.Refusals.{shown_check};
 ghost use Rattle.page.specs.Pages.{page_of, page_verdict};
 ghost use Rattle.page.specs.Parts.{in_order, Whole};
 
 use crate::Trims;
 use machine::State;
 use refusal::Refusal;
-use run::Check;
 
 // Trim by trim, the first that is refused decides.
 fn checked_in_order(
@@ -18,31 +17,26 @@ fn checked_in_order(
     inputs: &[u16],
     outputs: &[u16],
     budget: u32,
-) -> Check
+) -> Result<(), Refusal>
     requires { Whole count programs.now memories.now inputs.now outputs.now }
-    ensures { shown_verdict result ≡ in_order (page_of trims.states count programs.now memories.now inputs.now outputs.now budget []) }
+    ensures { shown_check result ≡ in_order (page_of trims.states count programs.now memories.now inputs.now outputs.now budget []) }
 {
     let states = trims.states;
-    let mut i = 0;
-    while i < count {
+    for i in 0..count {
         let a = i * State::MEMORY_BYTES;
         let e = a + State::MEMORY_BYTES;
         let p = i * State::PORTS;
         let q = p + State::PORTS;
-        match run::checked(
+        run::checked(
             states[i],
             &programs[a..e],
             &memories[a..e],
             &inputs[p..q],
             &outputs[p..q],
             budget,
-        ) {
-            Check::Accepted => {}
-            Check::Refused(refusal) => return Check::Refused(refusal),
-        }
-        i += 1;
+        )?;
     }
-    Check::Accepted
+    Ok(())
 }
 
 // The refusals of a page, in their order.
@@ -54,27 +48,27 @@ pub fn checked(
     inputs: &[u16],
     outputs: &[u16],
     budget: u32,
-) -> Check
-    ensures { (log : List ℕ) → shown_verdict result ≡ page_verdict (page_of trims.states count programs.now memories.now inputs.now outputs.now budget log) }
+) -> Result<(), Refusal>
+    ensures { (log : List ℕ) → shown_check result ≡ page_verdict (page_of trims.states count programs.now memories.now inputs.now outputs.now budget log) }
 {
     if count == 0 {
-        return Check::Refused(Refusal::TrimCount);
+        return Err(Refusal::TrimCount);
     }
     if 8 < count {
-        return Check::Refused(Refusal::TrimCount);
+        return Err(Refusal::TrimCount);
     }
     let n = count as usize;
     if programs.len() != n * State::MEMORY_BYTES {
-        return Check::Refused(Refusal::LentLength);
+        return Err(Refusal::LentLength);
     }
     if memories.len() != n * State::MEMORY_BYTES {
-        return Check::Refused(Refusal::LentLength);
+        return Err(Refusal::LentLength);
     }
     if inputs.len() != n * State::PORTS {
-        return Check::Refused(Refusal::LentLength);
+        return Err(Refusal::LentLength);
     }
     if outputs.len() != n * State::PORTS {
-        return Check::Refused(Refusal::LentLength);
+        return Err(Refusal::LentLength);
     }
     checked_in_order(trims, n, programs, memories, inputs, outputs, budget)
 }

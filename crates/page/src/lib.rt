@@ -6,10 +6,12 @@ ghost use Rattle.refusal.specs.Refusals.{accepted};
 ghost use Rattle.machine.specs.Run.{by_rules};
 ghost use Rattle.control.specs.Control.{by_the_table};
 ghost use Rattle.page.specs.Pages.{page_of, page_verdict, trims_end, no_answer, accepted_page, lent_page, left_page, RunsPage};
-ghost use Rattle.page.specs.Parts.{engine_of, with_run, HasRoom};
+ghost use Rattle.page.specs.Parts.{with_run, HasRoom};
 
 use machine::State;
-use run::{Check, Report};
+use refusal::Refusal;
+use run::Report;
+use stepping::{Engine, Rules, Table};
 use turns::Progress;
 use usage::Usage;
 
@@ -38,7 +40,7 @@ pub struct TrimAnswer {
 #[derive(Clone, Copy)]
 pub struct Paged {
     pub trims: Trims,
-    pub check: Check,
+    pub check: Result<(), Refusal>,
     pub answers: [TrimAnswer; 8],
 }
 
@@ -60,20 +62,19 @@ impl TrimAnswer {
         requires { HasRoom self report ticks more }
         ensures { result ≡ with_run self report ticks more }
     {
-        let usage = self.usage;
         Self {
             stop: report.stop,
             steps: self.steps + report.steps,
             entries: self.entries + report.entries,
             ticks: self.ticks + ticks,
-            usage: answers::add_usage(usage, more),
+            usage: answers::add_usage(self.usage, more),
         }
     }
 }
 
 // An accepted page: a round with the shares, then one with all that is unused.
-fn two_rounds(
-    by_table: bool,
+fn two_rounds<E: Engine>(
+    engine: &E,
     trims: Trims,
     count: usize,
     programs: &[u8],
@@ -84,7 +85,7 @@ fn two_rounds(
     log: &mut [u64],
 ) -> Paged
     requires { accepted ≡ page_verdict (page_of trims.states count programs.now memories.old inputs.old outputs.old budget log.old) }
-    ensures { left_page programs memories inputs outputs log result ≡ accepted_page (lent_page trims count programs memories inputs outputs budget log) (trims_end (engine_of by_table) (lent_page trims count programs memories inputs outputs budget log)) }
+    ensures { left_page programs memories inputs outputs log result ≡ accepted_page (lent_page trims count programs memories inputs outputs budget log) (trims_end (E.stepper engine.now) (lent_page trims count programs memories inputs outputs budget log)) }
 {
     let states = trims.states;
     let begun = Progress {
@@ -95,23 +96,23 @@ fn two_rounds(
     let share = budget / count as u32;
     let places = log.len() / count;
     let shared = turns::round(
-        by_table, false, share, count, places, begun, programs, memories, inputs, outputs, log,
+        engine, false, share, count, places, begun, programs, memories, inputs, outputs, log,
     );
     let ended = turns::round(
-        by_table, true, budget, count, places, shared, programs, memories, inputs, outputs, log,
+        engine, true, budget, count, places, shared, programs, memories, inputs, outputs, log,
     );
     let states = ended.states;
     let answers = ended.answers;
     Paged {
         trims: Trims { states },
-        check: Check::Accepted,
+        check: Ok(()),
         answers,
     }
 }
 
-// A page by the rules or by the table: its refusals, then its two rounds.
-fn page(
-    by_table: bool,
+// A page by an engine: its refusals, then its two rounds.
+fn page<E: Engine>(
+    engine: &E,
     trims: Trims,
     count: u8,
     programs: &[u8],
@@ -121,11 +122,11 @@ fn page(
     budget: u32,
     log: &mut [u64],
 ) -> Paged
-    ensures { RunsPage (engine_of by_table) trims count programs memories inputs outputs budget log result }
+    ensures { RunsPage (E.stepper engine.now) trims count programs memories inputs outputs budget log result }
 {
     match checks::checked(trims, count, programs, memories, inputs, outputs, budget) {
-        Check::Accepted => two_rounds(
-            by_table,
+        Ok(()) => two_rounds(
+            engine,
             trims,
             count as usize,
             programs,
@@ -135,9 +136,9 @@ fn page(
             budget,
             log,
         ),
-        Check::Refused(refusal) => Paged {
+        Err(refusal) => Paged {
             trims,
-            check: Check::Refused(refusal),
+            check: Err(refusal),
             answers: [TrimAnswer::none(); 8],
         },
     }
@@ -157,7 +158,7 @@ pub fn page_by_rules(
     ensures { RunsPage by_rules trims count programs memories inputs outputs budget log result }
 {
     page(
-        false, trims, count, programs, memories, inputs, outputs, budget, log,
+        &Rules, trims, count, programs, memories, inputs, outputs, budget, log,
     )
 }
 
@@ -174,7 +175,10 @@ pub fn page_by_table(
 ) -> Paged
     ensures { RunsPage by_the_table trims count programs memories inputs outputs budget log result }
 {
+    let table = Table {
+        words: control::control_table(),
+    };
     page(
-        true, trims, count, programs, memories, inputs, outputs, budget, log,
+        &table, trims, count, programs, memories, inputs, outputs, budget, log,
     )
 }

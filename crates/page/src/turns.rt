@@ -1,11 +1,10 @@
 // The turns that the trims of a page take, one after the other.
-ghost use Rattle.std.specs.Prelude.{◌≡◌, ◌&&◌, min, eqb};
-ghost use Rattle.run.specs.Runs.{RunsCounted};
-ghost use Rattle.page.specs.Parts.{engine_of, CanTurn, TakesTurn, CanRound, TakesRound};
+ghost use Rattle.std.specs.Prelude.{◌≡◌, ◌&&◌, eqb};
+ghost use Rattle.page.specs.Parts.{CanTurn, TakesTurn, CanRound, TakesRound};
 
 use crate::{TrimAnswer, answers};
 use machine::State;
-use run::Counted;
+use stepping::Engine;
 
 // What a trim's turn comes to: its state, its answer so far, and the steps of this turn.
 #[derive(Clone, Copy)]
@@ -23,42 +22,16 @@ pub struct Progress {
     pub rest: u32,
 }
 
-fn least(a: u32, b: u32) -> u32
-    ensures { result ≡ min a b }
-{
-    if a < b { a } else { b }
-}
-
-// A run by the rules or by the table.
-fn run(
-    by_table: bool,
-    state: State,
-    program: &[u8],
-    memory: &mut [u8],
-    inputs: &mut [u16],
-    outputs: &mut [u16],
-    budget: u32,
-    log: &mut [u64],
-) -> Counted
-    ensures { RunsCounted (engine_of by_table) state program memory inputs outputs budget log result }
-{
-    if by_table {
-        engine::run_by_table(state, program, memory, inputs, outputs, budget, log)
-    } else {
-        engine::run_by_rules(state, program, memory, inputs, outputs, budget, log)
-    }
-}
-
 // In its second turn a trim that is left nothing is not run.
 fn is_left_out(again: bool, budget: u32) -> bool
     ensures { result ≡ («again» && eqb budget 0) }
 {
-    if again { budget == 0 } else { false }
+    again && budget == 0
 }
 
 // The turn of the trim at a place: it runs on, with its log part's free places.
-fn turn(
-    by_table: bool,
+fn turn<E: Engine>(
+    engine: &E,
     again: bool,
     at: usize,
     places: usize,
@@ -72,7 +45,7 @@ fn turn(
     log: &mut [u64],
 ) -> Turned
     requires { CanTurn at places state answer programs.now memories.old inputs.old outputs.old budget log.old }
-    ensures { TakesTurn (engine_of by_table) «again» at places state answer programs memories inputs outputs budget log result }
+    ensures { TakesTurn (E.stepper engine.now) «again» at places state answer programs memories inputs outputs budget log result }
 {
     if is_left_out(again, budget) {
         return Turned {
@@ -87,8 +60,8 @@ fn turn(
     let q = p + State::PORTS;
     let free = at * places + answer.entries;
     let end = at * places + places;
-    let ran = run(
-        by_table,
+    let ran = engine::run(
+        engine,
         state,
         &programs[a..e],
         &mut memories[a..e],
@@ -97,20 +70,17 @@ fn turn(
         budget,
         &mut log[free..end],
     );
-    let state = ran.state;
-    let usage = ran.usage;
-    let reply = ran.answer;
-    let report = answers::report_of(reply);
+    let report = answers::report_of(ran.answer);
     Turned {
-        state,
-        answer: answer.with_run(report, ran.ticks, usage),
+        state: ran.state,
+        answer: answer.with_run(report, ran.ticks, ran.usage),
         steps: report.steps,
     }
 }
 
 // A round: in order, each trim takes its turn with what is unused, `most` at most.
-pub fn round(
-    by_table: bool,
+pub fn round<E: Engine>(
+    engine: &E,
     again: bool,
     most: u32,
     count: usize,
@@ -123,24 +93,20 @@ pub fn round(
     log: &mut [u64],
 ) -> Progress
     requires { CanRound count places begun programs.now memories.old inputs.old outputs.old log.old }
-    ensures { TakesRound (engine_of by_table) «again» most count places begun programs memories inputs outputs log result }
+    ensures { TakesRound (E.stepper engine.now) «again» most count places begun programs memories inputs outputs log result }
 {
     let mut states = begun.states;
     let mut answers = begun.answers;
     let mut rest = begun.rest;
-    let mut i = 0;
-    while i < count {
-        let budget = least(most, rest);
+    for i in 0..count {
+        let budget = most.min(rest);
         let turned = turn(
-            by_table, again, i, places, states[i], answers[i], programs, memories, inputs, outputs,
+            engine, again, i, places, states[i], answers[i], programs, memories, inputs, outputs,
             budget, log,
         );
-        let state = turned.state;
-        let answer = turned.answer;
-        states[i] = state;
-        answers[i] = answer;
+        states[i] = turned.state;
+        answers[i] = turned.answer;
         rest -= turned.steps;
-        i += 1;
     }
     Progress {
         states,

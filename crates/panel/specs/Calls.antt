@@ -1,19 +1,11 @@
 -- What setting an input, raising a line and the window reply and leave, of what they are given (01, "Set", "The window", "Refusal table").
 use Rattle.std.specs.Prelude.{ℕ, zero, suc, ◌+◌, Bool, false, ◌&&◌, ◌||◌, List, [], eqb, leb, ltb, length, set, take, drop}
-use Rattle.refusal.specs.Refusals.{refusal_number, Verdict, accepted, refused}
+use Rattle.refusal.specs.Refusals.{Verdict, accepted, refused}
 use Rattle.word.specs.Word.{pick}
 use Rattle.machine.specs.declared.State.{State}
 use Rattle.machine.specs.Machine.{with_line, put_pending, is_locked}
-use Rattle.panel.specs.declared.Setting.{Setting}
-use Rattle.panel.specs.declared.Setting.TheVariants.{Done, Refused}
-use Rattle.panel.specs.declared.Raising.{Raising}
-use Rattle.panel.specs.declared.Raising.TheVariants.{Done as RaiseDone, Refused as RaiseRefused}
 
 -- ---- Setting an input
-
-abbrev pub shown_setting : Setting → Verdict
-shown_setting Done = accepted
-shown_setting (Refused r) = refused (refusal_number r)
 
 pub record SetGiven : Type 0 where
   pub I : List ℕ
@@ -32,10 +24,6 @@ set_left g =
     (record { reply = refused 1; I = g.I })
 
 -- ---- Raising a line (02, L12)
-
-abbrev pub shown_raising : Raising → Verdict
-shown_raising RaiseDone = accepted
-shown_raising (RaiseRefused r) = refused (refusal_number r)
 
 pub record RaiseLeft : Type 0 where
   pub reply : Verdict

@@ -14,8 +14,8 @@ fn main(rt: HostRuntime) -> io::Result<()> {
         .take(TEXT_BYTES as u64 + 1)
         .read_to_end(&mut text)?;
     let mut file = [0u8; FILE_BYTES];
-    let trim = trimfile::from_text(&text, &mut file);
-    rt.write_all(&file[..trim.length])?;
-    let diagnostic = trim.diagnostic;
-    rt.stderr().write_all(&diagnostic.bytes[..diagnostic.count])
+    match trimfile::from_text(&text, &mut file) {
+        Ok(length) => rt.write_all(&file[..length]),
+        Err(diagnostic) => rt.stderr().write_all(diagnostic.as_bytes()),
+    }
 }

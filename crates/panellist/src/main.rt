@@ -13,13 +13,9 @@ fn main(rt: HostRuntime) -> io::Result<()> {
         .read_to_end(&mut file)?;
     let mut out = BufWriter::new(rt.alloc(), io::writer(&rt))?;
     let mut k = 0;
-    loop {
-        let line = listing::line_at(&file, k);
-        if !line.there {
-            return out.flush();
-        }
-        let text = line.text;
-        out.write_all(&text.bytes[..text.count])?;
+    while let Some(line) = listing::line_at(&file, k) {
+        out.write_all(line.as_bytes())?;
         k += 1;
     }
+    out.flush()
 }

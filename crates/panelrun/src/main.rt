@@ -11,6 +11,5 @@ fn main(rt: HostRuntime) -> io::Result<()> {
     rt.reader()
         .take(FILE_BYTES as u64 + 1)
         .read_to_end(&mut file)?;
-    let printed = report::report(&file);
-    rt.write_all(&printed.bytes[..printed.count])
+    rt.write_all(report::report(&file).as_bytes())
 }

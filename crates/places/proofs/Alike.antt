@@ -13,8 +13,9 @@ use Rattle.word.proofs.Computed.{both, both_split, all, all_at}
 use Rattle.kinds.specs.Kinds.{kinds}
 use Rattle.isa.specs.Sheet.{kind_at}
 use Rattle.usage.specs.declared.Usage.{Usage}
-use Rattle.places.specs.Places.{raised_by, counted_steps, number_of, reads_by, place_of, word_of}
-use Rattle.places.proofs.Touched.{touched, steps_by, steps_by_lem, steps_past}
+use Rattle.usage.specs.Counting.{raised_by, counted_steps}
+use Rattle.places.specs.Places.{place_of, word_of}
+use Rattle.places.proofs.Touched.{number_of, reads_by, touched, steps_by, steps_by_lem, steps_past}
 
 -- the weight of the register that words of w's kind write
 abbrev weight_of : ℕ → ℕ

@@ -1,38 +1,25 @@
 -- The invariants of the scan of 64 places and of the fold.
 -- Assumes nothing.
 use mathlib.Core.Path.{◌≡◌, refl, sym, ◌∙◌, ap}
-use mathlib.Core.Bool.{Bool, true, false, ◌&&◌, and-eq-true_iff}
+use mathlib.Core.Bool.{Bool, true}
 use mathlib.Core.List.{List}
 use Prim.Native.Nat.{ℕ, ◌+◌, ◌*◌, ◌<◌, ◌≤◌}
 use native.Mathlib.Omega.{arith}
-use borrow.Author.Tests.{eqb-true, eqb-false}
-use lib.Dec.{eqb}
 use lib.ListN.{length, get_or, drop}
 use lib.Seq.{drop-length}
 use Rattle.usage.specs.declared.Usage.{Usage}
 use Rattle.usage.specs.Usage.{unused}
 use Rattle.usage.proofs.Sums.{AtMost, unused_most}
-use Rattle.places.specs.Places.{counted_steps, Room, word_of, NoneFrom, folded_from, folded}
+use Rattle.usage.specs.Counting.{counted_steps, Room}
+use Rattle.places.specs.Places.{word_of, NoneFrom, folded_from, folded}
 use Rattle.places.proofs.Steps.{steps_most, room}
 use Rattle.places.proofs.Folds.{fold_next, fold_skip}
 
--- ---- The scan: i places were looked at
+-- ---- The scan of a block: the places before `place` were looked at
 
-pub record Scanned (counts : List ℕ) (from : ℕ) (empty : Bool) (i : ℕ) : Type 0 where
-  pub few : i ≤ 64
-  pub none : (empty ≡ true → NoneFrom i from counts)
-
-pub scan_starts : (counts : List ℕ) (from : ℕ) (empty : Bool) → Scanned counts from empty 0
-scan_starts counts from empty = record { few = omega arith; none = λ e j l. absurd (omega arith) }
-
-pub scan_goes : {counts : List ℕ} {from : ℕ} {empty : Bool} {i : ℕ} → Scanned counts from empty i → i < 64
-    → Scanned counts from (empty && eqb (get_or counts (from + i) 0) 0) (i + 1)
-scan_goes {counts} {from} {empty} {i} s l = record { few = omega arith; none = λ e j m. go e j m (eqb j i) refl }
-  where
-    go : (empty && eqb (get_or counts (from + i) 0) 0) ≡ true → (j : ℕ) → j < i + 1 → (t : Bool) → eqb j i ≡ t → get_or counts (from + j) 0 ≡ 0
-    go e j m true t =
-        ap (λ k. get_or counts (from + k) 0) (eqb-true j i t) ∙ eqb-true _ 0 ((and-eq-true_iff empty _).0 e).1
-    go e j m false t = s.none ((and-eq-true_iff empty (eqb (get_or counts (from + i) 0) 0)).0 e).0 j (omega (arith, eqb-false j i t))
+pub record Scanned (counts : List ℕ) (from : ℕ) (empty : Bool) (place : ℕ) : Type 0 where
+  pub here : from ≤ place
+  pub none : (empty ≡ true → (j : ℕ) → from ≤ j → j < place → get_or counts j 0 ≡ 0)
 
 -- ---- The fold: the places before `at` are counted in u
 

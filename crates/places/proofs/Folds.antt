@@ -9,7 +9,8 @@ use lib.ListN.{length, get_or, set, drop}
 use lib.Seq.{drop-cons}
 use Rattle.usage.specs.declared.Usage.{Usage}
 use Rattle.usage.proofs.Sums.{Sized, unused_sized}
-use Rattle.places.specs.Places.{counted_steps, word_of, NoneFrom, folded_from, folded}
+use Rattle.usage.specs.Counting.{counted_steps}
+use Rattle.places.specs.Places.{word_of, NoneFrom, folded_from, folded}
 use Rattle.places.proofs.Steps.{steps_none, steps_swap, steps_more, steps_sized}
 
 folded_counted : (p : ℕ) (ns : List ℕ) (m v : ℕ) (u : Usage) → folded_from p ns (counted_steps m v u) ≡ counted_steps m v (folded_from p ns u)

@@ -1,4 +1,4 @@
--- n steps of a word more: with n = 1 it is `counted`, and steps of several words may be counted in any order.
+-- n steps of a word more: steps of several words may be counted in any order.
 -- Assumes nothing.
 use mathlib.Core.Path.{◌≡◌, refl, ◌∙◌}
 use mathlib.Core.Bool.{Bool, true, false}
@@ -8,19 +8,13 @@ use native.Mathlib.Nat.{add-zero}
 use native.Mathlib.Omega.{arith}
 use lib.ListN.{get_or}
 use Rattle.word.specs.Word.{pick}
-use Rattle.isa.specs.Masks.{masks_of}
 use Rattle.usage.specs.declared.Usage.{Usage}
-use Rattle.usage.specs.Usage.{word_is, counted}
-use Rattle.usage.specs.Counting.{usage_with, raised_from}
-use Rattle.usage.proofs.Raised.{raised_length, raised_once}
+use Rattle.usage.specs.Counting.{usage_with, raised_from, counted_steps, Room}
+use Rattle.usage.proofs.Raised.{raised_length}
 use Rattle.usage.proofs.Sums.{Sized, AtMost}
-use Rattle.places.specs.Places.{counted_steps, Room}
 
 together : {t : ℕ} {k k' r r' w w' : List ℕ} → k ≡ k' → r ≡ r' → w ≡ w' → usage_with t k r w ≡ usage_with t k' r' w'
 together {t} p q s = λ i. usage_with t (p i) (q i) (s i)
-
-pub steps_once : (w : ℕ) (u : Usage) → counted_steps 1 w u ≡ counted (word_is w) (masks_of w) u
-steps_once w u = together (raised_once 0 _ u.kinds) (raised_once 0 _ u.reads) (raised_once 0 _ u.writes)
 
 raised_zero : (k : ℕ) (t : ℕ → Bool) (xs : List ℕ) → raised_from 0 k t xs ≡ xs
 unfolding raised_from

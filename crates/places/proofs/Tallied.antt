@@ -14,8 +14,9 @@ use Rattle.isa.specs.Masks.{masks_of}
 use Rattle.usage.specs.declared.Usage.{Usage}
 use Rattle.usage.specs.Usage.{word_is, counted, took_lines, unused}
 use Rattle.usage.proofs.Sums.{Sized}
-use Rattle.places.specs.Places.{counted_steps, place_of, word_of, folded, with_taken, tallied, Cleared}
-use Rattle.places.proofs.Steps.{steps_once}
+use Rattle.usage.specs.Counting.{counted_steps}
+use Rattle.places.specs.Places.{place_of, word_of, folded, with_taken, tallied, Cleared}
+use Rattle.usage.proofs.Words.{steps_once}
 use Rattle.places.proofs.Folds.{folded_more, folded_cleared, folded_sized}
 use Rattle.places.proofs.Alike.{counted_alike}
 

@@ -1,11 +1,11 @@
--- What the table by the kind's number says is what the sheet says.
+-- What a kind touches, by a table of numbers: the weight of the lowest bit of the register that it writes, or 0; and added to it, how many of
+-- Ra and Rb it reads. MOVHI reads the register that it writes, which stands where Ra does. The table says what the sheet says.
 -- Assumes nothing.
 use mathlib.Core.Path.{◌≡◌, refl, sym, ◌∙◌, ap}
 use mathlib.Core.Bool.{Bool, false}
 use mathlib.Core.List.{List, [], ◌∷◌}
 use Prim.Native.Nat.{ℕ, ◌-◌, ◌/◌, ◌%◌, ◌<◌, ◌≤◌}
 use native.Mathlib.Omega.{arith}
-use borrow.Author.Tests.{eq-eqb, ne_eqb}
 use lib.Dec.{eqb}
 use lib.ListN.{length, get_or}
 use Rattle.word.specs.Fields.{opcode, e_of, f_of, a_of, b_of}
@@ -13,20 +13,31 @@ use Rattle.word.specs.Word.{pick}
 use Rattle.kinds.specs.declared.Kind.{Kind}
 use Rattle.kinds.specs.declared.Kind.TheVariants.{And}
 use Rattle.kinds.specs.Kinds.{kinds, kind_number}
-use Rattle.isa.specs.declared.rows.Entry.{Entry}
-use Rattle.isa.specs.declared.rows.Entry.TheVariants.{Unassigned, Assigned}
+use Rattle.std.specs.Prelude.{Option}
+use Rattle.std.specs.declared.option.Option.TheVariants.{Some, None}
 use Rattle.isa.specs.Layouts.{entry_number}
 use Rattle.isa.specs.Sheet.{sheet_line, kind_at}
 use Rattle.isa.specs.Masks.{in_mask, masks_as, masks_of}
 use Rattle.isa.proofs.Every.{listed}
 use Rattle.usage.specs.declared.Usage.{Usage}
 use Rattle.usage.specs.Usage.{is_kind}
-use Rattle.usage.specs.Counting.{usage_with, either_of, raised}
+use Rattle.usage.specs.Counting.{usage_with, either_of, nowhere, raised_by, counted_steps}
 use Rattle.usage.proofs.Functions.{table, at}
 use Rattle.usage.proofs.InMasks.{in_none}
-use Rattle.usage.proofs.Raised.{raised_nowhere, raised_either, raised_same}
-use Rattle.usage.proofs.Words.{nowhere, is_part, is_read, in_part, in_reads}
-use Rattle.places.specs.Places.{raised_by, counted_steps, number_of, reads_by, writes_by}
+use Rattle.usage.proofs.Raised.{raised_nowhere}
+use Rattle.usage.proofs.Words.{is_part, is_read, in_part, in_reads}
+
+-- the number of w's kind, or that of none
+abbrev pub number_of : ℕ → ℕ
+number_of w = entry_number (kind_at (opcode w) (e_of w) (f_of w))
+
+-- the registers that are read, where it is none, a, or a and b
+abbrev pub reads_by : ℕ → ℕ → ℕ → ℕ → Bool
+reads_by count a b j = pick (eqb count 0) false (pick (eqb count 1) (eqb a j) (either_of a b j))
+
+-- the register that is written, by the weight of its lowest bit in w; 0 for none
+abbrev pub writes_by : ℕ → ℕ → ℕ → Bool
+writes_by weight w j = pick (eqb weight 0) false (eqb (w / weight % 8) j)
 
 abbrev pub touched : List ℕ
 touched =
@@ -54,17 +65,17 @@ none n w u = λ i. usage_with u.taken (raised_nowhere n 0 nowhere u.kinds (λ j 
 
 -- ---- By what the word reads as
 
-abbrev steps_as : Entry → ℕ → ℕ → Usage → Usage
+abbrev steps_as : Option Kind → ℕ → ℕ → Usage → Usage
 steps_as x n w u = raised_by n (is_kind x) (in_mask (masks_as x w).reads) (in_mask (masks_as x w).writes) u
 
-assigned : (x : Entry) (n w : ℕ) (u : Usage) → entry_number x < length kinds → steps_by (entry_number x) n w u ≡ steps_as x n w u
-assigned (Assigned k) n w u l =
+assigned : (x : Option Kind) (n w : ℕ) (u : Usage) → entry_number x < length kinds → steps_by (entry_number x) n w u ≡ steps_as x n w u
+assigned (Some k) n w u l =
     by_kind_lem k n w u ∙ sym (λ i. raised_by n (eqb (kind_number k)) (λ j. in_reads k w j i) (λ j. in_part (sheet_line k).format.d w j i) u)
-assigned Unassigned n w u l = absurd (omega arith)
+assigned None n w u l = absurd (omega arith)
 
-unassigned : (x : Entry) (n w : ℕ) (u : Usage) → length kinds ≤ entry_number x → u ≡ steps_as x n w u
-unassigned (Assigned k) n w u l = absurd (omega (arith, (listed k).0))
-unassigned Unassigned n w u l = sym ((λ i. raised_by n nowhere (λ j. in_none j i) (λ j. in_none j i) u) ∙ none n w u)
+unassigned : (x : Option Kind) (n w : ℕ) (u : Usage) → length kinds ≤ entry_number x → u ≡ steps_as x n w u
+unassigned (Some k) n w u l = absurd (omega (arith, (listed k).0))
+unassigned None n w u l = sym ((λ i. raised_by n nowhere (λ j. in_none j i) (λ j. in_none j i) u) ∙ none n w u)
 
 pub steps_by_lem : (n w : ℕ) (u : Usage) → number_of w < length kinds → steps_by (number_of w) n w u ≡ counted_steps n w u
 unfolding masks_of
@@ -73,33 +84,3 @@ steps_by_lem n w u l = assigned (kind_at (opcode w) (e_of w) (f_of w)) n w u l
 pub steps_past : (n w : ℕ) (u : Usage) → length kinds ≤ number_of w → u ≡ counted_steps n w u
 unfolding masks_of
 steps_past n w u l = unassigned (kind_at (opcode w) (e_of w) (f_of w)) n w u l
-
--- ---- The code's tests
-
-module _ (n a b count : ℕ) (xs : List ℕ) where
-  reads_of : {s t : Bool} → eqb count 0 ≡ s → eqb count 1 ≡ t → raised n (reads_by count a b) xs ≡ raised n (λ j. pick s false (pick t (eqb a j) (either_of a b j))) xs
-  reads_of p q = λ i. raised n (λ j. pick (p i) false (pick (q i) (eqb a j) (either_of a b j))) xs
-
-  pub reads_none : count ≡ 0 → xs ≡ raised n (reads_by count a b) xs
-  reads_none z = sym (reads_of (eq-eqb count 0 z) refl ∙ raised_nowhere n 0 nowhere xs (λ j l. refl))
-
-  module _ {ys : List ℕ} (first : ys ≡ raised n (eqb a) xs) (some : count ≡ 0 → ⊥) where
-    pub reads_first : count ≡ 1 → ys ≡ raised n (reads_by count a b) xs
-    reads_first o = first ∙ sym (reads_of (ne_eqb count 0 some) (eq-eqb count 1 o))
-
-    pub reads_same : (count ≡ 1 → ⊥) → b ≡ a → ys ≡ raised n (reads_by count a b) xs
-    reads_same o e = first ∙ raised_same n xs e ∙ sym (reads_of (ne_eqb count 0 some) (ne_eqb count 1 o))
-
-    pub reads_other : {zs : List ℕ} → (count ≡ 1 → ⊥) → (b ≡ a → ⊥) → zs ≡ raised n (eqb b) ys → zs ≡ raised n (reads_by count a b) xs
-    reads_other o e second =
-        second ∙ ap (λ (l : List ℕ). raised n (eqb b) l) first ∙ raised_either n xs e ∙ sym (reads_of (ne_eqb count 0 some) (ne_eqb count 1 o))
-
-module _ (n w weight : ℕ) (xs : List ℕ) where
-  writes_of : {s : Bool} → eqb weight 0 ≡ s → raised n (writes_by weight w) xs ≡ raised n (λ j. pick s false (eqb (w / weight % 8) j)) xs
-  writes_of p = λ i. raised n (λ j. pick (p i) false (eqb (w / weight % 8) j)) xs
-
-  pub writes_none : weight ≡ 0 → xs ≡ raised n (writes_by weight w) xs
-  writes_none z = sym (writes_of (eq-eqb weight 0 z) ∙ raised_nowhere n 0 nowhere xs (λ j l. refl))
-
-  pub writes_one : {ys : List ℕ} → (weight ≡ 0 → ⊥) → ys ≡ raised n (eqb (w / weight % 8)) xs → ys ≡ raised n (writes_by weight w) xs
-  writes_one h e = e ∙ sym (writes_of (ne_eqb weight 0 h))

@@ -1,44 +1,9 @@
 -- Counting by place: what the contracts of a run's inner functions cite. Nothing here is promised to a caller.
-use Rattle.std.specs.Prelude.{◌≡◌, Bool, false, List, [], ◌∷◌, ℕ, suc, ◌+◌, ◌-◌, ◌*◌, ◌/◌, ◌%◌, ◌<◌, eqb, ltb, length, get_or}
-use Rattle.word.specs.Fields.{opcode, e_of, f_of}
+use Rattle.std.specs.Prelude.{◌≡◌, List, [], ◌∷◌, ℕ, suc, ◌+◌, ◌-◌, ◌*◌, ◌/◌, ◌<◌, ltb, length, get_or}
 use Rattle.word.specs.Word.{pick}
-use Rattle.isa.specs.Sheet.{kind_at}
-use Rattle.isa.specs.Layouts.{entry_number}
-use Rattle.isa.specs.Masks.{in_mask, masks_of}
 use Rattle.usage.specs.declared.Usage.{Usage}
-use Rattle.usage.specs.Usage.{word_is, unused}
-use Rattle.usage.specs.Counting.{usage_with, either_of, raised}
-
--- ---- n steps of a word
-
--- n more at the places that each list's test tells
-abbrev pub raised_by : ℕ → (ℕ → Bool) → (ℕ → Bool) → (ℕ → Bool) → Usage → Usage
-raised_by n kind reads writes u = usage_with u.taken (raised n kind u.kinds) (raised n reads u.reads) (raised n writes u.writes)
-
--- n steps more of the word w: `counted`, n times
-abbrev pub counted_steps : ℕ → ℕ → Usage → Usage
-counted_steps n w u = raised_by n (word_is w) (in_mask (masks_of w).reads) (in_mask (masks_of w).writes) u
-
--- n more fits each counter
-abbrev pub Fits : ℕ → List ℕ → Type 0
-Fits n xs = (k : ℕ) → get_or xs k 0 + n < 18446744073709551616
-
-pub record Room (n : ℕ) (u : Usage) : Type 0 where
-  pub kinds : Fits n u.kinds
-  pub reads : Fits n u.reads
-  pub writes : Fits n u.writes
-
--- the number of w's kind, or that of none
-abbrev pub number_of : ℕ → ℕ
-number_of w = entry_number (kind_at (opcode w) (e_of w) (f_of w))
-
--- the registers that are read, where it is none, a, or a and b
-abbrev pub reads_by : ℕ → ℕ → ℕ → ℕ → Bool
-reads_by count a b j = pick (eqb count 0) false (pick (eqb count 1) (eqb a j) (either_of a b j))
-
--- the register that is written, by the weight of its lowest bit in w; 0 for none
-abbrev pub writes_by : ℕ → ℕ → ℕ → Bool
-writes_by weight w j = pick (eqb weight 0) false (eqb (w / weight % 8) j)
+use Rattle.usage.specs.Usage.{unused}
+use Rattle.usage.specs.Counting.{usage_with, counted_steps}
 
 -- ---- Places
 

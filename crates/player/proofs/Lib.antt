@@ -1,4 +1,2 @@
 pub mod Digests
 pub mod Places
-pub mod Tests
-mod Prints

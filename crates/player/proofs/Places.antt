@@ -1,29 +1,29 @@
--- A loop that stores a list which is given place by place.
+-- A list that is given place by place.
 -- Assumes nothing.
-use Rattle.std.proofs.Common.{◌≡◌, ℕ, zero, suc, ◌+◌, ◌<◌, ◌≤◌, List, length, get_or, set, sym, refl, ap, ◌∙◌, arith}
-use Rattle.block.proofs.Filling.{Filled, start, turn, whole}
-use Rattle.player.specs.Lists.{places_from, places}
+use Rattle.std.proofs.Common.{◌≡◌, ℕ, zero, suc, ◌+◌, ◌<◌, List, length, get_or, subst, ◌∙◌, arith}
+use Rattle.std.proofs.lemmas.List.FromFn.{fill_by_all}
+use Rattle.std.specs.Array.{IsFromFnResult, IsFromFnResultFrom}
+use Rattle.std.specs.Fn.{Called}
+use denote.Param.Members.{Mut}
+use lib.ListN.{replicate, length-replicate, get_or-replicate}
+use Rattle.player.specs.Lists.{places}
 
-length_from : (i n : ℕ) (f : ℕ → ℕ) → length (places_from i n f) ≡ n
-unfolding places_from
-length_from i zero f = refl
-length_from i (suc n) f = ap suc (length_from (suc i) n f)
+pub given : (n : ℕ) (f : ℕ → ℕ) {xs : List ℕ} → length xs ≡ n → ((i : ℕ) → i < n → get_or xs i 0 ≡ f i) → xs ≡ places n f
+unfolding places
+given n f {xs} l e = fill_by_all f xs n 0 l e
 
-at_from : (i n : ℕ) (f : ℕ → ℕ) (k : ℕ) → k < n → get_or (places_from i n f) k 0 ≡ f (i + k)
-unfolding places_from
-at_from i zero f k l = absurd (omega arith)
-at_from i (suc n) f zero l = let e : i ≡ i + 0 = omega arith in ap f e
-at_from i (suc n) f (suc k) l = let e : suc i + k ≡ i + suc k = omega arith in at_from (suc i) n f k (omega arith) ∙ ap f e
+pub zeros : (n : ℕ) → replicate n 0 ≡ places n (λ _. 0)
+zeros n = given n (λ _. 0) (length-replicate n 0) (λ i l. get_or-replicate n i 0 0 l)
 
-module _ (n : ℕ) (f : ℕ → ℕ) where
-  pub place_start : {old : List ℕ} → length old ≡ n → Filled (places n f) old old 0
-  place_start e = start (length_from 0 n f ∙ sym e)
+module _ {F : Type 0} {g : Mut F (ℕ × Unit {0}) ℕ} (f : ℕ → ℕ) {p : F}
+    (call : (i r : ℕ) (q : F) → Called g p (i, tt) r q → (r ≡ f i) × (q ≡ p)) where
+  each : (xs : List ℕ) (i n k : ℕ) → IsFromFnResultFrom g p xs i n → k < n → get_or xs (i + k) 0 ≡ f (i + k)
+  each xs i zero k e l = absurd (omega arith)
+  each xs i (suc n) zero (q, y, at, c, rest) l = let z : i + 0 ≡ i = omega arith in rw z (at.1 0 ∙ (call i y q c).0)
+  each xs i (suc n) (suc k) (q, y, at, c, rest) l =
+      let s : (i + 1) + k ≡ i + suc k = omega arith in
+      rw s at (each xs (i + 1) n k (subst (λ q. IsFromFnResultFrom g q xs (i + 1) n) (call i y q c).1 rest) (omega arith))
 
-  module _ {old target : List ℕ} {i : ℕ} (t : Filled (places n f) old target i) where
-    pub place_turn : {v : ℕ} → i < n → v ≡ f i → Filled (places n f) old (set target i v) (i + 1)
-    place_turn l e =
-        let z : i ≡ 0 + i = omega arith in
-        turn t (omega (arith, t, length_from 0 n f)) (e ∙ ap f z ∙ sym (at_from 0 n f i l))
-
-    pub place_whole : n ≤ i → target ≡ places n f
-    place_whole l = whole t (omega (arith, t, length_from 0 n f))
+  -- by a closure that answers f of each index
+  pub made : {xs : List ℕ} {n : ℕ} → IsFromFnResult g p xs n → xs ≡ places n f
+  made {xs} {n} r = given n f r.long (λ i l. let z : 0 + i ≡ i = omega arith in rw z at (each xs 0 n i r.each l))

@@ -1,18 +1,19 @@
 -- Digests (docs/CONFORMANCE.md, "Numbers" and "What is lent").
 use Rattle.std.specs.Prelude.{ℕ, ◌+◌, ◌*◌, ◌/◌, ◌%◌, List, [], ◌∷◌, ◌++◌}
 use Rattle.machine.specs.declared.State.{State}
+use Rattle.player.specs.declared.lent.Lent.{Lent}
 
 -- taking in x (under 2^32) makes h into (h · 16,777,619 + x + 1) mod 2^32
 abbrev pub taken_in : ℕ → ℕ → ℕ
 taken_in h x = (h * 16777619 + x + 1) % 4294967296
 
 -- h, with each number of a list taken in
-unfoldable pub digest_from : ℕ → List ℕ → ℕ
+abbrev pub digest_from : ℕ → List ℕ → ℕ
 digest_from h [] = h
 digest_from h (x ∷ xs) = digest_from (taken_in h x) xs
 
 -- of every place of the log the value mod 2^32, then the value / 2^32
-unfoldable pub halves : List ℕ → List ℕ
+abbrev pub halves : List ℕ → List ℕ
 halves [] = []
 halves (x ∷ xs) = x % 4294967296 ∷ x / 4294967296 ∷ halves xs
 
@@ -25,5 +26,6 @@ abbrev pub lent_numbers : List ℕ → List ℕ → List ℕ → List ℕ → Li
 lent_numbers program memory inputs outputs log = program ++ memory ++ inputs ++ outputs ++ halves log
 
 -- The digest of what is left takes in the numbers of the state, then those of what is lent.
-unfoldable pub digest_of_left : State → List ℕ → List ℕ → List ℕ → List ℕ → List ℕ → ℕ
-digest_of_left state program memory inputs outputs log = digest_from 0 (state_numbers state ++ lent_numbers program memory inputs outputs log)
+abbrev pub digest_of_left : State → Lent → ℕ
+digest_of_left state lent =
+    digest_from 0 (state_numbers state ++ lent_numbers lent.program lent.memory lent.inputs lent.outputs lent.log)

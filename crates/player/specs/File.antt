@@ -1,9 +1,12 @@
 -- The file of case c (docs/CONFORMANCE.md), of each sort: as under "The file of case c", as under "Keys", as under "The single-memory
 -- board", as for a table from 128 on, as under "Knob interrupts", as for a table from 160 on, as under "Pages", and as under "Locked calibration".
-use Rattle.std.specs.Prelude.{ℕ, ◌+◌, ◌-◌, ◌*◌, ◌/◌, ◌%◌, List, [], ◌∷◌, ◌==◌, nat_lt, slice_index}
-use Rattle.word.specs.Word.{pick, flag}
+use Rattle.std.specs.Prelude.{ℕ, ◌+◌, ◌-◌, ◌*◌, ◌/◌, ◌%◌, List, [], ◌∷◌, ◌==◌, nat_lt, slice_index, slice_index_or, Option}
+use Rattle.word.specs.Word.{pick}
 use Rattle.numbers.specs.Numbers.{number_of}
 use Rattle.player.specs.Lists.{places}
+use Rattle.std.specs.declared.option.Option.TheVariants.{Some, None}
+use Rattle.player.specs.declared.file.Damage.{Damage}
+use Rattle.player.specs.declared.file.Damage.TheVariants.{Length, Words, ProgramOffset, DataOffset}
 use Rattle.player.specs.declared.file.Sort.{Sort}
 use Rattle.player.specs.declared.file.Sort.TheVariants.{Any, Keys, Stores, LowPorts, Knobs, Enabling, Pages, Locks}
 
@@ -12,7 +15,7 @@ use Rattle.player.specs.declared.file.Sort.TheVariants.{Any, Keys, Stores, LowPo
 abbrev pub any_w : ℕ → ℕ
 any_w c = 1 + number_of c 0 % 200
 
-unfoldable pub W : Sort → ℕ → ℕ
+abbrev pub W : Sort → ℕ → ℕ
 W Any c = any_w c
 W Keys c = 32
 W Stores c = 32
@@ -26,28 +29,34 @@ abbrev pub C : ℕ → ℕ
 C c = number_of c 1 % 300
 
 -- number(c, 2) mod 16 says what is damaged
-abbrev pub damage_of : ℕ → ℕ
-damage_of c = number_of c 2 % 16
+abbrev pub damage_of : ℕ → Option Damage
+damage_of c = slice_index_or (Some Length ∷ Some Words ∷ Some ProgramOffset ∷ Some DataOffset ∷ []) (number_of c 2 % 16) None
 
 -- The file's length is 16 + 2·W + C; damage 0: it becomes number(c, 3) mod the length.
-unfoldable pub length_of : Sort → ℕ → ℕ → ℕ
-length_of sort c damage = let whole = 16 + 2 * W sort c + C c in pick (damage == 0) (number_of c 3 % whole) whole
+abbrev pub whole_length : Sort → ℕ → ℕ
+whole_length sort c = 16 + 2 * W sort c + C c
+
+abbrev pub length_of : Sort → ℕ → Option Damage → ℕ
+length_of sort c (Some Length) = number_of c 3 % whole_length sort c
+length_of sort c damage = whole_length sort c
 
 -- Its header is W, 16, C, 16 + 2·W; damage 1: W grows by 32,768; 2: the program offset becomes 15; 3: the data offset grows by 1.
-unfoldable pub header : Sort → ℕ → ℕ → List ℕ
-header sort c damage =
-    (W sort c + 32768 * flag (damage == 1)) ∷ (16 - flag (damage == 2)) ∷ C c ∷ (16 + 2 * W sort c + flag (damage == 3)) ∷ []
+abbrev pub header : Sort → ℕ → Option Damage → List ℕ
+header sort c (Some Words) = (W sort c + 32768) ∷ 16 ∷ C c ∷ (16 + 2 * W sort c) ∷ []
+header sort c (Some ProgramOffset) = W sort c ∷ 15 ∷ C c ∷ (16 + 2 * W sort c) ∷ []
+header sort c (Some DataOffset) = W sort c ∷ 16 ∷ C c ∷ (16 + 2 * W sort c + 1) ∷ []
+header sort c damage = W sort c ∷ 16 ∷ C c ∷ (16 + 2 * W sort c) ∷ []
 
 -- Word j of the program is made from x = number(c, 1,000 + j): where number(c, 2,000 + j) mod 16 is 0 it is x; else it is
 -- (x / 4,096 mod 12) · 4,096 + x mod 4,096.
-unfoldable pub any_word : ℕ → ℕ → ℕ
+abbrev pub any_word : ℕ → ℕ → ℕ
 any_word c j =
     let x = number_of c (1000 + j) in
     pick (number_of c (2000 + j) % 16 == 0) x (x / 4096 % 12 * 4096 + x % 4096)
 
 -- Under "Keys", "The single-memory board" and "Locked calibration": word j, for j from 0 to 29, where number(c, 4,000 + j) mod 2 is 0, is the section's own; else
 -- it is as above; word 30 is 32,993 and word 31 is 33,248.
-unfoldable pub loop_word : ℕ → ℕ → ℕ → ℕ
+abbrev pub loop_word : ℕ → ℕ → ℕ → ℕ
 loop_word c j own =
     pick (nat_lt j 30) (pick (number_of c (4000 + j) % 2 == 0) own (any_word c j)) (pick (j == 30) 32993 33248)
 
@@ -75,7 +84,7 @@ locked_word c j =
     loop_word c j (12288 + 4096 * (x % 4) + 64 * (x / 4 % 8) + (first_locked c + 60 + x / 32 % 8) % 64)
 
 -- For a table from 128 on: the low byte of word j is made number(c, 4,000 + j) mod 4.
-unfoldable pub low_port_word : ℕ → ℕ → ℕ
+abbrev pub low_port_word : ℕ → ℕ → ℕ
 low_port_word c j = any_word c j / 256 * 256 + number_of c (4000 + j) % 4
 
 -- f of an EI, DI or GETIID, for k = (x / 8) mod 4: 1 where it is 2, 3 where it is 3, else 0
@@ -87,11 +96,11 @@ abbrev pub interrupt_word : ℕ → ℕ
 interrupt_word x = 49152 + 8 * (x % 8) + interrupt_f (x / 8 % 4)
 
 -- For a table from 160 on: where number(c, 4,000 + j) mod 4 is 0 word j is such a one; else it is as above.
-unfoldable pub enabling_word : ℕ → ℕ → ℕ
+abbrev pub enabling_word : ℕ → ℕ → ℕ
 enabling_word c j = pick (number_of c (4000 + j) % 4 == 0) (interrupt_word (number_of c (1000 + j))) (any_word c j)
 
 -- Under "Knob interrupts" so too, but words 30 and 31 are those of "Keys", and word 135 is 49,154, a RETI.
-unfoldable pub knob_word : ℕ → ℕ → ℕ
+abbrev pub knob_word : ℕ → ℕ → ℕ
 knob_word c j = pick (j == 30) 32993 (pick (j == 31) 33248 (pick (j == 135) 49154 (enabling_word c j)))
 
 -- 41,216 + 512 · (x mod 8) + (x / 8) mod 256, an OUT
@@ -104,13 +113,13 @@ addi_word x = 8192 + x % 4096
 
 -- Under "Pages": words 30 and 31 are those of "Keys"; every other word j is, where number(c, 4,000 + j) mod 8 is 0, as above; where it is
 -- 1, such an OUT; else such an ADDI.
-unfoldable pub page_word : ℕ → ℕ → ℕ
+abbrev pub page_word : ℕ → ℕ → ℕ
 page_word c j =
     let k = number_of c (4000 + j) % 8 in
     let x = number_of c (1000 + j) in
     pick (nat_lt j 30) (pick (k == 0) (any_word c j) (pick (k == 1) (out_word x) (addi_word x))) (pick (j == 30) 32993 33248)
 
-unfoldable pub program_word : Sort → ℕ → ℕ → ℕ
+abbrev pub program_word : Sort → ℕ → ℕ → ℕ
 program_word Any c j = any_word c j
 program_word Keys c j = key_word c j
 program_word Stores c j = store_word c j
@@ -124,12 +133,12 @@ program_word Locks c j = locked_word c j
 abbrev pub bytes_of : ℕ → List ℕ
 bytes_of x = x % 256 ∷ x / 256 ∷ []
 
-unfoldable pub byte_of : ℕ → ℕ → ℕ
+abbrev pub byte_of : ℕ → ℕ → ℕ
 byte_of x k = slice_index (bytes_of x) k
 
 -- Byte `at` of the file: of the header, four bytes a number; byte i of the program, two a word; data byte j is number(c, 3,000 + j) mod 256.
 -- The rest of the file buffer is zero.
-unfoldable pub file_byte : Sort → ℕ → ℕ → ℕ → ℕ
+abbrev pub file_byte : Sort → ℕ → Option Damage → ℕ → ℕ
 file_byte sort c damage at =
     let i = at - 16 in
     let j = i - 2 * W sort c in
@@ -138,5 +147,5 @@ file_byte sort c damage at =
     (pick (nat_lt j (C c)) (number_of c (3000 + j) % 256) 0))
 
 -- the file buffer of 65,537 bytes
-abbrev pub file_of : Sort → ℕ → ℕ → List ℕ
+abbrev pub file_of : Sort → ℕ → Option Damage → List ℕ
 file_of sort c damage = places 65537 (file_byte sort c damage)

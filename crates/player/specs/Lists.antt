@@ -1,11 +1,7 @@
 -- A list that is given place by place.
-use Rattle.std.specs.Prelude.{ℕ, zero, suc, List, [], ◌∷◌}
-
--- f i, f (i + 1) and so on, n of them
-unfoldable pub places_from : ℕ → ℕ → (ℕ → ℕ) → List ℕ
-places_from i zero f = []
-places_from i (suc n) f = f i ∷ places_from (suc i) n f
+use Rattle.std.specs.Prelude.{ℕ, List, map}
+use Rattle.std.specs.List.{range_with_len}
 
 -- the n places of which place i is f i
-abbrev pub places : ℕ → (ℕ → ℕ) → List ℕ
-places n f = places_from 0 n f
+unfoldable pub places : ℕ → (ℕ → ℕ) → List ℕ
+places n f = map f (range_with_len 0 n)

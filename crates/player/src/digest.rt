@@ -1,8 +1,8 @@
 // Digests.
-ghost use Rattle.std.specs.Prelude.{◌≡◌, ◌/◌, ◌%◌};
+ghost use Rattle.std.specs.Prelude.{◌≡◌, ℕ, List, [], ◌∷◌, refl};
 ghost use Rattle.player.specs.Digest.{taken_in, digest_from, halves, state_numbers, lent_numbers, digest_of_left};
 
-use crate::lent::{Log, Memory, Ports};
+use crate::lent::Lent;
 use machine::State;
 
 fn taken(digest: u32, x: u32) -> u32
@@ -11,52 +11,57 @@ fn taken(digest: u32, x: u32) -> u32
     ((digest as u64 * 16777619 + x as u64 + 1) % 4294967296) as u32
 }
 
-fn byte(x: u8) -> u32
-    ensures { result ≡ x }
-{
-    x as u32
+// A number of a memory, of ports or of a log.
+pub trait Number: Copy {
+    // The numbers under 2^32 that a list of such gives.
+    ghost numbers: { List Self → List ℕ };
+
+    fn taken_in(self, digest: u32) -> u32
+        ensures { (xs : List Self) → digest_from result (numbers xs) ≡ digest_from digest (numbers (self ∷ xs)) };
+
+    ghost none: { numbers [] ≡ [] };
 }
 
-fn word(x: u16) -> u32
-    ensures { result ≡ x }
-{
-    x as u32
-}
+impl Number for u8 {
+    ghost numbers = { λ xs. xs };
 
-pub fn bytes(digest: u32, part: &[u8]) -> u32
-    ensures { result ≡ digest_from digest part.now }
-{
-    let mut after = digest;
-    for i in 0..part.len() {
-        after = taken(after, byte(part[i]));
+    ghost none = { refl };
+
+    fn taken_in(self, digest: u32) -> u32 {
+        taken(digest, self as u32)
     }
-    after
 }
 
-fn words(digest: u32, part: &[u16]) -> u32
-    ensures { result ≡ digest_from digest part.now }
-{
-    let mut after = digest;
-    for i in 0..part.len() {
-        after = taken(after, word(part[i]));
+impl Number for u16 {
+    ghost numbers = { λ xs. xs };
+
+    ghost none = { refl };
+
+    fn taken_in(self, digest: u32) -> u32 {
+        taken(digest, self as u32)
     }
-    after
 }
 
-fn place(digest: u32, x: u64) -> u32
-    ensures { result ≡ taken_in (taken_in digest (x % 4294967296)) (x / 4294967296) }
-{
-    let low = (x % 4294967296) as u32;
-    let high = (x / 4294967296) as u32;
-    taken(taken(digest, low), high)
+// A place of a log gives two halves.
+impl Number for u64 {
+    ghost numbers = { halves };
+
+    ghost none = { refl };
+
+    fn taken_in(self, digest: u32) -> u32 {
+        let low = (self % 4294967296) as u32;
+        let high = (self / 4294967296) as u32;
+        taken(taken(digest, low), high)
+    }
 }
 
-pub fn places(digest: u32, log: &[u64]) -> u32
-    ensures { result ≡ digest_from digest (halves log.now) }
+// The digest, with each number of a part taken in.
+pub fn all<T: Number>(digest: u32, part: &[T]) -> u32
+    ensures { result ≡ digest_from digest (T.numbers part.now) }
 {
     let mut after = digest;
-    for i in 0..log.len() {
-        after = place(after, log[i]);
+    for x in part {
+        after = x.taken_in(after);
     }
     after
 }
@@ -66,8 +71,7 @@ pub fn registers(digest: u32, state: State) -> u32
     ensures { result ≡ digest_from digest (state_numbers state) }
 {
     let r = state.r;
-    let after = words(digest, &r);
-    taken(taken(after, word(state.pc)), state.n)
+    taken(taken(all(digest, &r), state.pc as u32), state.n)
 }
 
 // The digest, with memories, ports and log taken in.
@@ -81,23 +85,23 @@ pub fn lent(
 ) -> u32
     ensures { result ≡ digest_from digest (lent_numbers program.now memory.now inputs.now outputs.now log.now) }
 {
-    let after = bytes(digest, program);
-    let after = bytes(after, memory);
-    let after = words(after, inputs);
-    let after = words(after, outputs);
-    places(after, log)
+    let after = all(digest, program);
+    let after = all(after, memory);
+    let after = all(after, inputs);
+    let after = all(after, outputs);
+    all(after, log)
 }
 
 // The digest of what is left.
-pub fn of_all(
-    state: State,
-    program: &Memory,
-    memory: &Memory,
-    inputs: &Ports,
-    outputs: &Ports,
-    log: &Log,
-) -> u32
-    ensures { result ≡ digest_of_left state program.now memory.now inputs.now outputs.now log.now }
+pub fn of_all(state: State, left: &Lent) -> u32
+    ensures { result ≡ digest_of_left state left.now }
 {
-    lent(registers(0, state), program, memory, inputs, outputs, log)
+    lent(
+        registers(0, state),
+        &left.program,
+        &left.memory,
+        &left.inputs,
+        &left.outputs,
+        &left.log,
+    )
 }

@@ -1,10 +1,14 @@
 // The file of a case.
 ghost use Rattle.std.specs.Prelude.{◌≡◌, ◌<◌, ◌==◌, slice_index};
-ghost use Rattle.word.specs.Word.{flag};
+ghost use Rattle.std.specs.declared.option.Option.TheVariants.{None};
+ghost use Rattle.player.specs.declared.file.Sort.TheVariants.{Any};
 ghost use Rattle.player.specs.File.{any_w, W, C, damage_of, length_of, header, any_word, loop_word, key_word, store_word, first_locked, last_locked, locked_word, low_port_word, interrupt_f, interrupt_word, enabling_word, knob_word, out_word, addi_word, page_word, program_word, byte_of, file_byte, file_of};
 
-use crate::lent::File;
 use numbers::number;
+use std::array;
+
+// As many bytes as the longest file.
+pub type FileBuffer = [u8; 65537];
 
 // The sort of a file, by its program: a case's, one of "Keys", of "The single-memory board", of "Knob interrupts", of "Pages" or of "Locked
 // calibration", or one for a table from 128 or from 160 on.
@@ -20,14 +24,36 @@ pub enum Sort {
     Locks,
 }
 
-// A damage that is none.
-pub const NO_DAMAGE: u16 = 16;
+// What of a file is damaged.
+#[derive(Clone, Copy)]
+pub enum Damage {
+    Length,
+    Words,
+    ProgramOffset,
+    DataOffset,
+}
 
-// How the file of case c is damaged.
-pub fn damage(c: u16) -> u16
-    ensures { result ≡ damage_of c }
-{
-    number(c, 2) % 16
+// The file of a case.
+#[derive(Clone, Copy)]
+pub struct File {
+    pub sort: Sort,
+    pub case: u16,
+    pub damage: Option<Damage>,
+}
+
+impl Damage {
+    // How the file of case c is damaged.
+    pub fn of_case(c: u16) -> Option<Self>
+        ensures { result ≡ damage_of c }
+    {
+        match number(c, 2) % 16 {
+            0 => Some(Self::Length),
+            1 => Some(Self::Words),
+            2 => Some(Self::ProgramOffset),
+            3 => Some(Self::DataOffset),
+            _ => None,
+        }
+    }
 }
 
 fn any_words(c: u16) -> u16
@@ -41,14 +67,9 @@ fn words(sort: Sort, c: u16) -> u16
     ensures { (result ≡ W sort c) × (result < 201) }
 {
     match sort {
-        Sort::Any => any_words(c),
-        Sort::Keys => 32,
-        Sort::Stores => 32,
-        Sort::LowPorts => any_words(c),
+        Sort::Any | Sort::LowPorts | Sort::Enabling => any_words(c),
         Sort::Knobs => 136,
-        Sort::Enabling => any_words(c),
-        Sort::Pages => 32,
-        Sort::Locks => 32,
+        Sort::Keys | Sort::Stores | Sort::Pages | Sort::Locks => 32,
     }
 }
 
@@ -57,26 +78,6 @@ fn bytes(c: u16) -> u16
     ensures { (result ≡ C c) × (result < 300) }
 {
     number(c, 1) % 300
-}
-
-// 1 where x is y, else 0.
-fn equal(x: u16, y: u16) -> u16
-    ensures { (result ≡ flag (x == y)) × (result < 2) }
-{
-    (x == y) as u16
-}
-
-// Number i of the header.
-fn header(sort: Sort, c: u16, damage: u16, i: usize) -> u16
-    ensures { result ≡ slice_index (header sort c damage) i }
-{
-    match i {
-        0 => words(sort, c) + 32768 * equal(damage, 1),
-        1 => 16 - equal(damage, 2),
-        2 => bytes(c),
-        3 => 16 + 2 * words(sort, c) + equal(damage, 3),
-        _ => 0,
-    }
 }
 
 fn any_word(c: u16, j: u16) -> u16
@@ -96,13 +97,11 @@ fn loop_word(c: u16, j: u16, own: u16) -> u16
     requires { j < 200 }
     ensures { result ≡ loop_word c j own }
 {
-    if j >= 30 {
-        return if j == 30 { 32993 } else { 33248 };
-    }
-    if number(c, 4000 + j) % 2 == 0 {
-        own
-    } else {
-        any_word(c, j)
+    match j {
+        0..30 if number(c, 4000 + j) % 2 == 0 => own,
+        0..30 => any_word(c, j),
+        30 => 32993,
+        _ => 33248,
     }
 }
 
@@ -218,13 +217,14 @@ fn page_word(c: u16, j: u16) -> u16
     requires { j < 200 }
     ensures { result ≡ page_word c j }
 {
-    if j >= 30 {
-        return if j == 30 { 32993 } else { 33248 };
-    }
-    match number(c, 4000 + j) % 8 {
-        0 => any_word(c, j),
-        1 => out_word(number(c, 1000 + j)),
-        _ => addi_word(number(c, 1000 + j)),
+    match j {
+        0..30 => match number(c, 4000 + j) % 8 {
+            0 => any_word(c, j),
+            1 => out_word(number(c, 1000 + j)),
+            _ => addi_word(number(c, 1000 + j)),
+        },
+        30 => 32993,
+        _ => 33248,
     }
 }
 
@@ -256,43 +256,77 @@ fn part(x: u16, i: usize) -> u8
     }
 }
 
-// Byte `at` of the file, zero after its end.
-fn byte(sort: Sort, c: u16, damage: u16, at: usize) -> u8
-    ensures { result ≡ file_byte sort c damage at }
-{
-    if at < 16 {
-        return part(header(sort, c, damage, at / 4), at % 4);
+impl File {
+    // The file of case c, damaged as its numbers say.
+    pub fn of_case(c: u16) -> Self
+        ensures { result ≡ record { sort = Any; case = c; damage = damage_of c } }
+    {
+        File {
+            sort: Sort::Any,
+            case: c,
+            damage: Damage::of_case(c),
+        }
     }
-    let at = at - 16;
-    let program_bytes = 2 * words(sort, c) as usize;
-    if at < program_bytes {
-        return part(program_word(sort, c, (at / 2) as u16), at % 2);
-    }
-    let at = at - program_bytes;
-    if at < bytes(c) as usize {
-        return (number(c, 3000 + at as u16) % 256) as u8;
-    }
-    0
-}
 
-// The file of case c with a damage, and zeros after it.
-pub fn make(sort: Sort, c: u16, damage: u16) -> File
-    ensures { result ≡ file_of sort c damage }
-{
-    let mut file = [0; 65537];
-    for at in 0..65537 {
-        file[at] = byte(sort, c, damage, at);
+    // An undamaged file.
+    pub fn whole(sort: Sort, c: u16) -> Self
+        ensures { result ≡ record { sort = sort; case = c; damage = None } }
+    {
+        File {
+            sort,
+            case: c,
+            damage: None,
+        }
     }
-    file
-}
 
-pub fn length(sort: Sort, c: u16, damage: u16) -> u16
-    ensures { result ≡ length_of sort c damage }
-{
-    let whole = 16 + 2 * words(sort, c) + bytes(c);
-    if damage == 0 {
-        number(c, 3) % whole
-    } else {
-        whole
+    fn header(self) -> [u16; 4]
+        ensures { result ≡ header self.sort self.case self.damage }
+    {
+        let words = words(self.sort, self.case);
+        let mut header = [words, 16, bytes(self.case), 16 + 2 * words];
+        match self.damage {
+            Some(Damage::Words) => header[0] += 32768,
+            Some(Damage::ProgramOffset) => header[1] = 15,
+            Some(Damage::DataOffset) => header[3] += 1,
+            _ => {}
+        }
+        header
+    }
+
+    // Byte `at`, zero after the end.
+    fn byte(self, at: usize) -> u8
+        ensures { result ≡ file_byte self.sort self.case self.damage at }
+    {
+        if at < 16 {
+            let header = self.header();
+            return part(header[at / 4], at % 4);
+        }
+        let at = at - 16;
+        let program_bytes = 2 * words(self.sort, self.case) as usize;
+        if at < program_bytes {
+            return part(program_word(self.sort, self.case, (at / 2) as u16), at % 2);
+        }
+        let at = at - program_bytes;
+        if at < bytes(self.case) as usize {
+            return (number(self.case, 3000 + at as u16) % 256) as u8;
+        }
+        0
+    }
+
+    // The file, and zeros after it.
+    pub fn make(self) -> FileBuffer
+        ensures { result ≡ file_of self.sort self.case self.damage }
+    {
+        array::from_fn(|at| self.byte(at))
+    }
+
+    pub fn length(self) -> usize
+        ensures { result ≡ length_of self.sort self.case self.damage }
+    {
+        let whole = 16 + 2 * words(self.sort, self.case) + bytes(self.case);
+        match self.damage {
+            Some(Damage::Length) => (number(self.case, 3) % whole) as usize,
+            _ => whole as usize,
+        }
     }
 }

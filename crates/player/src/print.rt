@@ -2,10 +2,11 @@
 ghost use Rattle.std.specs.Prelude.{OnOk};
 ghost use Rattle.std.specs.Io.KnownBytes.{Appends};
 ghost use Rattle.player.specs.Digest.{digest_of_left};
-ghost use Rattle.player.specs.Print.{field, fields, last_field, lines};
+ghost use Rattle.player.specs.Print.{field, fields, last_field, line, lines};
 
 use crate::digest;
-use crate::lent::{Log, Memory, Ports};
+use crate::lent::Lent;
+use crate::runs::Call;
 use machine::State;
 use std::io;
 use std::io::Write;
@@ -40,34 +41,33 @@ pub fn last_field<W: Write>(out: &mut W, n: u64) -> io::Result<()>
     writeln!(out, " {n}")
 }
 
-// The digest of what is left, the last field of a line.
-pub fn left<W: Write>(
-    out: &mut W,
-    state: State,
-    program: &Memory,
-    memory: &Memory,
-    inputs: &Ports,
-    outputs: &Ports,
-    log: &Log,
-) -> io::Result<()>
-    ensures { OnOk result (Appends (W.contents out.old) (W.contents out.new) (last_field (digest_of_left state program.now memory.now inputs.now outputs.now log.now))) }
+// A line: its first word, and its fields.
+pub fn line<W: Write>(out: &mut W, word: &[u8], numbers: &[u64]) -> io::Result<()>
+    ensures { OnOk result (Appends (W.contents out.old) (W.contents out.new) (line word.now numbers.now)) }
 {
-    let digest = digest::of_all(state, program, memory, inputs, outputs, log);
-    last_field(out, digest as u64)
+    text(out, word)?;
+    fields(out, numbers)?;
+    writeln!(out)
 }
 
-// The line of what a state has for interrupts, after call i.
-pub fn lines<W: Write>(out: &mut W, c: u16, i: u16, state: State) -> io::Result<()>
-    ensures { OnOk result (Appends (W.contents out.old) (W.contents out.new) (lines c i state)) }
+// The digest of what is left, the last field of a line.
+pub fn left<W: Write>(out: &mut W, state: State, lent: &Lent) -> io::Result<()>
+    ensures { OnOk result (Appends (W.contents out.old) (W.contents out.new) (last_field (digest_of_left state lent.now))) }
 {
-    text(out, b"lines")?;
+    last_field(out, digest::of_all(state, lent) as u64)
+}
+
+// The line of what a state has for interrupts, after a call.
+pub fn lines<W: Write>(out: &mut W, call: Call, state: State) -> io::Result<()>
+    ensures { OnOk result (Appends (W.contents out.old) (W.contents out.new) (lines call.case call.index state)) }
+{
     let numbers = [
-        c as u64,
-        i as u64,
+        call.case as u64,
+        call.index as u64,
         state.enabled as u64,
         state.pending as u64,
         state.line as u64,
+        state.return_address as u64,
     ];
-    fields(out, &numbers)?;
-    last_field(out, state.return_address as u64)
+    line(out, b"lines", &numbers)
 }

@@ -1,52 +1,67 @@
--- Writings one after another, a loop that writes a text for each element of a list, and the whole text in the array.
+-- Writings one after another, a text for each element of a list, and the whole text where there is room for it.
 -- Assumes nothing.
-use Prim.Native.Nat.{ℕ, suc, ◌+◌, ◌-◌, ◌*◌, ◌/◌, ◌%◌, ◌≤◌, ◌<◌}
+use Prim.Native.Nat.{ℕ, zero, suc, ◌+◌, ◌-◌, ◌*◌, ◌≤◌}
 use mathlib.Core.Path.{◌≡◌, refl, sym, ap, ◌∙◌}
 use mathlib.Core.List.{List, [], ◌∷◌, ◌++◌, append_assoc, append-nil}
-use native.Mathlib.Numerals.{add-one}
 use native.Mathlib.Omega.{arith}
-use lib.ListN.{length, get_or, take, set, replicate, length-append}
-use lib.Seq.{take-suc, take_all, set-append_seam, append_snoc}
-use borrow.Author.Tests.{lt-leb}
-use Rattle.printing.specs.declared.Printed.{Printed}
-use Rattle.printing.specs.Text.{digit, decimal, each, in_array}
-use Rattle.printing.specs.Writing.{put, puts, Wrote}
-use Rattle.printing.proofs.Decimal.{decimal_one, decimal_more, decimal_short}
+use lib.ListN.{length, take, length-append}
+use lib.Seq.{take_all}
+use denote.Param.Members.{Mut}
+use Rattle.std.specs.Prelude.{min}
+use Rattle.std.specs.Fn.{Called}
+use Rattle.std.specs.List.{FoldsTo}
+use Rattle.std.specs.Iterator.{Drains}
+use Rattle.std.specs.declared.option.Option.{Option}
+use Rattle.std.proofs.lemmas.Fn.{fold_over}
+use Rattle.std.proofs.lemmas.Iterator.{YieldsList}
+use Rattle.printing.specs.Text.{each}
+use Rattle.printing.specs.Writing.{Wrote}
 
--- ---- A byte, and writings one after another
+-- ---- Writings one after another
 
-pub wrote_byte : {b : ℕ} {t r : Printed} → r ≡ put b t → Wrote 1 (b ∷ []) t r
-unfolding puts
-wrote_byte e = record { written = e; short = omega arith }
+pub wrote_nothing : {most : ℕ} {t : List ℕ} → Wrote most [] t t
+wrote_nothing {most} {t} =
+    let e : take {A = ℕ} (4096 - length t) [] ≡ [] = take_all (4096 - length t) [] (omega arith) in
+    record { written = rw e (sym (append-nil t)); short = omega arith }
 
-pub wrote_nothing : {most : ℕ} {t : Printed} → Wrote most [] t t
-unfolding puts
-wrote_nothing = record { written = refl; short = omega arith }
+take_within : (k : ℕ) (word : List ℕ) → take (min k (length word)) word ≡ take k word
+take_within zero word = let e : min 0 (length word) ≡ 0 = omega arith in rw e
+take_within (suc k) [] = take_all (min (suc k) 0) [] (omega arith)
+take_within (suc k) (b ∷ word) =
+    let e : min (suc k) (suc (length word)) ≡ suc (min k (length word)) = omega arith in
+    rw e (ap (λ l. b ∷ l) (take_within k word))
 
-puts_append : (xs ys : List ℕ) (t : Printed) → puts (xs ++ ys) t ≡ puts ys (puts xs t)
-unfolding puts
-puts_append [] ys t = refl
-puts_append (x ∷ xs) ys t = puts_append xs ys (put x t)
+pub wrote_word : {t word r : List ℕ} → r ≡ t ++ take (min (4096 - length t) (length word)) word → Wrote (length word) word t r
+wrote_word {t} {word} e = record { written = e ∙ ap (λ l. t ++ l) (take_within (4096 - length t) word); short = omega arith }
+
+take_append : (k : ℕ) (xs ys : List ℕ) → take k xs ++ take (k - length (take k xs)) ys ≡ take k (xs ++ ys)
+take_append zero xs ys = refl
+take_append (suc k) [] ys = let e : suc k - 0 ≡ suc k = omega arith in rw e
+take_append (suc k) (x ∷ xs) ys =
+    let e : suc k - suc (length (take k xs)) ≡ k - length (take k xs) = omega arith in
+    rw e (ap (λ l. x ∷ l) (take_append k xs ys))
 
 infixl 65 ◌then◌
-pub ◌then◌ : {a b : ℕ} {xs ys : List ℕ} {t u r : Printed} → Wrote a xs t u → Wrote b ys u r → Wrote (a + b) (xs ++ ys) t r
+pub ◌then◌ : {a b : ℕ} {xs ys t u r : List ℕ} → Wrote a xs t u → Wrote b ys u r → Wrote (a + b) (xs ++ ys) t r
 ◌then◌ {a} {b} {xs} {ys} {t} {u} {r} v w =
+    let k = 4096 - length t in
+    let room : 4096 - length (t ++ take k xs) ≡ k - length (take k xs) = rw length-append (omega arith) in
     record {
-      written = w.written ∙ ap (puts ys) v.written ∙ sym (puts_append xs ys t);
+      written =
+          w.written
+          ∙ ap (λ s. s ++ take (4096 - length s) ys) v.written
+          ∙ ap (λ n. (t ++ take k xs) ++ take n ys) room
+          ∙ append_assoc t (take k xs) (take (k - length (take k xs)) ys)
+          ∙ ap (λ l. t ++ l) (take_append k xs ys);
       short = rw (length-append xs ys) (omega (arith, v.short, w.short));
     }
 
-pub at_most : {a b : ℕ} {text : List ℕ} {t r : Printed} → a ≤ b → Wrote a text t r → Wrote b text t r
+pub at_most : {a b : ℕ} {text t r : List ℕ} → a ≤ b → Wrote a text t r → Wrote b text t r
 at_most h w = record { written = w.written; short = omega (arith, w.short) }
 
--- ---- A number in decimal
-
-pub wrote_one : {n : ℕ} {t r : Printed} → n < 10 → Wrote 1 (digit n ∷ []) t r → Wrote 20 (decimal n) t r
-wrote_one {n} h w = rw (decimal_one n h) (record { written = w.written; short = omega arith })
-
-pub wrote_more : {n : ℕ} {t u r : Printed} → 10 ≤ n → n < 18446744073709551616
-    → Wrote 20 (decimal (n / 10)) t u → Wrote 1 (digit (n % 10) ∷ []) u r → Wrote 20 (decimal n) t r
-wrote_more {n} h k v w = record { written = rw (decimal_more n h) (v then w).written; short = decimal_short n k }
+-- the whole text is there where there is room for it
+pub wrote_held : {most : ℕ} {text t r : List ℕ} → t ≡ [] → Wrote most text t r → most ≤ 4096 → r ≡ text
+wrote_held {most} {text} {t} {r} e w h = w.written ∙ ap (λ s. s ++ take (4096 - length s) text) e ∙ take_all 4096 text (omega (arith, w.short))
 
 -- ---- A text for each element
 
@@ -59,68 +74,27 @@ each_one : (f : ℕ → List ℕ) (x : ℕ) → each f (x ∷ []) ≡ f x
 unfolding each
 each_one f x = append-nil (f x)
 
--- a text has been written for each of the first i elements
-pub record Going (f : ℕ → List ℕ) (most : ℕ) (l : List ℕ) (t u : Printed) (i : ℕ) : Type 0 where
-  pub place : i ≤ length l
-  pub wrote : Wrote (most * i) (each f (take i l)) t u
+-- a text has been written for each element of xs
+record WroteEach (f : ℕ → List ℕ) (most : ℕ) (t xs r : List ℕ) : Type 0 where
+  wrote : Wrote (most * length xs) (each f xs) t r
 
-pub start : (f : ℕ → List ℕ) (most : ℕ) (l : List ℕ) {t : Printed} → Going f most l t t 0
+none : (f : ℕ → List ℕ) (most : ℕ) (t : List ℕ) → WroteEach f most t [] t
 unfolding each
-start f most l = record { place = omega arith; wrote = wrote_nothing }
+none f most t = record { wrote = wrote_nothing }
 
-module _ {f : ℕ → List ℕ} {most : ℕ} {l : List ℕ} {t u : Printed} {i : ℕ} (v : Going f most l t u i) where
-  pub turn : {r : Printed} → i < length l → Wrote most (f (get_or l i 0)) u r → Going f most l t r (i + 1)
-  turn h w =
-      let z = v.wrote then w in
-      let e : each f (take (i + 1) l) ≡ each f (take i l) ++ f (get_or l i 0) =
-      rw (add-one i, take-suc l i 0 h, each_append, each_one)
-      in
-      record { place = omega arith; wrote = record { written = rw e z.written; short = rw e (omega (arith, z.short)) } }
+one_more : {f : ℕ → List ℕ} {most : ℕ} {t xs u r : List ℕ} {x : ℕ} → WroteEach f most t xs u → Wrote most (f x) u r
+    → WroteEach f most t (xs ++ (x ∷ [])) r
+one_more {f} {most} {xs = xs} {x = x} v w =
+    let z = v.wrote then w in
+    let e : each f (xs ++ (x ∷ [])) ≡ each f xs ++ f x = each_append f xs (x ∷ []) ∙ ap (λ l. each f xs ++ l) (each_one f x) in
+    record { wrote = record { written = rw e z.written; short = rw (e, length-append xs (x ∷ [])) (omega (arith, z.short)) } }
 
-  pub whole : length l ≤ i → Wrote (most * length l) (each f l) t u
-  whole h =
-      let e : take i l ≡ l = take_all i l h in
-      let n : i ≡ length l = omega (arith, v.place) in
-      record { written = rw e at v.wrote.written; short = rw n at (rw e at v.wrote.short) }
-
--- the text of a byte is the byte
-abbrev pub byte : ℕ → List ℕ
-byte b = b ∷ []
-
-each_byte : (l : List ℕ) → each byte l ≡ l
-unfolding each
-each_byte [] = refl
-each_byte (b ∷ l) = ap (λ k. b ∷ k) (each_byte l)
-
-pub bytes : {l : List ℕ} {t r : Printed} → Wrote (1 * length l) (each byte l) t r → Wrote (length l) l t r
-bytes {l} w = record { written = rw (each_byte l) at w.written; short = omega arith }
-
--- ---- The array
-
-set_next : (text : List ℕ) (b k : ℕ) → set (text ++ replicate (suc k) 0) (length text) b ≡ text ++ (b ∷ []) ++ replicate k 0
-set_next text b k = set-append_seam text 0 (replicate k 0) b ∙ sym (append_snoc text b (replicate k 0))
-
-put_held : (text : List ℕ) (b : ℕ) → length text < 4096 → put b (in_array text) ≡ in_array (text ++ (b ∷ []))
-unfolding put in_array
-put_held text b h =
-    let k = 4096 - (length text + 1) in
-    let e : 4096 - length text ≡ suc k = omega arith in
-    let n : length (text ++ (b ∷ [])) ≡ length text + 1 = length-append text (b ∷ []) in
-    rw (lt-leb 4096 (length text) h, n, e, set_next text b k)
-
-puts_held : (xs text : List ℕ) → length text + length xs ≤ 4096 → puts xs (in_array text) ≡ in_array (text ++ xs)
-unfolding puts
-puts_held [] text h = ap in_array (sym (append-nil text))
-puts_held (x ∷ xs) text h =
-    ap (puts xs) (put_held text x (omega arith))
-    ∙ puts_held xs (text ++ (x ∷ [])) (rw length-append (omega arith))
-    ∙ ap in_array (append_snoc text x xs)
-
--- the whole text is there where the array has room for it
-pub wrote_held : {most : ℕ} {text : List ℕ} {t r : Printed} → t ≡ in_array [] → Wrote most text t r → most ≤ 4096 → r ≡ in_array text
-wrote_held {most} {text} {t} {r} e w h = w.written ∙ ap (puts text) e ∙ puts_held text [] (omega (arith, w.short))
-
--- what a caller who lends the text's bytes needs
-pub count_fits : (text : List ℕ) {r : Printed} → r ≡ in_array text → r.count ≤ length r.bytes
-unfolding in_array
-count_fits text e = rw (e, length-append) (omega arith)
+-- what a fold writes, where each call writes the text of its element
+module _ {S A F : Type 0} {steps : S → Option A → S → Type 0} {v : A → ℕ} (g : Mut F (List ℕ × (A × Unit {0})) (List ℕ)) {f : F}
+    (text : ℕ → List ℕ) (most : ℕ) where
+  pub folded : {s : S} {l t r : List ℕ} → YieldsList steps v s l
+      → ((t : List ℕ) (x : A) (r : List ℕ) (f' : F) → Called g f (t, (x, tt)) r f' → Wrote most (text (v x)) t r × (f' ≡ f))
+      → (xs : List A) × (f' : F) × Drains steps s xs × FoldsTo {P = F × List ℕ} (λ p x q. Called g p.0 (p.1, (x, tt)) q.1 q.0) (f, t) xs (f', r)
+      → Wrote (most * length l) (each text l) t r
+  folded {s} {l} {t} {r} from step ran =
+      (fold_over steps v g (WroteEach text most t) f (λ xs t x r f' w k. let one = step t x r f' k in (one_more w one.0, one.1)) s l t r from.runs (none text most t) ran).wrote

@@ -1,8 +1,7 @@
--- Numbers as text, and a text in an array. A text is the list of its bytes.
-use Rattle.std.specs.Prelude.{ℕ, zero, suc, ◌+◌, ◌-◌, ◌/◌, ◌%◌, true, false, List, [], ◌∷◌, ◌++◌, ltb, length, replicate}
+-- Numbers as text. A text is the list of its bytes.
+use Rattle.std.specs.Prelude.{ℕ, zero, suc, ◌+◌, ◌-◌, ◌/◌, ◌%◌, true, false, List, [], ◌∷◌, ◌++◌, ltb}
 use Rattle.word.specs.Word.{pick}
 use Rattle.token.specs.Ascii.{byte}
-use Rattle.printing.specs.declared.Printed.{Printed}
 
 -- ---- Numbers
 
@@ -29,7 +28,3 @@ hex4 v = digit (v / 4096) ∷ digit (v / 256 % 16) ∷ digit (v / 16 % 16) ∷ d
 unfoldable pub each : (ℕ → List ℕ) → List ℕ → List ℕ
 each text [] = []
 each text (x ∷ xs) = text x ++ each text xs
-
--- the whole text, and zeros to the end of the array
-unfoldable pub in_array : List ℕ → Printed
-in_array text = record { bytes = text ++ replicate (4096 - length text) 0; count = length text }

@@ -1,19 +1,31 @@
-// A text being written: bytes, words and numbers. A byte beyond the array's end is dropped; that a text is not so long is shown
+// A text being written: bytes, words and numbers. A byte that finds the text full is dropped; that a text is not so long is shown
 // where its parts are joined (`wrote_held` of proofs/Writing.antt).
 #![tactic(auto)]
 
 ghost use Rattle.std.specs.Prelude.{[], ◌∷◌, ◌≡◌, ◌<◌, length};
-ghost use Rattle.printing.specs.Text.{digit, decimal, hex4, in_array};
+ghost use Rattle.printing.specs.Text.{digit, decimal, hex4};
 ghost use Rattle.printing.specs.Writing.{Wrote};
+
+use arrayvec::ArrayVec;
+use itoa::Buffer;
+use std::io::Write;
+use std::marker::Model;
 
 // More than the longest text of this repository has.
 pub const CAPACITY: usize = 4096;
 
-// A text: its bytes stand before count, zeros after them.
-#[derive(Clone, Copy)]
+// A text; a clause sees the list of its bytes.
+#[derive(Clone, Drop)]
 pub struct Printed {
-    pub bytes: [u8; CAPACITY],
-    pub count: usize,
+    bytes: ArrayVec<u8, CAPACITY>,
+}
+
+impl Model for Printed {
+    ghost use Rattle.std.specs.Prelude.{ℕ, List};
+
+    ghost Value = { List ℕ };
+
+    ghost view = { λ text. text.bytes.items };
 }
 
 // A digit in a base of at most 16, capitals.
@@ -26,36 +38,30 @@ fn digit(d: u16) -> u8
 
 impl Printed {
     pub fn empty() -> Self
-        ensures { result ≡ in_array [] }
+        ensures { result ≡ [] }
     {
-        Printed {
-            bytes: [0; CAPACITY],
-            count: 0,
-        }
+        let bytes = ArrayVec::new();
+        Printed { bytes }
     }
 
-    pub fn with_byte(mut self, b: u8) -> Self
-        ensures { Wrote 1 (b ∷ []) self result }
+    pub fn as_bytes(&self) -> &[u8]
+        ensures { result.now ≡ self.now }
     {
-        let at = self.count;
-        if CAPACITY <= at {
-            return self;
-        }
-        self.bytes[at] = b;
-        self.count = at + 1;
+        &self.bytes
+    }
+
+    pub fn with_word(mut self, word: &[u8]) -> Self
+        ensures { Wrote (length word.now) word.now self result }
+    {
+        // It writes what fits, and never fails.
+        let _ = self.bytes.write(word);
         self
     }
 
-    pub fn with_word(self, word: &[u8]) -> Self
-        ensures { Wrote (length word.now) word.now self result }
+    pub fn with_byte(self, b: u8) -> Self
+        ensures { Wrote 1 (b ∷ []) self result }
     {
-        let mut text = self;
-        let mut i = 0;
-        while i < word.len() {
-            text = text.with_byte(word[i]);
-            i += 1;
-        }
-        text
+        self.with_word(&[b])
     }
 
     fn with_digit(self, d: u16) -> Self
@@ -69,10 +75,7 @@ impl Printed {
     pub fn with_decimal(self, n: u64) -> Self
         ensures { Wrote 20 (decimal n) self result }
     {
-        if n < 10 {
-            return self.with_digit(n as u16);
-        }
-        self.with_decimal(n / 10).with_digit((n % 10) as u16)
+        self.with_word(Buffer::new().format(n).as_bytes())
     }
 
     // Four hexadecimal digits.

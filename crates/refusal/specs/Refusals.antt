@@ -1,6 +1,7 @@
 -- The refusal table of 01 and the numbers that join it in 02: the number of each refusal, and the reply of a call that is
 -- accepted or refused with a number.
-use Rattle.std.specs.Prelude.{ℕ}
+use Rattle.std.specs.Prelude.{ℕ, Result}
+use Rattle.std.specs.declared.result.Result.TheVariants.{Ok, Err}
 use Rattle.refusal.specs.declared.Refusal.{Refusal}
 use Rattle.refusal.specs.declared.Refusal.TheVariants.{LentLength, ShortFile, LargePart, PartOutside, OddPc, StepCount, InstructionPart, LongFile, ShortDestination, TextLine, TextName, TextValue, FullSheet, ShortJournal, SmallBoard, LineNumber, TrimCount, LockedRange}
 
@@ -46,3 +47,8 @@ refusal_number LockedRange = 18
 pub data Verdict : Type 0 where
   accepted : Verdict
   refused : ℕ → Verdict
+
+-- the reply of a call that answers Ok, or Err with the refusal
+abbrev pub shown_check : Result Unit Refusal → Verdict
+shown_check (Ok _) = accepted
+shown_check (Err r) = refused (refusal_number r)

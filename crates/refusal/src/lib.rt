@@ -4,50 +4,33 @@
 ghost use Rattle.std.specs.Prelude.{◌≡◌};
 ghost use Rattle.refusal.specs.Refusals.{refusal_number};
 
-#[derive(Clone, Copy)]
+#[derive(Clone, Copy, Debug, PartialEq, Eq)]
 pub enum Refusal {
-    LentLength,
-    ShortFile,
-    LargePart,
-    PartOutside,
-    OddPc,
-    StepCount,
-    InstructionPart,
-    LongFile,
-    ShortDestination,
-    TextLine,
-    TextName,
-    TextValue,
-    FullSheet,
-    ShortJournal,
-    SmallBoard,
-    LineNumber,
-    TrimCount,
-    LockedRange,
+    LentLength = 1,
+    ShortFile = 2,
+    LargePart = 3,
+    PartOutside = 4,
+    OddPc = 5,
+    StepCount = 6,
+    InstructionPart = 7,
+    LongFile = 8,
+    ShortDestination = 9,
+    TextLine = 10,
+    TextName = 11,
+    TextValue = 12,
+    FullSheet = 13,
+    ShortJournal = 14,
+    SmallBoard = 15,
+    LineNumber = 16,
+    TrimCount = 17,
+    LockedRange = 18,
 }
 
 // The refusal's number in the table.
-pub fn number(refusal: Refusal) -> u8
-    ensures { result ≡ refusal_number refusal }
-{
-    match refusal {
-        Refusal::LentLength => 1,
-        Refusal::ShortFile => 2,
-        Refusal::LargePart => 3,
-        Refusal::PartOutside => 4,
-        Refusal::OddPc => 5,
-        Refusal::StepCount => 6,
-        Refusal::InstructionPart => 7,
-        Refusal::LongFile => 8,
-        Refusal::ShortDestination => 9,
-        Refusal::TextLine => 10,
-        Refusal::TextName => 11,
-        Refusal::TextValue => 12,
-        Refusal::FullSheet => 13,
-        Refusal::ShortJournal => 14,
-        Refusal::SmallBoard => 15,
-        Refusal::LineNumber => 16,
-        Refusal::TrimCount => 17,
-        Refusal::LockedRange => 18,
+impl From<Refusal> for u8 {
+    ghost from_gives = { λ refusal n. n ≡ refusal_number refusal };
+
+    fn from(refusal: Refusal) -> u8 {
+        refusal as u8
     }
 }

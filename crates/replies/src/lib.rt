@@ -2,29 +2,28 @@
 #![tactic(auto)]
 
 ghost use Rattle.std.specs.Prelude.{◌≡◌, eqb};
+ghost use Rattle.refusal.specs.Refusals.{shown_check};
 ghost use Rattle.word.specs.Word.{pick};
-ghost use Rattle.image.specs.Image.{shown_loading};
 ghost use Rattle.save.specs.Saved.{shown_saving};
 ghost use Rattle.assembler.specs.Passes.{shown_assembly};
-ghost use Rattle.panel.specs.Calls.{shown_setting, shown_raising};
-ghost use Rattle.run.specs.Runs.{shown_answer, shown_verdict};
-ghost use Rattle.sheet.specs.Sheet.{shown_feeding};
+ghost use Rattle.run.specs.Runs.{shown_answer};
 ghost use Rattle.back.specs.Backs.{shown_going};
 ghost use Rattle.isa.specs.Instructions.{shown_writing};
 ghost use Rattle.isa.specs.Masks.{shown_decoded};
 ghost use Rattle.replies.specs.Sisa.{sisa_load, sisa_saved, sisa_assembly, verdict_number, sisa_run, sisa_instruction, sisa_word, sisa_write, sisa_fed, sisa_back, sisa_raised, sisa_answer, sisa_page};
 
-use assembler::Assembly;
-use back::{Backed, Going};
-use image::{Loaded, Loading};
-use isa::{Decoded, Instruction, Reading, Writing};
+use assembler::Rejected;
+use back::Backed;
+use image::Loaded;
+use isa::{Decoded, Instruction};
+use kinds::Kind;
 use machine::State;
 use page::{Paged, TrimAnswer, Trims};
-use panel::{Raised, Raising, Setting};
+use panel::Raised;
 use refusal::Refusal;
-use run::{Answer, Check, Counted};
-use save::{Saved, Saving};
-use sheet::{Fed, Feeding, Sheet};
+use run::Counted;
+use save::Saved;
+use sheet::{Fed, Sheet};
 use usage::Usage;
 
 #[repr(C)]
@@ -130,113 +129,103 @@ pub struct SisaAssembly {
     pub words: u32,
 }
 
-pub fn load(loaded: Loaded) -> SisaLoad
-    ensures { result ≡ sisa_load (shown_loading loaded.reply) loaded.state }
+// The refusal's number, 0 where there is none.
+pub fn number(reply: Result<(), Refusal>) -> u8
+    ensures { result ≡ verdict_number (shown_check reply) }
 {
-    let state = loaded.state;
-    let reply = loaded.reply;
     match reply {
-        Loading::Accepted => SisaLoad { state, refusal: 0 },
-        Loading::Refused(refusal) => SisaLoad {
-            state,
-            refusal: refusal::number(refusal),
-        },
+        Ok(()) => 0,
+        Err(refusal) => u8::from(refusal),
     }
 }
 
-pub fn save(saved: Saved) -> SisaSaved
-    ensures { result ≡ sisa_saved (shown_saving saved.reply) saved.state }
-{
-    let state = saved.state;
-    let reply = saved.reply;
-    match reply {
-        Saving::Written(length) => SisaSaved {
-            state,
-            refusal: 0,
-            length,
-        },
-        Saving::Refused(refusal) => SisaSaved {
-            state,
-            refusal: refusal::number(refusal),
-            length: 0,
-        },
+impl From<Loaded> for SisaLoad {
+    ghost from_gives = { λ loaded r. r ≡ sisa_load (shown_check loaded.reply) loaded.state };
+
+    fn from(loaded: Loaded) -> SisaLoad {
+        SisaLoad {
+            state: loaded.state,
+            refusal: number(loaded.reply),
+        }
     }
 }
 
-pub fn assembly(assembly: Assembly) -> SisaAssembly
-    ensures { result ≡ sisa_assembly (shown_assembly assembly) }
-{
-    match assembly {
-        Assembly::Words(words) => SisaAssembly {
-            refusal: 0,
-            line: 0,
-            words,
-        },
-        Assembly::Refused { line, refusal } => SisaAssembly {
-            refusal: refusal::number(refusal),
-            line,
-            words: 0,
-        },
+impl From<Saved> for SisaSaved {
+    ghost from_gives = { λ saved r. r ≡ sisa_saved (shown_saving saved.reply) saved.state };
+
+    fn from(saved: Saved) -> SisaSaved {
+        let state = saved.state;
+        match saved.reply {
+            Ok(length) => SisaSaved {
+                state,
+                refusal: 0,
+                length,
+            },
+            Err(refusal) => SisaSaved {
+                state,
+                refusal: u8::from(refusal),
+                length: 0,
+            },
+        }
     }
 }
 
-pub fn set(setting: Setting) -> u8
-    ensures { result ≡ verdict_number (shown_setting setting) }
-{
-    match setting {
-        Setting::Done => 0,
-        Setting::Refused(refusal) => refusal::number(refusal),
+impl From<Result<u32, Rejected>> for SisaAssembly {
+    ghost from_gives = { λ assembly r. r ≡ sisa_assembly (shown_assembly assembly) };
+
+    fn from(assembly: Result<u32, Rejected>) -> SisaAssembly {
+        match assembly {
+            Ok(words) => SisaAssembly {
+                refusal: 0,
+                line: 0,
+                words,
+            },
+            Err(rejected) => SisaAssembly {
+                refusal: u8::from(rejected.refusal),
+                line: rejected.line,
+                words: 0,
+            },
+        }
     }
 }
 
-pub fn raised(raised: Raised) -> SisaRaised
-    ensures { result ≡ sisa_raised (shown_raising raised.reply) raised.state }
-{
-    let state = raised.state;
-    let reply = raised.reply;
-    match reply {
-        Raising::Done => SisaRaised { state, refusal: 0 },
-        Raising::Refused(refusal) => SisaRaised {
-            state,
-            refusal: refusal::number(refusal),
-        },
+impl From<Raised> for SisaRaised {
+    ghost from_gives = { λ raised r. r ≡ sisa_raised (shown_check raised.reply) raised.state };
+
+    fn from(raised: Raised) -> SisaRaised {
+        SisaRaised {
+            state: raised.state,
+            refusal: number(raised.reply),
+        }
     }
 }
 
-pub fn run(ran: Counted) -> SisaRun
-    ensures { result ≡ sisa_run (shown_answer ran.answer) ran.state ran.usage ran.ticks }
-{
-    let state = ran.state;
-    let answer = ran.answer;
-    let usage = ran.usage;
-    match answer {
-        Answer::Stopped(report) => SisaRun {
-            state,
-            refusal: 0,
-            stop: report.stop,
-            steps: report.steps,
-            entries: report.entries as u64,
-            ticks: ran.ticks,
-            usage,
-        },
-        Answer::Refused(refusal) => SisaRun {
-            state,
-            refusal: refusal::number(refusal),
-            stop: 0,
-            steps: 0,
-            entries: 0,
-            ticks: ran.ticks,
-            usage,
-        },
-    }
-}
+impl From<Counted> for SisaRun {
+    ghost from_gives = { λ ran r. r ≡ sisa_run (shown_answer ran.answer) ran.state ran.usage ran.ticks };
 
-fn check(check: Check) -> u8
-    ensures { result ≡ verdict_number (shown_verdict check) }
-{
-    match check {
-        Check::Accepted => 0,
-        Check::Refused(refusal) => refusal::number(refusal),
+    fn from(ran: Counted) -> SisaRun {
+        let state = ran.state;
+        let usage = ran.usage;
+        match ran.answer {
+            Ok(report) => SisaRun {
+                state,
+                refusal: 0,
+                stop: report.stop,
+                steps: report.steps,
+                entries: report.entries as u64,
+                ticks: ran.ticks,
+                usage,
+            },
+            Err(refusal) => SisaRun {
+                state,
+                refusal: u8::from(refusal),
+                stop: 0,
+                steps: 0,
+                entries: 0,
+                ticks: ran.ticks,
+                usage,
+            },
+        }
     }
 }
 
@@ -244,128 +233,123 @@ fn check(check: Check) -> u8
 fn answer(refusal: u8, answer: TrimAnswer) -> SisaAnswer
     ensures { result ≡ sisa_answer refusal answer }
 {
-    let usage = answer.usage;
     SisaAnswer {
         refusal,
         stop: answer.stop,
         steps: answer.steps,
         entries: answer.entries as u64,
         ticks: answer.ticks,
-        usage,
+        usage: answer.usage,
     }
 }
 
-pub fn page(paged: Paged) -> SisaPage
-    ensures { result ≡ sisa_page (shown_verdict paged.check) paged.trims paged.answers }
-{
-    let trims = paged.trims;
-    let checked = paged.check;
-    let given = paged.answers;
-    let refusal = check(checked);
-    let answers = [
-        answer(refusal, given[0]),
-        answer(refusal, given[1]),
-        answer(refusal, given[2]),
-        answer(refusal, given[3]),
-        answer(refusal, given[4]),
-        answer(refusal, given[5]),
-        answer(refusal, given[6]),
-        answer(refusal, given[7]),
-    ];
-    SisaPage {
-        trims,
-        refusal,
-        answers,
+impl From<Paged> for SisaPage {
+    ghost from_gives = { λ paged r. r ≡ sisa_page (shown_check paged.check) paged.trims paged.answers };
+
+    fn from(paged: Paged) -> SisaPage {
+        let refusal = number(paged.check);
+        let given = paged.answers;
+        SisaPage {
+            trims: paged.trims,
+            refusal,
+            answers: [
+                answer(refusal, given[0]),
+                answer(refusal, given[1]),
+                answer(refusal, given[2]),
+                answer(refusal, given[3]),
+                answer(refusal, given[4]),
+                answer(refusal, given[5]),
+                answer(refusal, given[6]),
+                answer(refusal, given[7]),
+            ],
+        }
     }
 }
 
-pub fn back(backed: Backed) -> SisaBack
-    ensures { result ≡ sisa_back (shown_going backed.reply) backed.state }
-{
-    let state = backed.state;
-    let reply = backed.reply;
-    match reply {
-        Going::Gone(entries) => SisaBack {
-            state,
-            refusal: 0,
-            entries,
-        },
-        Going::Refused(refusal) => SisaBack {
-            state,
-            refusal: refusal::number(refusal),
-            entries: 0,
-        },
+impl From<Backed> for SisaBack {
+    ghost from_gives = { λ backed r. r ≡ sisa_back (shown_going backed.reply) backed.state };
+
+    fn from(backed: Backed) -> SisaBack {
+        let state = backed.state;
+        match backed.reply {
+            Ok(entries) => SisaBack {
+                state,
+                refusal: 0,
+                entries,
+            },
+            Err(refusal) => SisaBack {
+                state,
+                refusal: u8::from(refusal),
+                entries: 0,
+            },
+        }
     }
 }
 
-pub fn instruction(decoded: Decoded) -> SisaInstruction
-    ensures { result ≡ sisa_instruction (shown_decoded decoded) }
-{
-    let reading = decoded.reading;
-    match reading {
-        Reading::Instruction(i) => {
-            let kind = i.kind;
-            SisaInstruction {
+impl From<Decoded> for SisaInstruction {
+    ghost from_gives = { λ decoded r. r ≡ sisa_instruction (shown_decoded decoded) };
+
+    fn from(decoded: Decoded) -> SisaInstruction {
+        let reads = decoded.reads;
+        let writes = decoded.writes;
+        match decoded.reading {
+            Some(i) => SisaInstruction {
                 assigned: 1,
-                kind: kinds::kind_number(kind),
+                kind: u8::from(i.kind),
                 a: i.a,
                 b: i.b,
                 d: i.d,
                 n: i.n,
-                reads: decoded.reads,
-                writes: decoded.writes,
-            }
+                reads,
+                writes,
+            },
+            None => SisaInstruction {
+                assigned: 0,
+                kind: 0,
+                a: 0,
+                b: 0,
+                d: 0,
+                n: 0,
+                reads,
+                writes,
+            },
         }
-        Reading::Unassigned => SisaInstruction {
-            assigned: 0,
-            kind: 0,
-            a: 0,
-            b: 0,
-            d: 0,
-            n: 0,
-            reads: decoded.reads,
-            writes: decoded.writes,
-        },
     }
 }
 
-fn word(writing: Writing) -> SisaWord
-    ensures { result ≡ sisa_word (shown_writing writing) }
-{
-    match writing {
-        Writing::Word(word) => SisaWord { refusal: 0, word },
-        Writing::Refused(refusal) => SisaWord {
-            refusal: refusal::number(refusal),
-            word: 0,
-        },
+impl From<Result<u16, Refusal>> for SisaWord {
+    ghost from_gives = { λ writing r. r ≡ sisa_word (shown_writing writing) };
+
+    fn from(writing: Result<u16, Refusal>) -> SisaWord {
+        match writing {
+            Ok(word) => SisaWord { refusal: 0, word },
+            Err(refusal) => SisaWord {
+                refusal: u8::from(refusal),
+                word: 0,
+            },
+        }
     }
 }
 
 // The instruction that has these numbers, written. There are 34 kinds.
+#[tactic(auto, unfolding(crate::specs::Sisa::sisa_write))]
 pub fn write(kind: u8, a: u8, b: u8, d: u8, n: i16) -> SisaWord
     ensures { result ≡ sisa_write kind a b d n }
 {
-    if 33 < kind {
-        return SisaWord {
-            refusal: refusal::number(Refusal::InstructionPart),
-            word: 0,
-        };
+    match Kind::try_from(kind) {
+        Ok(kind) => SisaWord::from(isa::write(Instruction { kind, a, b, d, n })),
+        Err(_) => SisaWord::from(Err(Refusal::InstructionPart)),
     }
-    let kind = kinds::kind_at(kind);
-    word(isa::write(Instruction { kind, a, b, d, n }))
 }
 
-pub fn fed(fed: Fed) -> SisaFed
-    ensures { result ≡ sisa_fed (record { reply = shown_feeding fed.reply; sheet = fed.sheet }) }
-{
-    let sheet = fed.sheet;
-    let reply = fed.reply;
-    match reply {
-        Feeding::Taken => SisaFed { sheet, refusal: 0 },
-        Feeding::Refused(refusal) => SisaFed {
-            sheet,
-            refusal: refusal::number(refusal),
-        },
+impl From<Fed> for SisaFed {
+    ghost from_gives = { λ fed r. r ≡ sisa_fed (record { reply = shown_check fed.reply; sheet = fed.sheet }) };
+
+    fn from(fed: Fed) -> SisaFed {
+        SisaFed {
+            sheet: fed.sheet,
+            refusal: number(fed.reply),
+        }
     }
 }
 

@@ -10,8 +10,6 @@ use Rattle.refusal.specs.Refusals.{Verdict, accepted, refused}
 use Rattle.word.proofs.Tests.{clash}
 use Rattle.machine.specs.Run.{Stepper}
 use Rattle.run.specs.Runs.{Given, RunReply, stopped, run_refused, Left, outcome_on, verdict_on, run_left_by, run_left}
-use Rattle.printing.specs.declared.Printed.{Printed}
-use Rattle.printing.specs.Text.{in_array}
 use Rattle.report.specs.Printed.{refused_line, stopped_lines, lines_by, ran_lines}
 
 by_verdict : (v : Stepper) (g : Given) (x : Verdict) {stop steps entries : ℕ} → (run_left_by v x g).reply ≡ stopped stop steps entries → entries ≤ length (run_left_by v x g).log
@@ -33,13 +31,13 @@ part_fits k log h e = rw (length-take-le k log h) (omega arith)
 -- ---- What is printed, by the reply
 
 module _ (v : Stepper) (g : Given) {l : Left} (e : l ≡ run_left v g) where
-  ran : {reply : RunReply} {r : Printed} → l.reply ≡ reply → r ≡ in_array (lines_by reply l) → r ≡ in_array (ran_lines (run_left v g))
+  ran : {reply : RunReply} {r : List ℕ} → l.reply ≡ reply → r ≡ lines_by reply l → r ≡ ran_lines (run_left v g)
   unfolding ran_lines
-  ran k h = h ∙ ap (λ reply. in_array (lines_by reply l)) (sym k) ∙ ap (λ (x : Left). in_array (lines_by x.reply x)) e
+  ran k h = h ∙ ap (λ reply. lines_by reply l) (sym k) ∙ ap (λ (x : Left). lines_by x.reply x) e
 
-  pub stopped_lines_lem : {stop steps entries : ℕ} {r : Printed} → l.reply ≡ stopped stop steps entries
-      → r ≡ in_array (stopped_lines stop steps entries (take entries l.log) l.state) → r ≡ in_array (ran_lines (run_left v g))
+  pub stopped_lines_lem : {stop steps entries : ℕ} {r : List ℕ} → l.reply ≡ stopped stop steps entries
+      → r ≡ stopped_lines stop steps entries (take entries l.log) l.state → r ≡ ran_lines (run_left v g)
   stopped_lines_lem k h = ran k h
 
-  pub refused_lines : {number : ℕ} {r : Printed} → l.reply ≡ run_refused number → r ≡ in_array (refused_line number) → r ≡ in_array (ran_lines (run_left v g))
+  pub refused_lines : {number : ℕ} {r : List ℕ} → l.reply ≡ run_refused number → r ≡ refused_line number → r ≡ ran_lines (run_left v g)
   refused_lines k h = ran k h

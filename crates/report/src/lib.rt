@@ -5,14 +5,12 @@ ghost use Rattle.std.specs.Prelude.{◌≡◌, replicate};
 ghost use Rattle.refusal.specs.Refusals.{refusal_number};
 ghost use Rattle.control.specs.Control.{by_the_table};
 ghost use Rattle.run.specs.Runs.{no_journal, given, run_left};
-ghost use Rattle.printing.specs.Text.{in_array};
 ghost use Rattle.report.specs.Printed.{refused_line, ran_lines, printed};
 
-use image::{Loading, Range};
+use image::Range;
 use machine::{Board, State};
 use printing::Printed;
 use refusal::Refusal;
-use run::Answer;
 
 mod lines;
 
@@ -25,9 +23,9 @@ const LOG_PLACES: usize = 64;
 
 // The line of a refusal.
 pub fn refused(refusal: Refusal) -> Printed
-    ensures { result ≡ in_array (refused_line (refusal_number refusal)) }
+    ensures { result ≡ refused_line (refusal_number refusal) }
 {
-    let number = refusal::number(refusal);
+    let number = u8::from(refusal);
     Printed::empty()
         .with_word(b"refused ")
         .with_decimal(number as u64)
@@ -42,23 +40,19 @@ fn run_loaded(
     inputs: &mut [u16],
     outputs: &mut [u16],
 ) -> Printed
-    ensures { result ≡ in_array (ran_lines (run_left by_the_table (given state program.now memory.old inputs.old outputs.old 1000 (replicate 64 0) no_journal))) }
+    ensures { result ≡ ran_lines (run_left by_the_table (given state program.now memory.old inputs.old outputs.old 1000 (replicate 64 0) no_journal)) }
 {
     let mut log = [0u64; LOG_PLACES];
     let ran = engine::run_by_table(state, program, memory, inputs, outputs, BUDGET, &mut log);
-    let answer = ran.answer;
-    match answer {
-        Answer::Stopped(report) => {
-            let entries = report.entries;
-            lines::stopped(report, &log[..entries], ran.state)
-        }
-        Answer::Refused(refusal) => refused(refusal),
+    match ran.answer {
+        Ok(report) => lines::stopped(report, &log[..report.entries], ran.state),
+        Err(refusal) => refused(refusal),
     }
 }
 
 // The report of a file: the lines of its run with inputs zero, or the line of the refusal.
 pub fn report(file: &[u8]) -> Printed
-    ensures { result ≡ in_array (printed file.now) }
+    ensures { result ≡ printed file.now }
 {
     if FILE_BYTES < file.len() {
         return refused(Refusal::LongFile);
@@ -80,15 +74,14 @@ pub fn report(file: &[u8]) -> Printed
         &mut inputs,
         &mut outputs,
     );
-    let reply = loaded.reply;
-    match reply {
-        Loading::Accepted => run_loaded(
+    match loaded.reply {
+        Ok(()) => run_loaded(
             loaded.state,
             &program,
             &mut memory,
             &mut inputs,
             &mut outputs,
         ),
-        Loading::Refused(refusal) => refused(refusal),
+        Err(refusal) => refused(refusal),
     }
 }

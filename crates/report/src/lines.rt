@@ -1,6 +1,6 @@
 // The lines of a report. The number after `Wrote` is the most bytes that the text can have.
 ghost use Rattle.std.specs.Prelude.{◌≡◌, ◌*◌, ◌≤◌, length};
-ghost use Rattle.printing.specs.Text.{each, in_array};
+ghost use Rattle.printing.specs.Text.{each};
 ghost use Rattle.printing.specs.Writing.{Wrote};
 ghost use Rattle.report.specs.Printed.{run_line, out_line, pc_line, register, registers_line, stopped_lines};
 
@@ -39,13 +39,7 @@ fn with_out(text: Printed, entry: u64) -> Printed
 fn with_outs(text: Printed, log: &[u64]) -> Printed
     ensures { Wrote (51 * length log.now) (each out_line log.now) text result }
 {
-    let mut written = text;
-    let mut i = 0;
-    while i < log.len() {
-        written = with_out(written, log[i]);
-        i += 1;
-    }
-    written
+    log.iter().fold(text, |text, entry| with_out(text, *entry))
 }
 
 fn with_pc(text: Printed, pc: u16) -> Printed
@@ -60,29 +54,20 @@ fn with_register(text: Printed, v: u16) -> Printed
     text.with_byte(SPACE).with_hex(v)
 }
 
-fn with_each_register(text: Printed, registers: &[u16]) -> Printed
-    ensures { Wrote (5 * length registers.now) (each register registers.now) text result }
-{
-    let mut written = text;
-    let mut k = 0;
-    while k < registers.len() {
-        written = with_register(written, registers[k]);
-        k += 1;
-    }
-    written
-}
-
 fn with_registers(text: Printed, state: State) -> Printed
     ensures { Wrote 42 (registers_line state.r) text result }
 {
-    let registers = state.r;
-    with_each_register(text.with_byte(b'r'), &registers).with_byte(LINE_FEED)
+    state
+        .r
+        .iter()
+        .fold(text.with_byte(b'r'), |text, v| with_register(text, *v))
+        .with_byte(LINE_FEED)
 }
 
 // The lines of a run that stopped: its report, the entries that it wrote and the state that it left.
 pub fn stopped(report: Report, log: &[u64], state: State) -> Printed
     requires { length log.now ≤ 64 }
-    ensures { result ≡ in_array (stopped_lines report.stop report.steps report.entries log.now state) }
+    ensures { result ≡ stopped_lines report.stop report.steps report.entries log.now state }
 {
     let run = with_run(Printed::empty(), report);
     let outs = with_outs(run, log);

@@ -10,20 +10,19 @@ use Rattle.word.specs.Fields.{e_of, f_of, N8}
 use Rattle.word.specs.Word.{pick, add, SE}
 use Rattle.word.proofs.Tests.{never}
 use Rattle.machine.specs.declared.State.{State}
-use Rattle.machine.specs.declared.Stepped.{Stepped}
+use Rattle.std.specs.Prelude.{Result}
+use Rattle.std.specs.declared.result.Result.TheVariants.{Ok, Err}
+use Rattle.machine.specs.declared.Stop.{Stop}
+use Rattle.machine.specs.declared.Stop.TheVariants.{Unassigned, ZeroDivisor}
 use Rattle.machine.specs.Machine.{Machine, touches_locked, put_r, put_pc, count, on_state, put_d}
 use Rattle.machine.specs.Step.{PC, d5_3, d11_9, write, jump, Rule, Touched, Choice, rule, division, access, unassigned, choice, cannot, doing, step_by, bz, bnz, movi, movhi, interrupt_rules, interrupt}
 use Rattle.machine.specs.Run.{Outcome}
-use Rattle.machine.specs.Held.{outcome_of, is_lock_stop, TestsLock}
+use Rattle.machine.specs.Held.{outcome_of, is_lock_stop, TestsLock, reason_of, state_left}
 use Rattle.rules.specs.Parts.{advanced_of, RuleMeets, ra_of, rb_of, target_of, branch_of, move_of, interrupt_of}
 
 -- PC = PC+2 is done
 abbrev on : Machine → Machine
 on m = jump (add (PC m) 2) m
-
--- what is answered
-abbrev pub answer : ℕ → State → ℕ → Stepped
-answer stop t k = record { stop = stop; state = t; entries = k }
 
 -- what comes of m
 abbrev comes : ℕ → State → List ℕ → Machine → Outcome
@@ -50,20 +49,19 @@ accessing w s t x q free m es = by_test (touches_locked (t w m) m.state) (ap (λ
     by_test true e = never (sym e)
     by_test false e = refl
 
-module _ {w : ℕ} {s : State} {D : List ℕ} {k : ℕ} {r : Stepped} where
-  meets : {stop : ℕ} {t : State} {D' : List ℕ}
-      → ((m : Machine) → m.state ≡ s → m.D ≡ D → outcome_of m (step_by (choice w) w m) ≡ comes stop t D' m)
-      → r ≡ answer stop t k
-      → RuleMeets w s D k r D'
-  meets {stop} {t} {D'} p er =
-      record { entries = ap (λ x. x.entries) er; machine = λ m es eD. p m es eD ∙ ap (λ x. comes x.stop x.state D' m) (sym er) }
+module _ {w : ℕ} {s : State} {D : List ℕ} {r : Result State Stop} where
+  meets : {z : Result State Stop} {D' : List ℕ}
+      → ((m : Machine) → m.state ≡ s → m.D ≡ D → outcome_of m (step_by (choice w) w m) ≡ comes (reason_of z) (state_left s z) D' m)
+      → r ≡ z
+      → RuleMeets w s D r D'
+  meets {z} {D'} p er = record { machine = λ m es eD. p m es eD ∙ ap (λ x. comes (reason_of x) (state_left s x) D' m) (sym er) }
 
   -- the word is unassigned
-  pub stopped : choice w ≡ unassigned → r ≡ answer 1 s k → RuleMeets w s D k r D
+  pub stopped : choice w ≡ unassigned → r ≡ Err Unassigned → RuleMeets w s D r D
   stopped q er = meets (λ m es eD. ap (λ x. outcome_of m (step_by x w m)) q ∙ ap₂ (λ u E. comes 1 u E m) es eD) er
 
   -- the divisor is zero
-  pub divided_by_zero : (x : Rule) (t : Bool) → choice w ≡ pick t (division x) (rule x) → (t && eqb (rb_of w s) 0) ≡ true → r ≡ answer 3 s k → RuleMeets w s D k r D
+  pub divided_by_zero : (x : Rule) (t : Bool) → choice w ≡ pick t (division x) (rule x) → (t && eqb (rb_of w s) 0) ≡ true → r ≡ Err ZeroDivisor → RuleMeets w s D r D
   divided_by_zero x t q z er =
       meets
       (λ m es eD. ap (λ y. outcome_of m (step_by y w m)) q ∙ ap (outcome_of m) (dividing w s x t z m es) ∙ ap₂ (λ u E. comes 3 u E m) es eD)
@@ -74,8 +72,8 @@ module _ {w : ℕ} {s : State} {D : List ℕ} {k : ℕ} {r : Stepped} where
         → ((m : Machine) → on_state count (x w (on m)) ≡ on_state (λ u. F u (advanced_of u) m.D) (put_d (G m.state m.D) m))
         → t ≡ F s next D
         → D' ≡ G s D
-        → r ≡ answer 0 t k
-        → RuleMeets w s D k r D'
+        → r ≡ Ok t
+        → RuleMeets w s D r D'
     leaves F G p et eD' er =
         meets
         (λ m es eD.
@@ -91,24 +89,24 @@ module _ {w : ℕ} {s : State} {D : List ℕ} {k : ℕ} {r : Stepped} where
     wrote_by : (d : ℕ) (value : State → List ℕ → ℕ) {t : State}
         → ((m : Machine) → x w (on m) ≡ write d (value m.state m.D) (on m))
         → t ≡ put_r d (value s D) next
-        → r ≡ answer 0 t k
-        → RuleMeets w s D k r D
+        → r ≡ Ok t
+        → RuleMeets w s D r D
     wrote_by d value p et = leaves (λ u n E. put_r d (value u E) n) (λ u E. E) (λ m. ap (on_state count) (p m)) et refl
 
   module _ {next : State} (x : Rule) (q : choice w ≡ rule x) (advanced : next ≡ advanced_of s) where
     pub wrote : (d : ℕ) (value : State → List ℕ → ℕ) {t : State}
         → ((m : Machine) → x w (on m) ≡ write d (value m.state m.D) (on m))
         → t ≡ put_r d (value s D) next
-        → r ≡ answer 0 t k
-        → RuleMeets w s D k r D
+        → r ≡ Ok t
+        → RuleMeets w s D r D
     wrote = wrote_by x q (λ m es. refl) advanced
 
     -- the rule names PC
     pub jumped : (F : State → State → State) {t : State}
         → ((m : Machine) → on_state count (x w (on m)) ≡ on_state (λ u. F u (advanced_of u)) m)
         → t ≡ F s next
-        → r ≡ answer 0 t k
-        → RuleMeets w s D k r D
+        → r ≡ Ok t
+        → RuleMeets w s D r D
     jumped F p et = leaves x q (λ m es. refl) advanced (λ u n E. F u n) (λ u E. E) p et refl
 
   module _ {next : State} (touched : Touched) (x : Rule) (q : choice w ≡ access touched x) (free : TestsLock (step_by (choice w) w) s false) (advanced : next ≡ advanced_of s) where
@@ -116,16 +114,16 @@ module _ {w : ℕ} {s : State} {D : List ℕ} {k : ℕ} {r : Stepped} where
     pub loaded : (d : ℕ) (value : State → List ℕ → ℕ) {t : State}
         → ((m : Machine) → x w (on m) ≡ write d (value m.state m.D) (on m))
         → t ≡ put_r d (value s D) next
-        → r ≡ answer 0 t k
-        → RuleMeets w s D k r D
+        → r ≡ Ok t
+        → RuleMeets w s D r D
     loaded = wrote_by x q (accessing w s touched x q free) advanced
 
     -- a store writes the data
     pub stored : (put : State → List ℕ → List ℕ) {D' : List ℕ}
         → ((m : Machine) → x w (on m) ≡ put_d (put m.state m.D) (on m))
         → D' ≡ put s D
-        → r ≡ answer 0 next k
-        → RuleMeets w s D k r D'
+        → r ≡ Ok next
+        → RuleMeets w s D r D'
     stored put p eD' = leaves x q (accessing w s touched x q free) advanced (λ u n E. n) put (λ m. ap (on_state count) (p m)) refl eD'
 
   -- the same of a register, by a rule that may divide, where the divisor is not zero
@@ -133,8 +131,8 @@ module _ {w : ℕ} {s : State} {D : List ℕ} {k : ℕ} {r : Stepped} where
       → (d : ℕ) (value : State → List ℕ → ℕ) {u : State}
       → ((m : Machine) → x w (on m) ≡ write d (value m.state m.D) (on m))
       → u ≡ put_r d (value s D) next
-      → r ≡ answer 0 u k
-      → RuleMeets w s D k r D
+      → r ≡ Ok u
+      → RuleMeets w s D r D
   divided x t q z = wrote_by x q (dividing w s x t z)
 
 -- ---- The rules by e

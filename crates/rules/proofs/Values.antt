@@ -1,14 +1,13 @@
 -- What is written to a register, with an equation for each call of the code.
 -- Assumes nothing.
 use mathlib.Core.Path.{◌≡◌, ap, ◌∙◌}
-use Prim.Native.Nat.{ℕ, ◌%◌, ◌<◌}
+use Prim.Native.Nat.{ℕ, ◌%◌}
 use native.Mathlib.Omega.{arith}
 use Rattle.word.specs.Fields.{f_of, N6, N8}
 use Rattle.word.specs.Word.{add, SE}
 use Rattle.machine.specs.declared.State.{State}
 use Rattle.machine.specs.Machine.{put_r}
-use Rattle.machine.specs.Step.{d5_3}
-use Rattle.rules.specs.Parts.{ra_of, rb_of, sum_of}
+use Rattle.rules.specs.Parts.{ra_of, sum_of}
 
 -- ---- The fields as the code reads them
 
@@ -17,10 +16,6 @@ f_is w = omega arith
 
 pub N8-is : (w : ℕ) → w % 256 ≡ N8 w
 N8-is w = omega arith
-
--- a byte is its own low 8 bits
-pub N8-of-byte : (v : ℕ) → v < 256 → N8 v ≡ v
-N8-of-byte v l = omega arith
 
 -- ---- Ra+SE(N6), of Ra as it was read
 
@@ -31,12 +26,3 @@ sum_is w s e ex = e ∙ ap (λ y. add y (SE 6 (N6 w))) ex
 
 pub written : (d : ℕ) (next : State) {v u : ℕ} {t : State} → t ≡ put_r d v next → v ≡ u → t ≡ put_r d u next
 written d next et e = et ∙ ap (λ x. put_r d x next) e
-
--- by f, of Ra and Rb
-pub written_by_f : (g : ℕ → ℕ → ℕ → ℕ) (w : ℕ) (s next : State) {x y v : ℕ} {t : State}
-    → t ≡ put_r (d5_3 w) v next
-    → v ≡ g (w % 8) x y
-    → x ≡ ra_of w s
-    → y ≡ rb_of w s
-    → t ≡ put_r (d5_3 w) (g (f_of w) (ra_of w s) (rb_of w s)) next
-written_by_f g w s next et e ex ey = written (d5_3 w) next et (e ∙ (λ i. g (f_is w i) (ex i) (ey i)))

@@ -1,12 +1,12 @@
 -- What the private functions of a step promise. Nothing here is promised to a caller.
-use Rattle.std.specs.Prelude.{◌≡◌, Bool, ◌&&◌, List, [], ◌∷◌, ℕ, ◌+◌, ◌*◌, ◌/◌, ◌%◌, eqb, get_or}
+use Rattle.std.specs.Prelude.{◌≡◌, Bool, ◌&&◌, List, [], ◌∷◌, ℕ, ◌+◌, ◌*◌, ◌/◌, ◌%◌, eqb, get_or, Result}
 use Rattle.word.specs.Fields.{a_of, b_of, e_of, f_of, N6, N8}
 use Rattle.word.specs.Word.{pick, add, clear0, SE}
 use Rattle.machine.specs.declared.State.{State}
-use Rattle.machine.specs.declared.Stepped.{Stepped}
+use Rattle.machine.specs.declared.Stop.{Stop}
 use Rattle.machine.specs.Machine.{Machine, R, put_r, put_pc, count, on_state, put_d, word_at}
 use Rattle.machine.specs.Step.{d5_3, d8_6, among, interrupt_rules, choice, step_by}
-use Rattle.machine.specs.Held.{outcome_of}
+use Rattle.machine.specs.Held.{outcome_of, reason_of, state_left}
 
 -- ---- A step of w with the opcode op, from the state s
 
@@ -18,12 +18,11 @@ pub record Begun (op w : ℕ) (s next : State) : Type 0 where
   pub opcode : w / 4096 ≡ op
   pub advanced : next ≡ advanced_of s
 
--- What a step at no port answers, r, and leaves in data memory, D', in each machine with state s and data D; the log's entries
--- stay as many as they were.
-pub record RuleMeets (w : ℕ) (s : State) (D : List ℕ) (k : ℕ) (r : Stepped) (D' : List ℕ) : Type 0 where
-  pub entries : r.entries ≡ k
+-- What a step at no port answers, r, and leaves in data memory, D', in each machine with state s and data D.
+pub record RuleMeets (w : ℕ) (s : State) (D : List ℕ) (r : Result State Stop) (D' : List ℕ) : Type 0 where
   pub machine :
-      (m : Machine) → m.state ≡ s → m.D ≡ D → outcome_of m (step_by (choice w) w m) ≡ record { reason = r.stop; after = on_state (λ u. r.state) (put_d D' m) }
+      (m : Machine) → m.state ≡ s → m.D ≡ D
+      → outcome_of m (step_by (choice w) w m) ≡ record { reason = reason_of r; after = on_state (λ u. state_left s r) (put_d D' m) }
 
 -- w, of opcode 11, divides; and Rb is zero
 abbrev pub is_division : ℕ → Bool

@@ -4,138 +4,124 @@
 ghost use Rattle.std.specs.Prelude.{◌≡◌, true, false, List, ℕ, ◌/◌, ◌<◌, ◌≤◌, length};
 ghost use Rattle.machine.specs.Step.{rule, choice, step_by, output};
 ghost use Rattle.machine.specs.Run.{is_out};
-ghost use Rattle.machine.specs.Held.{held, Ready, StepMeets, TestsLock, StepsAs};
+ghost use Rattle.machine.specs.Held.{TestsLock};
+ghost use Rattle.bus.specs.Lent.{SameBus, SameLog, StepsAs};
 ghost use Rattle.rules.specs.Parts.{Begun, RuleMeets};
 
-use machine::{Port, State, Stepped};
+use bus::{Bus, Log};
+use machine::{Port, State, Stop};
 
 mod rule;
 
 // The step of a word with opcode 1: unassigned where f is 2, 6 or 7.
-fn comparison(w: u16, state: State, next: State, entries: usize) -> Stepped
+fn comparison(w: u16, state: State, next: State) -> Result<State, Stop>
     requires { Begun 1 w state next }
-    ensures { (D : List ℕ) → RuleMeets w state D entries result D }
+    ensures { (D : List ℕ) → RuleMeets w state D result D }
 {
     if word::is_below_6_but(2, w % 8) {
-        Stepped::done(rule::compared(w, state, next), entries)
+        Ok(rule::compared(w, state, next))
     } else {
-        Stepped::stopped(1, state, entries)
+        Err(Stop::Unassigned)
     }
 }
 
 // The step of a word with opcode 0 or 1. (They are tested apart from the others, so that only f is chosen by an indirect jump.)
-fn arithmetic(w: u16, state: State, next: State, entries: usize) -> Stepped
+fn arithmetic(w: u16, state: State, next: State) -> Result<State, Stop>
     requires begun { Begun (w / 4096) w state next }
     requires w_bound { w / 4096 < 2 }
-    ensures { (D : List ℕ) → RuleMeets w state D entries result D }
+    ensures { (D : List ℕ) → RuleMeets w state D result D }
 {
     if w / 4096 == 0 {
-        Stepped::done(rule::operated(w, state, next), entries)
+        Ok(rule::operated(w, state, next))
     } else {
-        comparison(w, state, next, entries)
+        comparison(w, state, next)
     }
 }
 
 // The step of a word with opcode 11: unassigned where f is 3, 6 or 7.
-fn product(w: u16, state: State, next: State, entries: usize) -> Stepped
+fn product(w: u16, state: State, next: State) -> Result<State, Stop>
     requires { Begun 11 w state next }
-    ensures { (D : List ℕ) → RuleMeets w state D entries result D }
+    ensures { (D : List ℕ) → RuleMeets w state D result D }
 {
     if word::is_below_6_but(3, w % 8) {
         if rule::divides_by_zero(w, state) {
-            Stepped::stopped(3, state, entries)
+            Err(Stop::ZeroDivisor)
         } else {
-            Stepped::done(rule::multiplied(w, state, next), entries)
+            Ok(rule::multiplied(w, state, next))
         }
     } else {
-        Stepped::stopped(1, state, entries)
+        Err(Stop::Unassigned)
     }
 }
 
 // The step of a word with opcode 12: unassigned where f is over 3.
-fn interrupt(w: u16, state: State, next: State, entries: usize) -> Stepped
+fn interrupt(w: u16, state: State, next: State) -> Result<State, Stop>
     requires { Begun 12 w state next }
-    ensures { (D : List ℕ) → RuleMeets w state D entries result D }
+    ensures { (D : List ℕ) → RuleMeets w state D result D }
 {
     if w % 8 < 4 {
-        Stepped::done(rule::interrupted(w, next), entries)
+        Ok(rule::interrupted(w, next))
     } else {
-        Stepped::stopped(1, state, entries)
+        Err(Stop::Unassigned)
     }
 }
 
 // The step of a word with an opcode other than 0, 1 and 10. (The opcode is handed on, so that the tests of it are compiled to one switch.)
-fn by_rule(op: u16, w: u16, state: State, next: State, memory: &mut [u8], entries: usize) -> Stepped
+fn by_rule(op: u16, w: u16, state: State, next: State, memory: &mut [u8]) -> Result<State, Stop>
     requires begun { Begun op w state next }
     requires le_op { (2 ≤ op) × (op ≡ 10 → ⊥) }
     requires memory_len { length memory.old ≡ 65536 }
     requires tests_lock { TestsLock (step_by (choice w) w) state false }
-    ensures { RuleMeets w state memory.old entries result memory.new }
+    ensures { RuleMeets w state memory.old result memory.new }
 {
     match op {
-        2 => Stepped::done(rule::summed(w, state, next), entries),
-        3 => Stepped::done(rule::load_word(w, state, next, memory), entries),
+        2 => Ok(rule::summed(w, state, next)),
+        3 => Ok(rule::load_word(w, state, next, memory)),
         4 => {
             rule::store_word(w, state, memory);
-            Stepped::done(next, entries)
+            Ok(next)
         }
-        5 => Stepped::done(rule::load_byte(w, state, next, memory), entries),
+        5 => Ok(rule::load_byte(w, state, next, memory)),
         6 => {
             rule::store_byte(w, state, memory);
-            Stepped::done(next, entries)
+            Ok(next)
         }
-        7 => Stepped::done(rule::link(w, state, next), entries),
-        8 => Stepped::done(rule::branch(w, state, next), entries),
-        9 => Stepped::done(rule::moved(w, state, next), entries),
-        11 => product(w, state, next, entries),
-        12 => interrupt(w, state, next, entries),
-        _ => Stepped::stopped(1, state, entries),
+        7 => Ok(rule::link(w, state, next)),
+        8 => Ok(rule::branch(w, state, next)),
+        9 => Ok(rule::moved(w, state, next)),
+        11 => product(w, state, next),
+        12 => interrupt(w, state, next),
+        _ => Err(Stop::Unassigned),
     }
 }
 
 // OUT.
-fn output(
-    w: u16,
-    state: State,
-    next: State,
-    outputs: &mut [u16],
-    log: &mut [u64],
-    entries: usize,
-) -> Stepped
+fn output(w: u16, state: State, next: State, bus: &mut Bus, log: &mut Log) -> Result<State, Stop>
     requires begun { Begun 10 w state next }
-    requires outputs_len { length outputs.old ≡ 256 }
-    requires entries_in_bounds { entries ≤ length log.old }
-    ensures { (D I : List ℕ) → StepMeets (step_by (rule output) w) true (held state D I outputs.old log.old entries) result.stop (held result.state D I outputs.new log.new result.entries) }
+    ensures steps { StepsAs (step_by (rule output) w) true state bus.old log.old bus.new log.new result }
+    ensures same { SameBus bus.old bus.new × SameLog log.old log.new }
 {
-    if log.len() <= entries {
-        Stepped::stopped(2, state, entries)
+    if log.is_full() {
+        Err(Stop::FullLog)
     } else {
         let port = Port((w % 256) as u8);
         let x = state.ra(w);
-        bus::write_port(outputs, port, x);
-        log[entries] = bus::entry_of(state.n, port, x);
-        Stepped::done(next, entries + 1)
+        bus::write_port(bus.outputs, port, x);
+        log.push(bus::entry_of(state.n, port, x));
+        Ok(next)
     }
 }
 
 // IN and OUT.
-fn at_port(
-    w: u16,
-    state: State,
-    next: State,
-    inputs: &mut [u16],
-    outputs: &mut [u16],
-    log: &mut [u64],
-    entries: usize,
-) -> Stepped
-    requires begun { Begun 10 w state next }
-    requires inputs_len { (length inputs.old ≡ 256) × (length outputs.old ≡ 256) × (entries ≤ length log.old) }
-    ensures { (D : List ℕ) → StepMeets (step_by (choice w) w) (is_out w) (held state D inputs.old outputs.old log.old entries) result.stop (held result.state D inputs.new outputs.new log.new result.entries) }
+fn at_port(w: u16, state: State, next: State, bus: &mut Bus, log: &mut Log) -> Result<State, Stop>
+    requires { Begun 10 w state next }
+    ensures steps { StepsAs (step_by (choice w) w) (is_out w) state bus.old log.old bus.new log.new result }
+    ensures same { SameBus bus.old bus.new × SameLog log.old log.new }
 {
     if w / 256 % 2 == 0 {
-        Stepped::done(rule::input(w, next, inputs), entries)
+        Ok(rule::input(w, next, bus.inputs))
     } else {
-        output(w, state, next, outputs, log, entries)
+        output(w, state, next, bus, log)
     }
 }
 
@@ -152,28 +138,21 @@ pub fn touches_locked(w: u16, state: State) -> bool
 }
 
 // The step of w, which touches no locked byte. (With an early `return` the compiled step is four times slower.)
-pub fn step(
-    w: u16,
-    state: State,
-    memory: &mut [u8],
-    inputs: &mut [u16],
-    outputs: &mut [u16],
-    log: &mut [u64],
-    entries: usize,
-) -> Stepped
-    requires ready { Ready (held state memory.old inputs.old outputs.old log.old entries) }
+pub fn step(w: u16, state: State, bus: &mut Bus, log: &mut Log) -> Result<State, Stop>
+    requires counts { state.n < 4294967295 }
     requires tests_lock { TestsLock (step_by (choice w) w) state false }
-    ensures { StepsAs (step_by (choice w) w) (is_out w) state memory inputs outputs log entries result }
+    ensures steps { StepsAs (step_by (choice w) w) (is_out w) state bus.old log.old bus.new log.new result }
+    ensures same { SameBus bus.old bus.new × SameLog log.old log.new }
 {
     let op = w / 4096;
     let next = state.advanced();
     if op < 2 {
-        arithmetic(w, state, next, entries)
+        arithmetic(w, state, next)
     } else {
         if op == 10 {
-            at_port(w, state, next, inputs, outputs, log, entries)
+            at_port(w, state, next, bus, log)
         } else {
-            by_rule(op, w, state, next, memory, entries)
+            by_rule(op, w, state, next, bus.memory)
         }
     }
 }

@@ -7,39 +7,15 @@ use Prim.Native.Nat.{ℕ, ◌+◌, ◌-◌, min, ◌≤◌}
 use native.Mathlib.Omega.{arith}
 use lib.ListN.{length}
 use Rattle.machine.specs.declared.State.{State}
-use Rattle.machine.specs.Machine.{even_places, put_journaled}
+use Rattle.machine.specs.Machine.{even_places}
 use Rattle.machine.specs.Run.{Stepper}
-use Rattle.run.specs.Runs.{Journal, no_journal, lent_journal, Given, given, journal_if, start_in, allowed_in, allowed, counted_in, accepted_counted}
+use Rattle.run.specs.Runs.{Journal, no_journal, lent_journal, Given, given, journal_if, start_in, allowed_in, allowed, accepted_counted}
 
-module _ (keeps : Bool) (xs : List ℕ) where
-  -- the count that a run starts from, and the steps that it may take, fit 64 bits together
-  pub count_fits : (s : State) (budget : ℕ) → s.journaled ≤ 18446744073709551615 → length xs ≤ 18446744073709551615 → budget ≤ 18446744073709551615
-      → (start_in (journal_if keeps xs) s).journaled + allowed_in (journal_if keeps xs) s.journaled budget ≤ 18446744073709551615
-  count_fits s budget h l b = by_keeps keeps
-    where
-      by_keeps : (t : Bool) → (start_in (journal_if t xs) s).journaled + allowed_in (journal_if t xs) s.journaled budget ≤ 18446744073709551615
-      by_keeps true = omega arith
-      by_keeps false = omega arith
-
-  module _ (e : keeps ≡ false) where
-    pub allowed_without : (count budget : ℕ) → budget ≡ allowed_in (journal_if keeps xs) count budget
-    allowed_without count budget = rw e
-
-    pub starts_without : (s : State) {r : State} → r ≡ put_journaled 0 s → r ≡ start_in (journal_if keeps xs) s
-    starts_without s h = rw e h
-
-    pub ends_without : (steps : ℕ) (s : State) → s ≡ counted_in (journal_if keeps xs) steps s
-    ends_without steps s = rw e
-
-  module _ (e : keeps ≡ true) where
-    pub allowed_with : (count budget : ℕ) {r : ℕ} → r ≡ min budget (length xs - count) → r ≡ allowed_in (journal_if keeps xs) count budget
-    allowed_with count budget h = rw e h
-
-    pub starts_with : (s : State) → s ≡ start_in (journal_if keeps xs) s
-    starts_with s = rw e
-
-    pub ends_with : (steps : ℕ) (s : State) {r : State} → r ≡ put_journaled (s.journaled + steps) s → r ≡ counted_in (journal_if keeps xs) steps s
-    ends_with steps s h = rw e h
+-- the count that a run starts from, and the steps that it may take, fit 64 bits together
+pub count_fits : (keeps : Bool) (xs : List ℕ) (s : State) (budget : ℕ) → s.journaled ≤ 18446744073709551615 → length xs ≤ 18446744073709551615
+    → budget ≤ 18446744073709551615 → (start_in (journal_if keeps xs) s).journaled + allowed_in (journal_if keeps xs) s.journaled budget ≤ 18446744073709551615
+count_fits true xs s budget h l b = omega arith
+count_fits false xs s budget h l b = omega arith
 
 -- ---- An accepted run is the one from the state that it starts from, with the steps that it may take
 

@@ -1,4 +1,3 @@
 pub mod Uncounted
-mod Refusals
 pub mod Journals
 pub mod Ticks

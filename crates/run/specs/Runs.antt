@@ -1,5 +1,7 @@
 -- What a run replies and leaves, of what it is given (01, "Runs", "Refusal table"), by the rules or by a control table.
-use Rattle.std.specs.Prelude.{◌≡◌, Bool, true, false, List, [], ◌++◌, map, ℕ, ◌+◌, ◌-◌, min, leb, length, take, drop}
+use Rattle.std.specs.Prelude.{◌≡◌, Bool, true, false, List, [], ◌++◌, map, ℕ, ◌+◌, ◌-◌, min, leb, length, take, drop, Result}
+use Rattle.std.specs.declared.result.Result.TheVariants.{Ok, Err}
+use Rattle.refusal.specs.declared.Refusal.{Refusal}
 use Rattle.refusal.specs.Refusals.{refusal_number, Verdict, accepted, refused}
 use Rattle.word.specs.Word.{pick}
 use Rattle.machine.specs.declared.State.{State}
@@ -10,12 +12,9 @@ use Rattle.machine.specs.Run.{Stepper, Outcome, run, trace}
 use Rattle.journal.specs.Journal.{entry_of}
 use Rattle.usage.specs.declared.Usage.{Usage}
 use Rattle.usage.specs.Usage.{unused, usage_of, ticks_of}
-use Rattle.run.specs.declared.Answer.{Answer}
-use Rattle.run.specs.declared.Answer.TheVariants.{Stopped, Refused}
+use Rattle.run.specs.declared.Report.{Report}
 use Rattle.run.specs.declared.Ran.{Ran}
 use Rattle.run.specs.declared.Counted.{Counted}
-use Rattle.run.specs.declared.Check.{Check}
-use Rattle.run.specs.declared.Check.TheVariants.{Accepted, Refused as CheckRefused}
 
 -- A run may keep a journal (02, L7): none is lent, or one of any length.
 pub data Journal : Type 0 where
@@ -42,9 +41,9 @@ pub data RunReply : Type 0 where
   stopped : ℕ → ℕ → ℕ → RunReply
   run_refused : ℕ → RunReply
 
-abbrev pub shown_answer : Answer → RunReply
-shown_answer (Stopped r) = stopped r.stop r.steps r.entries
-shown_answer (Refused r) = run_refused (refusal_number r)
+abbrev pub shown_answer : Result Report Refusal → RunReply
+shown_answer (Ok r) = stopped r.stop r.steps r.entries
+shown_answer (Err r) = run_refused (refusal_number r)
 
 -- It replies with the state, stop reason, steps and entries, and leaves the memories, ports, log and journal.
 pub record Left : Type 0 where
@@ -72,10 +71,6 @@ verdict s P D I O budget =
 
 abbrev pub verdict_on : Given → Verdict
 verdict_on g = verdict g.state g.P g.D g.I g.O g.budget
-
-abbrev pub shown_verdict : Check → Verdict
-shown_verdict Accepted = accepted
-shown_verdict (CheckRefused r) = refused (refusal_number r)
 
 -- ---- The journal, whose next entry goes to the place that the state counts
 
@@ -183,7 +178,7 @@ abbrev pub lent_to : State → Slice → MutSlice → MutSlice → MutSlice → 
 lent_to state program memory inputs outputs budget log journal =
     given state (read_before program) (before memory) (before inputs) (before outputs) budget (before log) journal
 
-abbrev pub left_with : Slice → MutSlice → MutSlice → MutSlice → MutSlice → Journal → Answer → State → Left
+abbrev pub left_with : Slice → MutSlice → MutSlice → MutSlice → MutSlice → Journal → Result Report Refusal → State → Left
 left_with program memory inputs outputs log journal answer state =
     left (shown_answer answer) state (read_after program) (after memory) (after inputs) (after outputs) (after log) journal
 

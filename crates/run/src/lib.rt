@@ -2,8 +2,9 @@
 #![tactic(auto)]
 
 ghost use Rattle.std.specs.Prelude.{◌≡◌, ◌+◌, ◌≤◌};
+ghost use Rattle.refusal.specs.Refusals.{shown_check};
 ghost use Rattle.usage.specs.Counting.{Few};
-ghost use Rattle.run.specs.Runs.{shown_verdict, verdict, journal_if, allowed_in};
+ghost use Rattle.run.specs.Runs.{verdict, journal_if, allowed_in};
 ghost use Rattle.run.specs.Parts.{StartsFrom, EndsWith, timed};
 
 use machine::State;
@@ -18,25 +19,18 @@ pub struct Report {
     pub entries: usize,
 }
 
-#[derive(Clone, Copy)]
-pub enum Answer {
-    Stopped(Report),
-    Refused(Refusal),
-}
-
-// What a run replies: the register state, and the report or the refusal. An enum cannot hold the state's array in covered
-// form, so the state stands beside the answer.
+// What a run replies: the register state, which a refused run hands back, and the report or the refusal.
 #[derive(Clone, Copy)]
 pub struct Ran {
     pub state: State,
-    pub answer: Answer,
+    pub answer: Result<Report, Refusal>,
 }
 
 // What a run that counts replies: also its counts and its ticks, which are zero where it is refused.
 #[derive(Clone, Copy)]
 pub struct Counted {
     pub state: State,
-    pub answer: Answer,
+    pub answer: Result<Report, Refusal>,
     pub usage: Usage,
     pub ticks: u64,
 }
@@ -45,18 +39,12 @@ pub struct Counted {
 #[derive(Clone, Copy)]
 pub struct Tallied {
     pub state: State,
-    pub answer: Answer,
+    pub answer: Result<Report, Refusal>,
     pub usage: Usage,
 }
 
-// Whether a run is refused.
-#[derive(Clone, Copy)]
-pub enum Check {
-    Accepted,
-    Refused(Refusal),
-}
-
 // The refusals of a run, in their order.
+#[tactic(auto, unfolding(crate::specs::Runs::verdict))]
 pub fn checked(
     state: State,
     program: &[u8],
@@ -64,19 +52,19 @@ pub fn checked(
     inputs: &[u16],
     outputs: &[u16],
     budget: u32,
-) -> Check
-    ensures { shown_verdict result ≡ verdict state program.now memory.now inputs.now outputs.now budget }
+) -> Result<(), Refusal>
+    ensures { shown_check result ≡ verdict state program.now memory.now inputs.now outputs.now budget }
 {
     if !bus::lengths_fit(program, memory, inputs, outputs) {
-        return Check::Refused(Refusal::LentLength);
+        return Err(Refusal::LentLength);
     }
     if !state.is_even() {
-        return Check::Refused(Refusal::OddPc);
+        return Err(Refusal::OddPc);
     }
-    if 4294967295 - state.n < budget {
-        return Check::Refused(Refusal::StepCount);
+    if u32::MAX - state.n < budget {
+        return Err(Refusal::StepCount);
     }
-    Check::Accepted
+    Ok(())
 }
 
 // The state that an accepted run starts from.
@@ -97,14 +85,8 @@ pub fn allowed(budget: u32, count: u64, keeps: bool, journal: &[u64]) -> u32
     if !keeps {
         return budget;
     }
-    let places = journal.len() as u64;
-    if places <= count {
-        return 0;
-    }
-    if places - count < budget as u64 {
-        return (places - count) as u32;
-    }
-    budget
+    let left = (journal.len() as u64).saturating_sub(count);
+    left.min(budget as u64) as u32
 }
 
 // The state that it ends with, after so many steps.
@@ -124,17 +106,14 @@ pub fn with_ticks(ran: Tallied) -> Counted
     requires { Few ran.usage.kinds }
     ensures { result ≡ timed ran }
 {
-    let state = ran.state;
-    let answer = ran.answer;
-    let usage = ran.usage;
-    let ticks = match answer {
-        Answer::Stopped(report) => usage::ticks(report.steps, &usage.kinds),
-        Answer::Refused(refusal) => 0,
+    let ticks = match ran.answer {
+        Ok(report) => ran.usage.ticks(report.steps),
+        Err(_) => 0,
     };
     Counted {
-        state,
-        answer,
-        usage,
+        state: ran.state,
+        answer: ran.answer,
+        usage: ran.usage,
         ticks,
     }
 }

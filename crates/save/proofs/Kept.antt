@@ -105,9 +105,6 @@ pub record Narrowed (f : ℕ → ℕ) (n m : ℕ) : Type 0 where
   pub within : m ≤ n
   pub same : kept f m ≡ kept f n
 
-pub narrow_start : {f : ℕ → ℕ} {n : ℕ} → Narrowed f n n
-narrow_start = record { within = omega arith; same = refl }
-
 module _ {f : ℕ → ℕ} {n m : ℕ} (t : Narrowed f n m) where
   narrow : {k : ℕ} → k ≤ m → kept f k ≡ kept f m → Narrowed f n k
   narrow h e = record { within = omega (arith, t); same = e ∙ t.same }
@@ -118,15 +115,29 @@ module _ {f : ℕ → ℕ} {n m : ℕ} (t : Narrowed f n m) where
   pub narrow_one : 0 < m → f (m - 1) ≡ 0 → Narrowed f n (m - 1)
   narrow_one h e = narrow (omega arith) (sym (dropped f (m - 1) e) ∙ rw (at_end h))
 
-  pub narrow_found : 0 < m → (f (m - 1) ≡ 0 → ⊥) → m ≡ kept f n
-  narrow_found h z = sym (rw (at_end h) at (stays f (m - 1) z)) ∙ t.same
+  pub narrow_found : 0 < m → (f (m - 1) ≡ 0 → ⊥) → m - 1 + 1 ≡ kept f n
+  narrow_found h z = rw (add-one (m - 1)) (sym (stays f (m - 1) z) ∙ rw (at_end h) t.same)
 
-  pub narrow_none : m ≤ 0 → m ≡ kept f n
+  pub narrow_none : m ≤ 0 → 0 ≡ kept f n
   unfolding kept
-  narrow_none h = let e : m ≡ 0 = omega arith in e ∙ (rw e at t.same)
+  narrow_none h = let e : m ≡ 0 = omega arith in rw e at t.same
 
-pub narrow_fits : {f : ℕ → ℕ} {n m r : ℕ} → Narrowed f n m → r ≡ kept f m → (r ≡ kept f n) × (r ≤ n)
-narrow_fits {f} {n} {m} t e = (e ∙ t.same, omega (arith, e, t, (cut f m).within))
+-- what the first m bytes of a list have kept
+kept_of_front : (l : List ℕ) (m : ℕ) → m ≤ length l → bytes_kept (take m l) ≡ kept (λ k. get_or l k 0) m
+kept_of_front l m h =
+    let size : length (take m l) ≡ m = simp length-take (omega arith) in
+    let c = rw size at (cut (λ k. get_or (take m l) k 0) (length (take m l))) in
+    rw size (only _ (record {
+      within = c.within;
+      zeros = λ k p u. rw get_or-take at (c.zeros k p u);
+      last = λ k e z. let u : k < m = omega (arith, c.within) in c.last k e (rw get_or-take z);
+    }))
+
+pub narrow_ends : (l : List ℕ) {m r : ℕ} → Narrowed (λ k. get_or l k 0) (length l) m → r ≡ bytes_kept (take m l) → (r ≡ bytes_kept l) × (r ≤ length l)
+narrow_ends l {m} t e =
+    let f = λ (k : ℕ). get_or l k 0 in
+    let is = e ∙ kept_of_front l m t.within ∙ t.same in
+    (is, omega (arith, is, (cut f (length l)).within))
 
 -- a part of a list that ends at m, none of which is kept
 module _ (l : List ℕ) {m a : ℕ} (t : Narrowed (λ k. get_or l k 0) (length l) m) (h : a ≤ m)

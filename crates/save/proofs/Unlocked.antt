@@ -8,7 +8,7 @@ use native.Mathlib.Nat.{add-zero, zero-add, suc-add, add-suc}
 use native.Mathlib.Numerals.{add-one}
 use native.Mathlib.Omega.{arith}
 use lib.ListN.{length, get_or, set}
-use lib.Seq.{paste, paste-zero, paste-suc, length-paste}
+use lib.Seq.{paste, paste-suc}
 use Rattle.word.specs.Word.{pick}
 use Rattle.word.proofs.Tests.{either}
 use Rattle.machine.specs.declared.State.{State}
@@ -51,13 +51,7 @@ pub record Copied (target : List ℕ) (at : ℕ) (s : State) (D : List ℕ) (cou
   pub within : i ≤ count
   pub is : new ≡ paste target at (unlocked s D) i
 
-pub copy_start : {target : List ℕ} {at : ℕ} {s : State} {D : List ℕ} {count : ℕ} → Copied target at s D count target 0
-copy_start {target} {at} {s} {D} = record { within = omega arith; is = paste-zero target at (unlocked s D) }
-
 module _ {target : List ℕ} {at : ℕ} {s : State} {D : List ℕ} {count : ℕ} {new : List ℕ} {i : ℕ} (c : Copied target at s D count new i) (d : count ≤ length D) (t : at + count ≤ length target) where
-  pub copy_length : length new ≡ length target
-  copy_length = ap length c.is ∙ length-paste target at (unlocked s D) i (omega (arith, c.within)) (omega (arith, c.within, unlocked_length s D))
-
   pub copy_turn : {v : ℕ} → i < count → v ≡ pick (is_locked i s) 0 (get_or D i 0) → Copied target at s D count (set new (at + i) v) (i + 1)
   copy_turn {v} h e =
       let value : v ≡ get_or (unlocked s D) i 0 = e ∙ sym (unlocked_at s D i) in
@@ -65,6 +59,3 @@ module _ {target : List ℕ} {at : ℕ} {s : State} {D : List ℕ} {count : ℕ}
         within = omega arith;
         is = (λ j. set (c.is j) (at + i) (value j)) ∙ paste-suc target at (unlocked s D) i 0 (omega arith) (omega (arith, unlocked_length s D)) ∙ ap (paste target at (unlocked s D)) (sym (add-one i));
       }
-
-  pub copy_whole : count ≤ i → new ≡ paste target at (unlocked s D) count
-  copy_whole h = let e : i ≡ count = omega (arith, c.within) in c.is ∙ ap (paste target at (unlocked s D)) e

@@ -1,13 +1,13 @@
 -- Saving a trim file from the panel (02, L1), of the board that the state names (02, L11).
-use Rattle.std.specs.Prelude.{ℕ, zero, suc, ◌+◌, ◌*◌, ◌/◌, ◌%◌, Bool, ◌&&◌, List, [], ◌∷◌, ◌++◌, ◌≡◌, eqb, leb, length, get_or, take, drop}
+use Rattle.std.specs.Prelude.{ℕ, zero, suc, ◌+◌, ◌*◌, ◌/◌, ◌%◌, Bool, ◌&&◌, List, [], ◌∷◌, ◌++◌, ◌≡◌, eqb, leb, length, get_or, take, drop, Result}
+use Rattle.std.specs.declared.result.Result.TheVariants.{Ok, Err}
+use Rattle.refusal.specs.declared.Refusal.{Refusal}
 use Rattle.refusal.specs.Refusals.{refusal_number}
 use Rattle.word.specs.Word.{pick}
 use Rattle.machine.specs.declared.State.{State}
 use Rattle.machine.specs.Machine.{is_single, is_locked, word_at}
 use Rattle.machine.specs.Slices.{MutSlice, Slice, before, after, read_before, read_after}
 use Rattle.save.specs.declared.Saved.{Saved}
-use Rattle.save.specs.declared.Saving.{Saving}
-use Rattle.save.specs.declared.Saving.TheVariants.{Written, Refused}
 
 -- ---- The file
 
@@ -59,9 +59,9 @@ pub data SaveReply : Type 0 where
   saved : ℕ → SaveReply
   save_refused : ℕ → SaveReply
 
-abbrev pub shown_saving : Saving → SaveReply
-shown_saving (Written n) = saved n
-shown_saving (Refused r) = save_refused (refusal_number r)
+abbrev pub shown_saving : Result ℕ Refusal → SaveReply
+shown_saving (Ok n) = saved n
+shown_saving (Err r) = save_refused (refusal_number r)
 
 pub record SaveGiven : Type 0 where
   pub state : State

@@ -1,13 +1,11 @@
 -- A usage sheet for a show (02, L5): feeding it what a run returned.
 use Rattle.std.specs.Prelude.{ℕ, ◌+◌, ◌%◌, ◌^◌, Bool, true, false, List, [], ◌∷◌, replicate, nat_lt}
-use Rattle.refusal.specs.Refusals.{refusal_number, Verdict, accepted, refused}
+use Rattle.refusal.specs.Refusals.{Verdict, accepted, refused}
 use Rattle.word.specs.Word.{pick}
 use Rattle.kinds.specs.Kinds.{kind_count}
 use Rattle.usage.specs.declared.Usage.{Usage}
 use Rattle.run.specs.Runs.{RunReply, stopped, run_refused}
 use Rattle.sheet.specs.declared.Sheet.{Sheet}
-use Rattle.sheet.specs.declared.Feeding.{Feeding}
-use Rattle.sheet.specs.declared.Feeding.TheVariants.{Taken, Refused}
 
 abbrev pub empty : Sheet
 empty = record { kinds = replicate kind_count 0; taken = 0; reads = replicate 8 0; writes = replicate 8 0; runs = 0 }
@@ -22,10 +20,6 @@ sums (x ∷ xs) (y ∷ ys) = (x + y) % 2 ^ 64 ∷ sums xs ys
 abbrev pub with_run : Sheet → Usage → Sheet
 with_run s u =
     record { kinds = sums s.kinds u.kinds; taken = (s.taken + u.taken) % 2 ^ 64; reads = sums s.reads u.reads; writes = sums s.writes u.writes; runs = s.runs + 1 }
-
-abbrev pub shown_feeding : Feeding → Verdict
-shown_feeding Taken = accepted
-shown_feeding (Refused r) = refused (refusal_number r)
 
 -- what a feeding replies, and the sheet
 pub record FeedLeft : Type 0 where

@@ -2,12 +2,12 @@
 #![tactic(auto)]
 
 ghost use Rattle.std.specs.Prelude.{◌≡◌, ◌<◌, length};
+ghost use Rattle.refusal.specs.Refusals.{shown_check};
 ghost use Rattle.run.specs.Runs.{shown_answer};
-ghost use Rattle.sheet.specs.Sheet.{empty, sums, with_run, shown_feeding, FeedLeft, feed_by, feed_left};
+ghost use Rattle.sheet.specs.Sheet.{empty, sums, with_run, FeedLeft, feed_by, feed_left};
 
 use refusal::Refusal;
-use run::Answer;
-use std::num::wrapping_add_u64;
+use run::Report;
 use usage::Usage;
 
 #[repr(C)]
@@ -20,17 +20,11 @@ pub struct Sheet {
     pub runs: u16,
 }
 
-#[derive(Clone, Copy)]
-pub enum Feeding {
-    Taken,
-    Refused(Refusal),
-}
-
-// What feeding replies. An enum cannot hold the sheet's arrays in covered form, so the sheet stands beside the reply.
+// What feeding replies: the sheet, which comes back as it was where it is refused, and the reply.
 #[derive(Clone, Copy)]
 pub struct Fed {
     pub sheet: Sheet,
-    pub reply: Feeding,
+    pub reply: Result<(), Refusal>,
 }
 
 impl Sheet {
@@ -52,10 +46,8 @@ fn add_counts(counts: &mut [u64], more: &[u64])
     requires { length more.now ≡ length counts.old }
     ensures { counts.new ≡ sums counts.old more.now }
 {
-    let mut i = 0;
-    while i < counts.len() {
-        counts[i] = wrapping_add_u64(counts[i], more[i]);
-        i += 1;
+    for i in 0..counts.len() {
+        counts[i] = counts[i].wrapping_add(more[i]);
     }
 }
 
@@ -64,52 +56,41 @@ fn with_run(sheet: Sheet, usage: Usage) -> Sheet
     requires { sheet.runs < 65535 }
     ensures { result ≡ with_run sheet usage }
 {
-    let mut kinds = sheet.kinds;
-    let mut reads = sheet.reads;
-    let mut writes = sheet.writes;
-    let more_kinds = usage.kinds;
-    let more_reads = usage.reads;
-    let more_writes = usage.writes;
-    add_counts(&mut kinds, &more_kinds);
-    add_counts(&mut reads, &more_reads);
-    add_counts(&mut writes, &more_writes);
-    Sheet {
-        kinds: kinds,
-        taken: wrapping_add_u64(sheet.taken, usage.taken),
-        reads: reads,
-        writes: writes,
-        runs: sheet.runs + 1,
-    }
+    let mut sum = sheet;
+    add_counts(&mut sum.kinds, &usage.kinds);
+    add_counts(&mut sum.reads, &usage.reads);
+    add_counts(&mut sum.writes, &usage.writes);
+    sum.taken = sum.taken.wrapping_add(usage.taken);
+    sum.runs += 1;
+    sum
 }
 
 // Feeds the sheet the counts of a run that was accepted or not.
 pub fn feed_by(sheet: Sheet, accepted: bool, usage: Usage) -> Fed
-    ensures { ◌≡◌ {A = FeedLeft} (record { reply = shown_feeding result.reply; sheet = result.sheet }) (feed_by accepted sheet usage) }
+    ensures { ◌≡◌ {A = FeedLeft} (record { reply = shown_check result.reply; sheet = result.sheet }) (feed_by accepted sheet usage) }
 {
-    if accepted {
-        if sheet.runs == 65535 {
-            return Fed {
-                sheet: sheet,
-                reply: Feeding::Refused(Refusal::FullSheet),
-            };
-        }
+    if !accepted {
         return Fed {
-            sheet: with_run(sheet, usage),
-            reply: Feeding::Taken,
+            sheet,
+            reply: Ok(()),
+        };
+    }
+    if sheet.runs == u16::MAX {
+        return Fed {
+            sheet,
+            reply: Err(Refusal::FullSheet),
         };
     }
     Fed {
-        sheet: sheet,
-        reply: Feeding::Taken,
+        sheet: with_run(sheet, usage),
+        reply: Ok(()),
     }
 }
 
 // Feeds the sheet what a run returned.
-pub fn feed(sheet: Sheet, answer: Answer, usage: Usage) -> Fed
-    ensures { ◌≡◌ {A = FeedLeft} (record { reply = shown_feeding result.reply; sheet = result.sheet }) (feed_left sheet (shown_answer answer) usage) }
+#[tactic(auto, unfolding(crate::specs::Sheet::feed_left))]
+pub fn feed(sheet: Sheet, answer: Result<Report, Refusal>, usage: Usage) -> Fed
+    ensures { ◌≡◌ {A = FeedLeft} (record { reply = shown_check result.reply; sheet = result.sheet }) (feed_left sheet (shown_answer answer) usage) }
 {
-    match answer {
-        Answer::Stopped(report) => feed_by(sheet, true, usage),
-        Answer::Refused(refusal) => feed_by(sheet, false, usage),
-    }
+    feed_by(sheet, answer.is_ok(), usage)
 }

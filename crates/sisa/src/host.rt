@@ -3,7 +3,7 @@
 ghost use Rattle.replies.specs.Sisa.{HostSteps};
 
 use machine::State;
-use replies::SisaAnswer;
+use replies::{SisaAnswer, SisaRun};
 
 pub fn sisa_host_step(
     state: &mut State,
@@ -16,7 +16,7 @@ pub fn sisa_host_step(
     ensures { HostSteps state program memory inputs outputs log result }
 {
     let counted = engine::run_by_table(*state, program, memory, inputs, outputs, 1, log);
-    let ran = replies::run(counted);
+    let ran = SisaRun::from(counted);
     *state = ran.state;
     SisaAnswer {
         refusal: ran.refusal,

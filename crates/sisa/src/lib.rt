@@ -9,7 +9,7 @@ ghost use Rattle.isa.specs.Masks.{decoding_of};
 ghost use Rattle.replies.specs.Sisa.{SisaLoads, SisaSaves, SisaAssembles, SisaSets, SisaRuns, SisaRunsJournaled, SisaPages, SisaGoesBack, sisa_instruction, sisa_write, sisa_feed, sisa_raise, SisaShows};
 
 use image::Range;
-use machine::{Port, State};
+use machine::{Board, Port, State};
 use page::Trims;
 use replies::{
     SisaAssembly, SisaBack, SisaFed, SisaInstruction, SisaLoad, SisaPage, SisaRaised, SisaRun,
@@ -35,7 +35,7 @@ pub fn sisa_load(
 {
     let loaded = image::load(
         file,
-        machine::board_of(board),
+        Board::from(board),
         Range {
             locked,
             first,
@@ -46,28 +46,28 @@ pub fn sisa_load(
         inputs,
         outputs,
     );
-    replies::load(loaded)
+    SisaLoad::from(loaded)
 }
 
 pub fn sisa_save(state: State, program: &[u8], memory: &[u8], destination: &mut [u8]) -> SisaSaved
     ensures { SisaSaves state program memory destination result }
 {
     let saved = save::save(state, program, memory, destination);
-    replies::save(saved)
+    SisaSaved::from(saved)
 }
 
 pub fn sisa_assemble(text: &[u8], program: &mut [u8]) -> SisaAssembly
     ensures { SisaAssembles text program result }
 {
     let assembly = assembler::assemble(text, program);
-    replies::assembly(assembly)
+    SisaAssembly::from(assembly)
 }
 
 pub fn sisa_set_input(inputs: &mut [u16], port: u8, value: u16) -> u8
     ensures { SisaSets inputs port value result }
 {
     let setting = panel::set_input(inputs, Port(port), value);
-    replies::set(setting)
+    replies::number(setting)
 }
 
 pub fn sisa_run_by_rules(
@@ -82,7 +82,7 @@ pub fn sisa_run_by_rules(
     ensures { SisaRuns by_rules state program memory inputs outputs budget log result }
 {
     let ran = engine::run_by_rules(state, program, memory, inputs, outputs, budget, log);
-    replies::run(ran)
+    SisaRun::from(ran)
 }
 
 pub fn sisa_run_by_table(
@@ -97,7 +97,7 @@ pub fn sisa_run_by_table(
     ensures { SisaRuns by_the_table state program memory inputs outputs budget log result }
 {
     let ran = engine::run_by_table(state, program, memory, inputs, outputs, budget, log);
-    replies::run(ran)
+    SisaRun::from(ran)
 }
 
 pub fn sisa_run_by_rules_with_journal(
@@ -115,7 +115,7 @@ pub fn sisa_run_by_rules_with_journal(
     let ran = engine::run_by_rules_with_journal(
         state, program, memory, inputs, outputs, budget, log, journal,
     );
-    replies::run(ran)
+    SisaRun::from(ran)
 }
 
 pub fn sisa_run_by_table_with_journal(
@@ -133,7 +133,7 @@ pub fn sisa_run_by_table_with_journal(
     let ran = engine::run_by_table_with_journal(
         state, program, memory, inputs, outputs, budget, log, journal,
     );
-    replies::run(ran)
+    SisaRun::from(ran)
 }
 
 pub fn sisa_page_by_rules(
@@ -151,7 +151,7 @@ pub fn sisa_page_by_rules(
     let paged = page::page_by_rules(
         trims, count, programs, memories, inputs, outputs, budget, log,
     );
-    replies::page(paged)
+    SisaPage::from(paged)
 }
 
 pub fn sisa_page_by_table(
@@ -169,7 +169,7 @@ pub fn sisa_page_by_table(
     let paged = page::page_by_table(
         trims, count, programs, memories, inputs, outputs, budget, log,
     );
-    replies::page(paged)
+    SisaPage::from(paged)
 }
 
 pub fn sisa_step_back(
@@ -184,27 +184,27 @@ pub fn sisa_step_back(
     ensures { SisaGoesBack state program memory inputs outputs journal k result }
 {
     let backed = back::step_back(state, program, memory, inputs, outputs, journal, k);
-    replies::back(backed)
+    SisaBack::from(backed)
 }
 
 pub fn sisa_raise(state: State, line: u8) -> SisaRaised
     ensures { result ≡ sisa_raise state line }
 {
     let raised = panel::raise(state, line);
-    replies::raised(raised)
+    SisaRaised::from(raised)
 }
 
 // A run_refusal that is not 0: a refused run.
 pub fn sisa_feed(sheet: Sheet, run_refusal: u8, usage: Usage) -> SisaFed
     ensures { result ≡ sisa_feed sheet run_refusal usage }
 {
-    replies::fed(sheet::feed_by(sheet, run_refusal == 0, usage))
+    SisaFed::from(sheet::feed_by(sheet, run_refusal == 0, usage))
 }
 
 pub fn sisa_read(word: u16) -> SisaInstruction
     ensures { result ≡ sisa_instruction (decoding_of word) }
 {
-    replies::instruction(isa::read(word))
+    SisaInstruction::from(isa::read(word))
 }
 
 pub fn sisa_write(kind: u8, a: u8, b: u8, d: u8, n: i16) -> SisaWord

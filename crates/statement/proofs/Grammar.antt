@@ -18,7 +18,7 @@ use Rattle.token.proofs.Symbols.{one_byte, byte_symbol}
 use Rattle.token.proofs.Alike.{alike_same}
 use Rattle.expression.specs.Operands.{register_of, is_name, is_operand}
 use Rattle.expression.specs.Grammar.{Tree}
-use Rattle.expression.specs.Reading.{rank_by, rank, Out, refused, read, bind, mapped, opening, start_of, leaf, prefixed, chain, ranked, parse, head_rank}
+use Rattle.expression.specs.Reading.{rank_by, rank, Out, refused, read, bind, mapped, leaf, prefixed, chain, ranked, parse, head_rank}
 use Rattle.expression.proofs.Unique.{Stops, whole}
 use Rattle.expression.proofs.Sound.{sound as expression-sound}
 use Rattle.statement.specs.Syntax.{Item, register, punctuation, N, Row, table, row_at, Parts, put, put_n, blank, Written, end, a_register_there, punctuation_there, a_value_there, Statement, no_statement, of_row, IsStatement, empty, written, Line, line, IsLine, plain, labelled}
@@ -107,7 +107,7 @@ read_statement (written k h w) l = rw (placed k h, lt-ltb k (length table) h, re
 
 -- operands do not begin with `:`
 no_colon : (is : List Item) (p q : Parts Tree) (ts : List Token) → T (ordered is) → operands is p ((58 ∷ []) ∷ ts) ≡ read q [] → ⊥
-unfolding read_items read_item one_register a_punctuation bind mapped symbol_of register_of parse ranked chain prefixed opening start_of leaf is_operand is_name is_digit is_letter between
+unfolding read_items read_item one_register a_punctuation bind mapped symbol_of register_of parse ranked chain prefixed leaf is_operand is_name is_digit is_letter between
 no_colon [] p q ts o e = clash (cc)
 no_colon (register r ∷ is) p q ts o e = clash (cc)
 no_colon (punctuation m ∷ is) p q ts o e = clash (cc (ne_eqb 58 m (λ f. omega (arith, (after_mark m is o).0))))

@@ -1,133 +1,91 @@
 -- Operands, one item after another.
 -- Assumes nothing.
-use Prim.Native.Nat.{ℕ, ◌+◌, ◌-◌, ◌<◌, ◌≤◌}
-use mathlib.Core.Bool.{Bool, true, false}
-use mathlib.Core.Path.{◌≡◌, refl, sym, ◌∙◌, subst}
-use mathlib.Core.List.{List, [], ◌∷◌}
-use native.Mathlib.Omega.{arith}
-use borrow.Author.Tests.{eq-eqb, ne_eqb, eqb-false, lt-ltb, le-ltb}
+use Prim.Native.Nat.{ℕ, ◌+◌, ◌<◌, ◌≤◌}
+use mathlib.Core.Path.{◌≡◌, sym, ◌∙◌}
+use mathlib.Core.List.{List, ◌∷◌}
+use native.Mathlib.Numerals.{add-one}
+use borrow.Author.Tests.{ne_eqb, lt-ltb}
 use lib.Dec.{eqb}
-use lib.ListN.{length, take, drop, get_or}
+use lib.ListN.{length, drop, get_or, drop_of_length-le}
+use lib.Seq.{drop-cons}
+use Rattle.std.proofs.Common.{Some, None}
 use Rattle.word.specs.Word.{pick}
-use Rattle.isa.specs.Instructions.{Register, a_register, b_register, d_register}
+use Rattle.isa.specs.Instructions.{Register}
 use Rattle.token.specs.declared.Token.{Token as Found}
-use Rattle.token.specs.declared.Token.TheVariants.{End, Here}
 use Rattle.token.specs.Tokens.{Token}
-use Rattle.token.specs.Scan.{part, tokens_at, At, TokenAt}
-use Rattle.token.proofs.Scanning.{part_cons}
+use Rattle.token.specs.Scan.{tokens_at, symbol_number, At}
 use Rattle.expression.specs.declared.Value.{Value}
-use Rattle.expression.specs.declared.Answer.{Answer}
-use Rattle.expression.specs.declared.Answer.TheVariants.{Refused as NoValue, Read as Valued}
+use Rattle.expression.specs.declared.Parsed.{Parsed}
 use Rattle.expression.specs.Operands.{register_of}
 use Rattle.expression.specs.Reading.{Out, refused, read, bind, mapped, told}
-use Rattle.expression.proofs.Parts.{part_none}
-use Rattle.statement.specs.declared.operands.Parts.{Parts as Held}
-use Rattle.statement.specs.declared.operands.Operands.{Operands}
-use Rattle.statement.specs.declared.operands.Operands.TheVariants.{Refused, Read}
-use Rattle.statement.specs.Syntax.{register, punctuation, N, Parts, put, put_n}
+use Rattle.statement.specs.declared.operands.Taken.{Taken}
+use Rattle.statement.specs.Syntax.{Parts, put, put_n}
 use Rattle.statement.specs.Reading.{one_register, a_punctuation, read_item, read_items}
 use Rattle.statement.specs.Table.{item_of, items_of}
-use Rattle.statement.specs.Parts.{shown_parts, blank_value, told_parts, register_at}
-
--- ---- The token at a position
-
-pub nothing : (s : List ℕ) (at : ℕ) {t : Found} → TokenAt s at t → t ≡ End → tokens_at s at ≡ []
-nothing s at f e = subst (TokenAt s at) e f
-
-pub there : {s : List ℕ} {at : ℕ} {t : Found} {symbol start end : ℕ} → TokenAt s at t → t ≡ Here symbol start end → At s at symbol start end
-there {s} {at} f e = subst (TokenAt s at) e f
+use Rattle.statement.specs.Parts.{shown_parts, blank_value, told_parts}
 
 -- ---- One item
 
-module _ {s : List ℕ} {at symbol start end : ℕ} (h : At s at symbol start end) (p : Parts Value) where
-  module _ (r : Register) {k : ℕ} (e : k ≡ register_of (part start end s)) where
-    pub register_there : {q : Parts Value} → k < 8 → q ≡ put r k p → read q (tokens_at s end) ≡ one_register r p (tokens_at s at)
-    unfolding one_register
-    register_there l z = rw (h.split, ← e, lt-ltb k 8 l, z)
+module _ {s : List ℕ} {at : ℕ} {t : Found} (h : At s at t) (p : Parts Value) where
+  pub register_there : (r : Register) {k : ℕ} → register_of t.word.now ≡ k → k < 8 → read (put r k p) (tokens_at s t.end) ≡ one_register r p (tokens_at s at)
+  unfolding one_register
+  register_there r {k} e l = rw (h.split, e, lt-ltb k 8 l)
 
-    pub no_register : 8 ≤ k → refused ≡ one_register r p (tokens_at s at)
-    unfolding one_register
-    no_register l = rw (h.split, ← e, le-ltb k 8 l)
+  pub no_register : (r : Register) → register_of t.word.now ≡ 8 → refused ≡ one_register r p (tokens_at s at)
+  unfolding one_register
+  no_register r e = rw (h.split, e)
 
-  pub mark_there : {m : ℕ} → symbol ≡ m → read p (tokens_at s end) ≡ a_punctuation m p (tokens_at s at)
+  pub mark_there : (m : ℕ) → a_punctuation m p (tokens_at s at) ≡ pick (eqb (symbol_number t.symbol) m) (read p (tokens_at s t.end)) refused
   unfolding a_punctuation
-  mark_there e = rw (h.split, ← h.number, eq-eqb symbol _ e)
+  mark_there m = rw (h.split, ← h.number)
 
-  pub other_mark : {m : ℕ} → (symbol ≡ m → ⊥) → refused ≡ a_punctuation m p (tokens_at s at)
-  unfolding a_punctuation
-  other_mark n = rw (h.split, ← h.number, ne_eqb symbol _ n)
-
-module _ (s : List ℕ) {a : Answer} {o : Out Value} (t : told s a ≡ o) (p : Parts Value) where
-  pub value_there : {v : Value} {next : ℕ} {q : Parts Value} → a ≡ Valued v next → q ≡ put_n v p → read q (tokens_at s next) ≡ mapped (λ e. put_n e p) o
+module _ (s : List ℕ) {o : Out Value} (p : Parts Value) where
+  pub value_there : (v : Parsed) → told s (Some v) ≡ o → read (put_n v.value p) (tokens_at s v.next) ≡ mapped (λ e. put_n e p) o
   unfolding told mapped
-  value_there e z = rw (← t, e, z)
+  value_there v e = rw (← e)
 
-  pub no_value : a ≡ NoValue → refused ≡ mapped (λ e. put_n e p) o
+  pub no_value : told s None ≡ o → refused ≡ mapped (λ e. put_n e p) o
   unfolding told mapped
-  no_value e = rw (← t, e)
-
--- a letter of the table that stands for a register
-pub register_item : (c : ℕ) → ((c ≡ 97 → ⊥) → (c ≡ 98 → ⊥) → (c ≡ 100 → ⊥) → ⊥) → item_of c ≡ register (register_at c)
-unfolding item_of register_at
-register_item c n = go (eqb c 97) (eqb c 98) (eqb c 100) refl refl refl
-  where
-    go :
-        (x y z : Bool) → eqb c 97 ≡ x → eqb c 98 ≡ y → eqb c 100 ≡ z
-        → pick x (register a_register) (pick y (register b_register) (pick z (register d_register) (pick (eqb c 110) N (punctuation c))))
-        ≡ register (pick x a_register (pick y b_register d_register))
-    go true y z f g h = refl
-    go false true z f g h = refl
-    go false false true f g h = refl
-    go false false false f g h = absurd (n (eqb-false _ _ f) (eqb-false _ _ g) (eqb-false _ _ h))
-
--- any other byte but `n` stands for itself
-pub mark_item : (c : ℕ) → (97 ≤ c → c < 99 → ⊥) → (c ≡ 100 → ⊥) → (c ≡ 110 → ⊥) → item_of c ≡ punctuation c
-unfolding item_of
-mark_item c x y n =
-    rw (ne_eqb c 97 (λ e. x (omega arith) (omega arith)), ne_eqb c 98 (λ e. x (omega arith) (omega arith)), ne_eqb c 100 y, ne_eqb c 110 n)
+  no_value e = rw (← e)
 
 -- ---- The items of a row
 
--- of the six bytes at `from` the first i have been read, into the parts p
-pub record Taking (expression : List Token → Out Value) (rows : List ℕ) (from : ℕ) (ts : List Token) (i : ℕ) (p : Parts Value) (us : List Token) : Type 0 where
-  pub same : read_items expression (items_of (take 6 (drop from rows))) blank_value ts
-      ≡ read_items expression (items_of (part (from + i) (from + 6) rows)) p us
-  pub within : i ≤ 6
+-- the first i items have been read
+pub record Taking (expression : List Token → Out Value) (items s : List ℕ) (ts : List Token) (i : ℕ) (t : Taken) : Type 0 where
+  pub same : read_items expression (items_of items) blank_value ts ≡ read_items expression (items_of (drop i items)) (shown_parts t.parts) (tokens_at s t.next)
 
-pub taking : {expression : List Token → Out Value} {rows : List ℕ} {from : ℕ} {ts : List Token} → Taking expression rows from ts 0 blank_value ts
-taking {from = from} =
-    let e : from + 0 ≡ from = omega arith in
-    let f : from + 6 - from ≡ 6 = omega arith in
-    record { same = rw (e, f); within = omega arith }
-
-module _ {expression : List Token → Out Value} {rows : List ℕ} {from : ℕ} {ts : List Token} {i : ℕ} {p : Parts Value} {us : List Token}
-    (t : Taking expression rows from ts i p us) where
+module _ {expression : List Token → Out Value} {items s : List ℕ} {ts : List Token} {i : ℕ} {t : Taken} (h : Taking expression items s ts i t) where
   abbrev all : Out (Parts Value)
-  all = read_items expression (items_of (take 6 (drop from rows))) blank_value ts
+  all = read_items expression (items_of items) blank_value ts
 
-  abbrev byte : ℕ
-  byte = get_or rows (from + i) 0
+  pub all_taken : length items ≤ i → told_parts s (Some t) ≡ all
+  unfolding items_of read_items told_parts
+  all_taken l = sym (h.same ∙ rw (drop_of_length-le items l))
 
-  pub all_taken : 6 ≤ i → read p us ≡ all
-  unfolding items_of read_items
-  all_taken l = sym (t.same ∙ rw (part_none rows (from + i) (from + 6) (omega arith)))
-
-  module _ (l : i < 6) (h : from + 6 ≤ length rows) where
-    next_byte : all ≡ read_items expression (items_of (byte ∷ part (from + (i + 1)) (from + 6) rows)) p us
-    next_byte =
-        let e : from + i + 1 ≡ from + (i + 1) = omega arith in
-        t.same ∙ rw (part_cons rows (from + i) (from + 6) (omega arith) h, e)
+  module _ (l : i < length items) where
+    next : drop i items ≡ get_or items i 0 ∷ drop (i + 1) items
+    next = rw (add-one, drop-cons items i 0)
 
     -- a space ends them
-    pub last_taken : byte ≡ 32 → read p us ≡ all
-    unfolding items_of read_items
-    last_taken e = sym (next_byte ∙ rw e)
+    pub last_taken : get_or items i 0 ≡ 32 → told_parts s (Some t) ≡ all
+    unfolding items_of read_items told_parts
+    last_taken e = sym (h.same ∙ rw (next, e))
 
-    module _ (n : byte ≡ 32 → ⊥) (s : List ℕ) {o : Operands} (e : told_parts s o ≡ read_item expression (item_of byte) p us) where
-      pub item_refused : o ≡ Refused → refused ≡ all
-      unfolding items_of read_items bind told_parts
-      item_refused z = sym (next_byte ∙ rw (ne_eqb byte 32 n, ← e, z))
+    module _ (n : get_or items i 0 ≡ 32 → ⊥) where
+      one : all ≡ bind (read_item expression (item_of (get_or items i 0)) (shown_parts t.parts) (tokens_at s t.next)) (read_items expression (items_of (drop (i + 1) items)))
+      unfolding items_of read_items
+      one = h.same ∙ rw (next, ne_eqb (get_or items i 0) 32 n)
 
-      pub item_taken : {q : Held} {next : ℕ} → o ≡ Read q next → Taking expression rows from ts (i + 1) (shown_parts q) (tokens_at s next)
-      unfolding items_of read_items bind told_parts
-      item_taken z = record { same = next_byte ∙ rw (ne_eqb byte 32 n, ← e, z); within = omega arith }
+      pub item_refused : told_parts s None ≡ read_item expression (item_of (get_or items i 0)) (shown_parts t.parts) (tokens_at s t.next) → told_parts s None ≡ all
+      unfolding bind told_parts
+      item_refused e = sym (one ∙ rw (← e))
+
+      pub item_taken : (u : Taken) → told_parts s (Some u) ≡ read_item expression (item_of (get_or items i 0)) (shown_parts t.parts) (tokens_at s t.next)
+          → Taking expression items s ts (i + 1) u
+      unfolding bind told_parts
+      item_taken u e = record { same = one ∙ rw (← e) }
+
+-- the steps of `register_at` and of `operands_at`
+pub ruleset register_steps = (register_there, no_register)
+
+pub ruleset item_steps = (all_taken, last_taken, item_refused, item_taken)

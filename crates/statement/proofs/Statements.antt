@@ -1,74 +1,58 @@
 -- Statements and lines, as the code puts them together.
 -- Assumes nothing.
-use Prim.Native.Nat.{ℕ, ◌<◌, ◌≤◌}
+use Prim.Native.Nat.{ℕ, ◌<◌}
 use mathlib.Core.Bool.{true, false}
-use mathlib.Core.Path.{◌≡◌, ap, ◌∙◌}
+use mathlib.Core.Path.{◌≡◌, sym, ◌∙◌}
 use mathlib.Core.List.{List, [], ◌∷◌}
-use borrow.Author.Tests.{eq-eqb, ne_eqb, lt-ltb, le-ltb}
+use borrow.Author.Tests.{lt-ltb}
+use lib.Dec.{eqb}
 use lib.ListN.{length}
+use Rattle.std.proofs.Common.{Some, None}
+use Rattle.word.specs.Word.{pick}
+use Rattle.token.specs.declared.Token.{Token as Found}
 use Rattle.token.specs.Tokens.{Token}
-use Rattle.token.specs.Scan.{part, tokens_at, symbol_of, At}
+use Rattle.token.specs.Scan.{tokens_at, symbol_number, At}
 use Rattle.expression.specs.declared.Value.{Value}
 use Rattle.expression.specs.Operands.{is_name}
 use Rattle.expression.specs.Reading.{Out}
-use Rattle.statement.specs.declared.operands.Parts.{Parts as Held}
-use Rattle.statement.specs.declared.operands.Operands.{Operands}
-use Rattle.statement.specs.declared.operands.Operands.TheVariants.{Refused, Read}
-use Rattle.statement.specs.declared.line.Line.{Line as Found}
-use Rattle.statement.specs.declared.line.Line.TheVariants.{Outside, Reads}
-use Rattle.statement.specs.Syntax.{Parts, table}
-use Rattle.statement.specs.Reading.{ReadLine, outside, row_of, read_items, finished, statement_of, line_by}
-use Rattle.statement.specs.Table.{items_of, cell}
-use Rattle.statement.specs.Parts.{blank_value, told_parts, label_of, shown_statement, shown_content, shown_line, LineMeets}
+use Rattle.statement.specs.declared.operands.Taken.{Taken}
+use Rattle.statement.specs.Syntax.{Parts, table, of_row, line}
+use Rattle.statement.specs.Reading.{outside, reads, row_of, read_items, finished, statement_of, line_by}
+use Rattle.statement.specs.Table.{items_of, cell, RowIs}
+use Rattle.statement.specs.Parts.{shown_parts, blank_value, told_parts}
 use Rattle.statement.proofs.Tables.{items_row}
-
--- ---- What the code answers
-
-pub outside_line : {s : List ℕ} {l : ReadLine Value} → outside ≡ l → LineMeets s l Outside
-unfolding shown_line
-outside_line e = record { same = e; inside = tt }
-
-pub same_line : {s : List ℕ} {l m : ReadLine Value} {r : Found} → LineMeets s l r → l ≡ m → LineMeets s m r
-same_line h e = record { same = h.same ∙ e; inside = h.inside }
-
--- ---- After the operands
-
-module _ (s : List ℕ) (k : ℕ) (l : List Token) {o : Operands} where
-  pub no_operands : o ≡ Refused → outside ≡ finished k l (told_parts s o)
-  unfolding finished told_parts
-  no_operands e = rw e
-
-  pub more_follows : {p : Held} {at symbol start end : ℕ} → o ≡ Read p at → At s at symbol start end → outside ≡ finished k l (told_parts s o)
-  unfolding finished told_parts
-  more_follows e h = rw (e, h.split)
-
-pub nothing_follows :
-    (s : List ℕ) (k label until : ℕ) {o : Operands} {p : Held} {at : ℕ}
-    → o ≡ Read p at → tokens_at s at ≡ [] → k < length table → until ≤ length s
-    → LineMeets s (finished k (label_of s label until) (told_parts s o)) (Reads (record { label = label; until = until; row = k; parts = p }))
-unfolding finished told_parts shown_line shown_content shown_statement
-nothing_follows s k label until e f l u = record { same = rw (e, f, lt-ltb k (length table) l); inside = u }
 
 -- ---- Statements
 
-module _ (expression : List Token → Out Value) (s : List ℕ) where
-  pub no_statement :
-      (at label until : ℕ) {p : Held} → tokens_at s at ≡ [] → until ≤ length s
-      → LineMeets s (statement_of expression blank_value (label_of s label until) (tokens_at s at))
-      (Reads (record { label = label; until = until; row = length table; parts = p }))
-  unfolding statement_of shown_line shown_content shown_statement
-  no_statement at label until e u = record { same = rw e; inside = u }
+module _ (expression : List Token → Out Value) (s : List ℕ) (l : List Token) {at : ℕ} {t : Found} (h : At s at t) where
+  pub no_mnemonic : RowIs None (row_of t.word.now) → outside ≡ statement_of expression blank_value l (tokens_at s at)
+  unfolding statement_of
+  no_mnemonic e = rw (h.split, ← e)
 
-  module _ (l : List Token) {at symbol start end : ℕ} (h : At s at symbol start end) {k : ℕ} (e : k ≡ row_of (part start end s)) where
-    pub no_mnemonic : length table ≤ k → outside ≡ statement_of expression blank_value l (tokens_at s at)
-    unfolding statement_of
-    no_mnemonic n = rw (h.split, ← e, le-ltb k (length table) n)
+  module _ {k : ℕ} (r : RowIs (Some k) (row_of t.word.now)) where
+    n : k < length table
+    n = r.0
 
-    pub row_statement :
-        k < length table → {o : Out (Parts Value)} → o ≡ read_items expression (items_of (cell k)) blank_value (tokens_at s end)
-        → finished k l o ≡ statement_of expression blank_value l (tokens_at s at)
+    e : k ≡ row_of t.word.now
+    e = r.1
+
+    by_row : statement_of expression blank_value l (tokens_at s at) ≡ finished k l (read_items expression (items_of (cell k)) blank_value (tokens_at s t.end))
     unfolding statement_of
-    row_statement n z = rw (h.split, ← e, lt-ltb k (length table) n, ← items_row k n) (ap (finished k l) z)
+    by_row = rw (h.split, ← e, lt-ltb k (length table) n, ← items_row k n)
+
+    pub no_operands : told_parts s None ≡ read_items expression (items_of (cell k)) blank_value (tokens_at s t.end)
+        → outside ≡ statement_of expression blank_value l (tokens_at s at)
+    unfolding finished told_parts
+    no_operands f = sym (by_row ∙ rw (← f))
+
+    module _ (p : Taken) (f : told_parts s (Some p) ≡ read_items expression (items_of (cell k)) blank_value (tokens_at s t.end)) where
+      pub more_follows : {u : Found} → At s p.next u → outside ≡ statement_of expression blank_value l (tokens_at s at)
+      unfolding finished told_parts
+      more_follows g = sym (by_row ∙ rw (← f, g.split))
+
+      pub nothing_follows : tokens_at s p.next ≡ [] → reads (line l (of_row k (shown_parts p.parts))) ≡ statement_of expression blank_value l (tokens_at s at)
+      unfolding finished told_parts
+      nothing_follows g = sym (by_row ∙ rw (← f, g))
 
 -- ---- Lines
 
@@ -77,21 +61,29 @@ module _ (expression : List Token → Out Value) (p : Parts Value) {ts : List To
   unfolding line_by
   no_token e = rw e
 
-  module _ {w : Token} {us : List Token} (e : ts ≡ w ∷ us) where
-    pub one_token : us ≡ [] → statement_of expression p [] ts ≡ line_by expression p ts
+module _ (expression : List Token → Out Value) (p : Parts Value) {s : List ℕ} {at : ℕ} {t : Found} (h : At s at t) where
+  pub one_token : tokens_at s t.end ≡ [] → statement_of expression p [] (tokens_at s at) ≡ line_by expression p (tokens_at s at)
+  unfolding line_by
+  one_token f = rw (h.split, f)
+
+  module _ {u : Found} (g : At s t.end u) where
+    two_tokens : line_by expression p (tokens_at s at)
+        ≡ pick (eqb (symbol_number u.symbol) 58) (pick (is_name t.word.now) (statement_of expression p (t.word.now ∷ []) (tokens_at s u.end)) outside)
+        (statement_of expression p [] (tokens_at s at))
     unfolding line_by
-    one_token f = rw (e, f)
+    two_tokens = rw (h.split, g.split, ← g.number)
 
-    module _ {c : Token} {vs : List Token} (f : us ≡ c ∷ vs) {symbol : ℕ} (g : symbol ≡ symbol_of c) where
-      pub no_colon : (symbol ≡ 58 → ⊥) → statement_of expression p [] ts ≡ line_by expression p ts
-      unfolding line_by
-      no_colon n = rw (e, f, ← g, ne_eqb symbol 58 n)
+    pub no_colon : eqb (symbol_number u.symbol) 58 ≡ false → statement_of expression p [] (tokens_at s at) ≡ line_by expression p (tokens_at s at)
+    no_colon n = sym (two_tokens ∙ rw n)
 
-      module _ (h : symbol ≡ 58) where
-        pub a_label : is_name w ≡ true → statement_of expression p (w ∷ []) vs ≡ line_by expression p ts
-        unfolding line_by
-        a_label n = rw (e, f, ← g, eq-eqb symbol 58 h, n)
+    module _ (n : eqb (symbol_number u.symbol) 58 ≡ true) where
+      pub a_label : is_name t.word.now ≡ true → statement_of expression p (t.word.now ∷ []) (tokens_at s u.end) ≡ line_by expression p (tokens_at s at)
+      a_label m = sym (two_tokens ∙ rw (n, m))
 
-        pub no_label : is_name w ≡ false → outside ≡ line_by expression p ts
-        unfolding line_by
-        no_label n = rw (e, f, ← g, eq-eqb symbol 58 h, n)
+      pub no_label : is_name t.word.now ≡ false → outside ≡ line_by expression p (tokens_at s at)
+      no_label m = sym (two_tokens ∙ rw (n, m))
+
+-- the steps of `statement_at` and of `line_at`
+pub ruleset statement_steps = (no_operands, more_follows)
+
+pub ruleset line_steps = (no_token, one_token, no_colon, a_label, no_label)

@@ -4,14 +4,15 @@ use Prim.Native.Nat.{ℕ, zero, suc, ◌+◌, ◌*◌, ◌<◌, ◌≤◌}
 use mathlib.Core.Path.{◌≡◌, refl, sym, ap, ◌∙◌}
 use mathlib.Core.List.{List, [], ◌∷◌, map}
 use native.Mathlib.Omega.{arith}
-use lib.Dec.{eqb, leb}
+use lib.Dec.{eqb, leb, eqb→eq}
 use lib.ListN.{length, get_or, get_or-map}
 use borrow.Author.Tests.{leb-true}
-use Rattle.word.specs.Word.{pick}
+use Rattle.kinds.specs.declared.Kind.TheVariants.{And}
+use Rattle.kinds.specs.Kinds.{kinds, kind_number}
 use Rattle.word.proofs.Computed.{all, all_at}
 use Rattle.word.proofs.Tests.{is_true}
 use Rattle.token.specs.Scan.{part}
-use Rattle.statement.specs.Syntax.{Field, number, eight_bits, target, Row, table, row_at}
+use Rattle.statement.specs.Syntax.{Row, table, row_at}
 use Rattle.statement.specs.Table.{row_text, mnemonic_lengths, item_of, items_of, cell}
 
 -- what f gives at the n numbers from k on
@@ -39,11 +40,7 @@ mnemonic_in rows k = part (12 * k) (12 * k + get_or mnemonic_lengths k 0) rows
 pub mnemonic_row : (k : ℕ) → k < length table → mnemonic_in row_text k ≡ (row_at k).mnemonic
 mnemonic_row = column (mnemonic_in row_text) (λ r. r.mnemonic) refl
 
--- a mnemonic has at least one byte, and at most six
-pub some_row : (k : ℕ) → k < length table → 1 ≤ get_or mnemonic_lengths k 0
-unfolding all
-some_row k h = leb-true _ _ (is_true _ (all_at (length table) (λ n. leb 1 (get_or mnemonic_lengths n 0)) tt k h))
-
+-- a mnemonic has at most six bytes
 pub short_row : (k : ℕ) → k < length table → get_or mnemonic_lengths k 0 ≤ 6
 unfolding all
 short_row k h = leb-true _ _ (is_true _ (all_at (length table) (λ n. leb (get_or mnemonic_lengths n 0) 6) tt k h))
@@ -52,9 +49,7 @@ pub items_row : (k : ℕ) → k < length table → items_of (cell k) ≡ (row_at
 unfolding item_of items_of cell
 items_row = column (λ k. items_of (cell k)) (λ r. r.items) refl
 
--- BZ is row 19, BNZ 20 and MOVI 21
-abbrev field_at : ℕ → Field
-field_at k = pick (eqb k 19) target (pick (eqb k 20) target (pick (eqb k 21) eight_bits number))
-
-pub field_row : (k : ℕ) → k < length table → field_at k ≡ (row_at k).field
-field_row = column field_at (λ r. r.field) refl
+-- a kind's number leads back to it
+pub kind_row : (k : ℕ) → k < length kinds → kind_number (get_or kinds k And) ≡ k
+unfolding all
+kind_row k h = eqb→eq _ _ (all_at (length kinds) (λ n. eqb (kind_number (get_or kinds n And)) n) tt k h)

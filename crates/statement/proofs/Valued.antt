@@ -9,6 +9,7 @@ use Rattle.word.specs.Word.{pick}
 use Rattle.isa.specs.Instructions.{Register, a_register, b_register, d_register}
 use Rattle.token.specs.Tokens.{Token, between, is_digit}
 use Rattle.token.specs.Scan.{symbol_of}
+use Rattle.expression.specs.declared.Label.{Label as Given}
 use Rattle.expression.specs.declared.Value.{Value}
 use Rattle.expression.specs.Operands.{Label, register_of, is_name, operand_value, literal_word, hexed, numeral, digit_of}
 use Rattle.expression.specs.Grammar.{Tree, value_of}
@@ -108,9 +109,9 @@ blank_valued : (names : List Label) → valued_parts (value_of (operand_value na
 unfolding valued_parts value_of operand_value is_digit between literal_word hexed numeral digit_of
 blank_valued names = refl
 
-pub read_valued : (text names : List ℕ) (ts : List Token)
-    → line_by (expression_of text names) blank_value ts ≡ valued (value_of (operand_value (labels text names))) (line_of ts)
+pub read_valued : (names : List Given) (ts : List Token)
+    → line_by (expression_of names) blank_value ts ≡ valued (value_of (operand_value (labels names))) (line_of ts)
 unfolding expression_of line_of
-read_valued text names ts =
-    ap (λ (p : Parts Value). line_by (expression_of text names) p ts) (sym (blank_valued (labels text names)))
-    ∙ line_valued (value_of (operand_value (labels text names))) (parse 16 5) blank ts
+read_valued names ts =
+    ap (λ (p : Parts Value). line_by (expression_of names) p ts) (sym (blank_valued (labels names)))
+    ∙ line_valued (value_of (operand_value (labels names))) (parse 16 5) blank ts

@@ -1,114 +1,75 @@
 // A line of text: the name that it gives, and its statement.
-ghost use Rattle.std.specs.Prelude.{◌<◌, ◌≤◌, length};
+ghost use Rattle.std.specs.Prelude.{◌≡◌};
 ghost use Rattle.token.specs.Scan.{tokens_at};
-ghost use Rattle.statement.specs.Syntax.{table};
-ghost use Rattle.statement.specs.Reading.{finished, statement_of, line_by};
-ghost use Rattle.statement.specs.Parts.{LineMeets, label_of, told_parts, expression_of, blank_value};
+ghost use Rattle.statement.specs.Reading.{statement_of, line_by};
+ghost use Rattle.statement.specs.Parts.{label_of, shown_line, expression_of, blank_value};
 
-use crate::operands::{Operands, Parts};
-use crate::rows;
-use token::Token;
+use crate::operands::Parts;
+use crate::rows::Operation;
+use crate::{operands, rows};
+use expression::Label;
 
-// The name stands from label to until, which are 0 where there is none. The row is ROWS where there is no statement.
 #[derive(Clone, Copy)]
-pub struct Content {
-    pub label: usize,
-    pub until: usize,
-    pub row: usize,
+pub struct Statement {
+    pub operation: Operation,
     pub parts: Parts,
 }
 
+// The name that a line gives and its statement, where it has them.
 #[derive(Clone, Copy)]
-pub enum Line {
-    Outside,
-    Reads(Content),
+pub struct Content<'a> {
+    pub label: Option<&'a [u8]>,
+    pub statement: Option<Statement>,
 }
 
-// Nothing but the end of the line may follow the operands.
-fn finished(text: &[u8], o: Operands, row: usize, label: usize, until: usize) -> Line
-    requires { (row < length table) × (until ≤ length text.now) }
-    ensures { LineMeets text.now (finished row (label_of text.now label until) (told_parts text.now o)) result }
+// The statement at a position, on a line that gives a name or none. Nothing but the end of the line may follow its operands.
+#[tactic(auto, using(crate::proofs::Statements::statement_steps), unfolding(crate::specs::Parts::shown_line, crate::specs::Table::cell))]
+fn statement_at<'a>(
+    text: &'a [u8],
+    names: &[Label],
+    at: usize,
+    label: Option<&'a [u8]>,
+) -> Option<Content<'a>>
+    ensures { shown_line result ≡ statement_of (expression_of names.now) blank_value (label_of label.entry) (tokens_at text.now at) }
 {
-    let Operands::Read { parts, next } = o else {
-        return Line::Outside;
-    };
-    let t = token::token_at(text, next);
-    match t {
-        Token::End => Line::Reads(Content {
+    let Some(mnemonic) = token::token_at(text, at) else {
+        return Some(Content {
             label,
-            until,
-            row,
-            parts,
-        }),
-        Token::Here {
-            symbol: _,
-            start: _,
-            end: _,
-        } => Line::Outside,
-    }
-}
-
-// The statement at a position, on a line that gives the name from label to until.
-fn statement_at(text: &[u8], names: &[usize], at: usize, label: usize, until: usize) -> Line
-    requires { until ≤ length text.now }
-    ensures { LineMeets text.now (statement_of (expression_of text.now names.now) blank_value (label_of text.now label until) (tokens_at text.now at)) result }
-{
-    let t = token::token_at(text, at);
-    let Token::Here {
-        symbol: _,
-        start,
-        end,
-    } = t
-    else {
-        return Line::Reads(Content {
-            label,
-            until,
-            row: rows::ROWS,
-            parts: Parts::blank(),
+            statement: None,
         });
     };
     let table = rows::table();
-    let row = rows::row_of(text, &table, start, end);
-    if rows::ROWS <= row {
-        return Line::Outside;
-    }
+    let row = rows::row_of(&table, mnemonic.word)?;
     let from = rows::ROW_BYTES * row + rows::OPERANDS_AT;
-    let o = crate::operands::operands_at(text, names, &table, from, end);
-    finished(text, o, row, label, until)
+    let taken = operands::operands_at(text, names, &table[from..from + 6], mnemonic.end)?;
+    match token::token_at(text, taken.next) {
+        Some(_) => None,
+        None => Some(Content {
+            label,
+            statement: Some(Statement {
+                operation: rows::operation_at(row),
+                parts: taken.parts,
+            }),
+        }),
+    }
 }
 
 // The line that begins at a position.
-pub fn line_at(text: &[u8], names: &[usize], at: usize) -> Line
-    ensures { LineMeets text.now (line_by (expression_of text.now names.now) blank_value (tokens_at text.now at)) result }
+#[tactic(auto, using(crate::proofs::Statements::line_steps), unfolding(crate::specs::Parts::shown_line))]
+pub fn line_at<'a>(text: &'a [u8], names: &[Label], at: usize) -> Option<Content<'a>>
+    ensures { shown_line result ≡ line_by (expression_of names.now) blank_value (tokens_at text.now at) }
 {
-    let first = token::token_at(text, at);
-    let Token::Here {
-        symbol: _,
-        start,
-        end,
-    } = first
-    else {
-        return Line::Reads(Content {
-            label: 0,
-            until: 0,
-            row: rows::ROWS,
-            parts: Parts::blank(),
-        });
+    let Some(first) = token::token_at(text, at) else {
+        return statement_at(text, names, at, None);
     };
-    let second = token::token_at(text, end);
-    let Token::Here {
-        symbol,
-        start: _,
-        end: after,
-    } = second
-    else {
-        return statement_at(text, names, at, 0, 0);
+    let Some(second) = token::token_at(text, first.end) else {
+        return statement_at(text, names, at, None);
     };
-    if symbol != 58 {
-        return statement_at(text, names, at, 0, 0);
+    if !second.symbol.is(b':') {
+        return statement_at(text, names, at, None);
     }
-    if expression::names::is_name(text, start, end) {
-        return statement_at(text, names, after, start, end);
+    if !expression::names::is_name(first.word) {
+        return None;
     }
-    Line::Outside
+    statement_at(text, names, second.end, Some(first.word))
 }

@@ -1,9 +1,10 @@
 // The table of statements: the kinds' mnemonics in their order, then `.word`, and what stands in the operands of each.
 ghost use Rattle.std.specs.Prelude.{◌≡◌, ◌<◌, ◌≤◌, length, get_or};
-ghost use Rattle.token.specs.Scan.{part};
 ghost use Rattle.statement.specs.Syntax.{table, row_at};
 ghost use Rattle.statement.specs.Reading.{row_of};
-ghost use Rattle.statement.specs.Table.{row_text, mnemonic_lengths, field_of};
+ghost use Rattle.statement.specs.Table.{row_text, mnemonic_lengths, field_of, row_number, RowIs};
+
+use kinds::Kind;
 
 pub const ROWS: usize = 35;
 
@@ -34,38 +35,55 @@ pub fn mnemonic_length(row: usize) -> usize
     LENGTHS[row] as usize
 }
 
-// How the value of a row's operand becomes a number: 1 MOVI's eight bits, 2 a branch's target, 0 read as signed.
-pub fn field_of(row: usize) -> u8
-    requires { row < length table }
-    ensures { field_of result ≡ (row_at row).field }
+// How the value of a row's operand becomes a number: read as signed; MOVI's eight bits; the target of a branch.
+#[derive(Clone, Copy, PartialEq, Eq)]
+pub enum Field {
+    Number,
+    EightBits,
+    Target,
+}
+
+// What the row of a statement stands for: an instruction of a kind, or `.word`.
+#[derive(Clone, Copy)]
+pub enum Operation {
+    Instruction(Kind),
+    Word,
+}
+
+pub fn field_of(operation: Operation) -> Field
+    ensures { field_of result ≡ (row_at (row_number operation)).field }
 {
-    match row {
-        // BZ and BNZ
-        19 => 2,
-        20 => 2,
-        // MOVI
-        21 => 1,
-        _ => 0,
+    match operation {
+        Operation::Instruction(Kind::Bz) => Field::Target,
+        Operation::Instruction(Kind::Bnz) => Field::Target,
+        Operation::Instruction(Kind::Movi) => Field::EightBits,
+        _ => Field::Number,
     }
 }
 
-// The place of the row with the mnemonic from start to end, or ROWS.
-pub fn row_of(text: &[u8], rows: &[u8], start: usize, end: usize) -> usize
-    requires { (rows.now ≡ row_text) × (start < end) × (end ≤ length text.now) }
-    ensures { result ≡ row_of (part start end text.now) }
+// What row k stands for.
+pub fn operation_at(row: usize) -> Operation
+    requires { row < length table }
+    ensures { row_number result ≡ row }
 {
-    let lengths = LENGTHS;
-    let first = text[start];
-    let mut k = 0;
-    while k < ROWS {
-        let from = ROW_BYTES * k;
-        if rows[from] == first {
-            let to = from + (lengths[k] as usize);
-            if token::same_bytes(text, start, end, rows, from, to) {
-                return k;
-            }
-        }
-        k += 1;
+    match Kind::try_from(row as u8) {
+        Ok(kind) => Operation::Instruction(kind),
+        Err(_) => Operation::Word,
     }
-    ROWS
+}
+
+// The place of the row with that mnemonic.
+#[tactic(auto, using(crate::proofs::Search::search_steps))]
+pub fn row_of(rows: &[u8], word: &[u8]) -> Option<usize>
+    requires { rows.now ≡ row_text }
+    ensures { RowIs result (row_of word.now) }
+{
+    for k in 0..ROWS {
+        let from = ROW_BYTES * k;
+        let to = from + mnemonic_length(k);
+        if token::same_bytes(word, &rows[from..to]) {
+            return Some(k);
+        }
+    }
+    None
 }

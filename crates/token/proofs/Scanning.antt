@@ -122,6 +122,10 @@ module _ {s : List ℕ} {start i : ℕ} (r : Reading s start i) where
   pub past : length s ≤ i → Ended s start i
   past k = closed (subst (Over (part start i s)) (sym (drop_of_length-le s k)) tt)
 
+  -- the text ends there
+  pub past_end : length s ≤ i → Ended s start (length s)
+  past_end k = let e : i ≡ length s = omega (arith, r.inside) in subst (Ended s start) e (past k)
+
   module _ (k : i < length s) where
     pub off : goes_on_at (get_or s start 0) (i - start) (get_or s i 0) ≡ false → Ended s start i
     off e = closed (subst (Over (part start i s)) (sym (byte_at s i k)) (joins_part (get_or s i 0) ∙ e))
@@ -218,3 +222,12 @@ module _ {s : List ℕ} {start : ℕ} (h : start < length s) (no_space : get_or 
     less_less q r =
         stop (on begun_there k (shift_on _ (start + 1 - start) _ q (omega arith) r))
         (λ b. alone _ (start + 1 + 1 - start) b e f (inr (inr (λ z. omega arith))))
+
+-- the steps of `after_spaces`, `row_end`, `token_end` and `token_at`
+pub ruleset space_steps = (skip, line_end)
+
+pub ruleset row_steps = (row_begin, row_on, on, off, past_end)
+
+pub ruleset token_ends = (lone, last_byte, less, less_less)
+
+pub ruleset line_ends = (line_end, newline)

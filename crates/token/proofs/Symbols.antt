@@ -1,9 +1,9 @@
 -- The number of a token.
 -- Assumes nothing.
-use Prim.Native.Nat.{ℕ, ◌+◌, ◌-◌, ◌<◌, ◌≤◌}
+use Prim.Native.Nat.{ℕ, ◌<◌}
 use mathlib.Core.Bool.{Bool, true, false}
-use mathlib.Core.Path.{◌≡◌, refl}
-use mathlib.Core.List.{List, [], ◌∷◌}
+use mathlib.Core.Path.{◌≡◌, refl, sym}
+use mathlib.Core.List.{[], ◌∷◌}
 use native.Mathlib.Omega.{arith}
 use lib.Dec.{eqb, ltb}
 use lib.ListN.{length, get_or}
@@ -11,8 +11,7 @@ use borrow.Author.Tests.{lt-ltb, ltb-true, eqb-true}
 use Rattle.word.specs.Word.{pick}
 use Rattle.token.specs.Ascii.{ascii}
 use Rattle.token.specs.Tokens.{Token}
-use Rattle.token.specs.Scan.{part, symbol_of}
-use Rattle.token.proofs.Scanning.{part_cons}
+use Rattle.token.specs.Scan.{symbol_of}
 
 -- a token of several bytes has a number past the bytes
 pub one_byte : (t : Token) (b : ℕ) → b < 256 → symbol_of t ≡ b → t ≡ b ∷ []
@@ -52,25 +51,25 @@ shift_symbol (b ∷ c ∷ []) e = go (eqb b 60) refl (eqb c 60) refl e
     go false h y l e = absurd (omega arith)
 shift_symbol (b ∷ c ∷ d ∷ t) e = absurd (omega arith)
 
-part_empty : (s : List ℕ) (k : ℕ) → part k k s ≡ []
-part_empty s k = let e : k - k ≡ 0 = omega arith in rw e
+-- the number of a token, by its length and bytes
+pub symbol_one : (w : Token) → length w ≡ 1 → get_or w 0 0 < 256 → get_or w 0 0 ≡ symbol_of w
+symbol_one [] e h = absurd (omega arith)
+symbol_one (b ∷ []) e h = sym (byte_symbol b h)
+symbol_one (b ∷ c ∷ t) e h = absurd (omega arith)
 
--- the number of a part of a text, by its length
-module _ (s : List ℕ) (start end : ℕ) (l : end ≤ length s) where
-  pub symbol_one : end - start ≡ 1 → get_or s start 0 < 256 → symbol_of (part start end s) ≡ get_or s start 0
-  symbol_one e h =
-      let z : end ≡ start + 1 = omega arith in
-      rw (part_cons s start end (omega arith) l, z, part_empty s (start + 1)) (byte_symbol (get_or s start 0) h)
+pub symbol_two : (w : Token) → length w ≡ 2 → symbol_of w ≡ pick (eqb (get_or w 0 0) 60) (pick (eqb (get_or w 1 0) 60) 256 257) 257
+unfolding symbol_of
+symbol_two [] e = absurd (omega arith)
+symbol_two (b ∷ []) e = absurd (omega arith)
+symbol_two (b ∷ c ∷ []) e = refl
+symbol_two (b ∷ c ∷ d ∷ t) e = absurd (omega arith)
 
-  pub symbol_two :
-      end - start ≡ 2
-      → symbol_of (part start end s) ≡ pick (eqb (get_or s start 0) 60) (pick (eqb (get_or s (start + 1) 0) 60) 256 257) 257
-  unfolding symbol_of
-  symbol_two e =
-      let z : end ≡ start + 1 + 1 = omega arith in
-      rw (part_cons s start end (omega arith) l, part_cons s (start + 1) end (omega arith) l, z, part_empty s (start + 1 + 1))
+pub symbol_other : (w : Token) → (length w ≡ 1 → ⊥) → (length w ≡ 2 → ⊥) → 257 ≡ symbol_of w
+unfolding symbol_of
+symbol_other [] m n = refl
+symbol_other (b ∷ []) m n = absurd (m refl)
+symbol_other (b ∷ c ∷ []) m n = absurd (n refl)
+symbol_other (b ∷ c ∷ d ∷ t) m n = refl
 
-  pub symbol_more : start < end → (end - start ≡ 1 → ⊥) → (end - start ≡ 2 → ⊥) → symbol_of (part start end s) ≡ 257
-  unfolding symbol_of
-  symbol_more h m n =
-      rw (part_cons s start end h l, part_cons s (start + 1) end (omega arith) l, part_cons s (start + 1 + 1) end (omega arith) l)
+-- the cases of `symbol_of`
+pub ruleset symbols = (symbol_one, symbol_two, symbol_other)

@@ -1,9 +1,10 @@
 -- The division into tokens as a function, and what the code's parts say of it: proofs/Division.antt shows that `tokens` is the
 -- one division by the rule of Tokens. Definitions of the crates above use `tokens` and `alike`; the rest serves inner contracts.
-use Rattle.std.specs.Prelude.{ℕ, ◌-◌, ◌<◌, ◌≤◌, Bool, true, false, ◌≡◌, List, [], ◌∷◌, ◌++◌, length, take, drop, get_or, eqb, ltb}
+use Rattle.std.specs.Prelude.{ℕ, ◌-◌, ◌<◌, ◌≤◌, Bool, true, false, ◌≡◌, List, [], ◌∷◌, ◌++◌, length, take, drop, get_or, eqb, ltb, Option, Some, None}
 use Rattle.word.specs.Word.{pick}
 use Rattle.token.specs.declared.Token.{Token as Found}
-use Rattle.token.specs.declared.Token.TheVariants.{End, Here}
+use Rattle.token.specs.declared.Symbol.{Symbol}
+use Rattle.token.specs.declared.Symbol.TheVariants.{Byte, Shift, Row}
 use Rattle.token.specs.Ascii.{byte}
 use Rattle.token.specs.Tokens.{Token, is_letter_or_digit}
 
@@ -71,13 +72,21 @@ pub record Ended (s : List ℕ) (start r : ℕ) : Type 0 where
   pub order : start < r
   pub inside : r ≤ length s
 
--- what `token_at` says of a token that it finds
-pub record At (s : List ℕ) (at symbol start end : ℕ) : Type 0 where
-  pub split : tokens_at s at ≡ part start end s ∷ tokens_at s end
-  pub number : symbol ≡ symbol_of (part start end s)
-  pub order : start < end
-  pub inside : end ≤ length s
+-- the number of the code's symbol
+abbrev pub symbol_number : Symbol → ℕ
+symbol_number (Byte b) = b
+symbol_number Shift = 256
+symbol_number Row = 257
 
-abbrev pub TokenAt : List ℕ → ℕ → Found → Type 0
-TokenAt s at End = tokens_at s at ≡ []
-TokenAt s at (Here symbol start end) = At s at symbol start end
+-- what `token_at` says of a token that it finds
+pub record At (s : List ℕ) (at : ℕ) (t : Found) : Type 0 where
+  pub split : tokens_at s at ≡ t.word.now ∷ tokens_at s t.end
+  pub number : symbol_number t.symbol ≡ symbol_of t.word.now
+  pub bytes : t.word.now ≡ part (t.end - length t.word.now) t.end s
+  pub some : 0 < length t.word.now
+  pub before : length t.word.now ≤ t.end
+  pub inside : t.end ≤ length s
+
+abbrev pub TokenAt : List ℕ → ℕ → Option Found → Type 0
+TokenAt s at None = tokens_at s at ≡ []
+TokenAt s at (Some t) = At s at t

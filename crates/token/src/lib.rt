@@ -1,175 +1,136 @@
 // The tokens of a line of text, found one by one from a position on.
 #![tactic(auto)]
 
-ghost use Rattle.std.specs.Prelude.{◌≡◌, true, ◌⊎◌, ◌<◌, ◌≤◌, min, length, get_or};
-ghost use Rattle.token.specs.Tokens.{between, is_digit, is_letter, is_letter_or_digit};
-ghost use Rattle.token.specs.Scan.{symbol_of, part, alike, Skipped, Ended, TokenAt};
+ghost use Rattle.std.specs.Prelude.{◌≡◌, ◌==◌, true, ◌⊎◌, ◌<◌, ◌≤◌, length, get_or};
+ghost use Rattle.token.specs.Tokens.{is_digit, is_letter, is_letter_or_digit};
+ghost use Rattle.token.specs.Scan.{symbol_of, symbol_number, alike, Skipped, Ended, TokenAt};
 
-// The token at or after a position, if its line has one: its symbol is its byte, if it has one byte only, 256 if it is `<<`, and
-// else 257; its bytes stand from start to end.
+// What a token is known by: its byte where it has one byte only, `<<`, or that it is any other.
 #[derive(Clone, Copy)]
-pub enum Token {
-    End,
-    Here {
-        symbol: u16,
-        start: usize,
-        end: usize,
-    },
+pub enum Symbol {
+    Byte(u8),
+    Shift,
+    Row,
 }
 
-fn between(low: u8, high: u8, b: u8) -> bool
-    ensures { result ≡ between low high b }
-{
-    if low <= b {
-        return b <= high;
+impl Symbol {
+    pub fn is(self, b: u8) -> bool
+        ensures { result ≡ (symbol_number self == b) }
+    {
+        matches!(self, Self::Byte(c) if c == b)
     }
-    false
 }
 
+// A token of a text, its bytes, and where the text after it begins.
+#[derive(Clone, Copy)]
+pub struct Token<'a> {
+    pub symbol: Symbol,
+    pub word: &'a [u8],
+    pub end: usize,
+}
+
+#[tactic(auto, unfolding(crate::specs::Tokens::between, crate::specs::Tokens::is_digit))]
 pub fn is_digit(b: u8) -> bool
     ensures { result ≡ is_digit b }
 {
-    between(b'0', b'9', b)
+    b'0' <= b && b <= b'9'
 }
 
+#[tactic(auto, unfolding(crate::specs::Tokens::between, crate::specs::Tokens::is_letter))]
 pub fn is_letter(b: u8) -> bool
     ensures { result ≡ is_letter b }
 {
-    if between(b'A', b'Z', b) {
-        return true;
-    }
-    between(b'a', b'z', b)
+    b'A' <= b && b <= b'Z' || b'a' <= b && b <= b'z'
 }
 
+#[tactic(auto, unfolding(crate::specs::Tokens::is_letter_or_digit))]
 fn letter_or_digit(b: u8) -> bool
     ensures { result ≡ is_letter_or_digit b }
 {
-    if is_digit(b) {
-        return true;
-    }
-    is_letter(b)
+    is_digit(b) || is_letter(b)
 }
 
+#[tactic(auto, using(crate::proofs::Scanning::space_steps))]
 fn after_spaces(text: &[u8], at: usize) -> usize
     ensures { Skipped text.now at result }
 {
-    let mut i = at;
-    while i < text.len() {
+    for i in at..text.len() {
         if text[i] != b' ' {
             return i;
         }
-        i += 1;
     }
-    i
+    text.len()
 }
 
 // The end of the token that begins at start with a letter, a digit or a point: after the letters and digits that follow.
+#[tactic(auto, using(crate::proofs::Scanning::row_steps))]
 fn row_end(text: &[u8], start: usize) -> usize
     requires { (start < length text.now) × ((is_letter_or_digit (get_or text.now start 0) ≡ true) ⊎ (get_or text.now start 0 ≡ 46)) }
     ensures { Ended text.now start result }
 {
-    let mut i = start + 1;
-    while i < text.len() {
-        if letter_or_digit(text[i]) {
-            i += 1;
-        } else {
+    for i in start + 1..text.len() {
+        if !letter_or_digit(text[i]) {
             return i;
         }
     }
-    i
+    text.len()
 }
 
+#[tactic(auto, using(crate::proofs::Scanning::token_ends))]
 fn token_end(text: &[u8], start: usize) -> usize
     requires { (start < length text.now) × (get_or text.now start 0 ≡ 32 → ⊥) × (get_or text.now start 0 ≡ 10 → ⊥) }
     ensures { Ended text.now start result }
 {
     let first = text[start];
-    if letter_or_digit(first) {
-        return row_end(text, start);
-    }
-    if first == b'.' {
+    if letter_or_digit(first) || first == b'.' {
         return row_end(text, start);
     }
     let next = start + 1;
-    if first != b'<' {
-        return next;
+    if first == b'<' && next < text.len() && text[next] == b'<' {
+        return next + 1;
     }
-    if text.len() <= next {
-        return next;
-    }
-    if text[next] != b'<' {
-        return next;
-    }
-    next + 1
+    next
 }
 
-fn symbol_of(text: &[u8], start: usize, end: usize) -> u16
-    requires { (start < end) × (end ≤ length text.now) }
-    ensures { result ≡ symbol_of (part start end text.now) }
+#[tactic(auto, using(crate::proofs::Symbols::symbols))]
+fn symbol_of(word: &[u8]) -> Symbol
+    ensures { symbol_number result ≡ symbol_of word.now }
 {
-    let b = text[start];
-    if end - start == 1 {
-        return b as u16;
+    match word {
+        [b] => Symbol::Byte(*b),
+        [b'<', b'<'] => Symbol::Shift,
+        _ => Symbol::Row,
     }
-    if end - start != 2 {
-        return 257;
-    }
-    if b != b'<' {
-        return 257;
-    }
-    if text[start + 1] != b'<' {
-        return 257;
-    }
-    256
 }
 
-pub fn token_at(text: &[u8], at: usize) -> Token
+// The token at or after a position, if its line has one.
+#[tactic(auto, using(crate::proofs::Scanning::line_ends))]
+pub fn token_at(text: &[u8], at: usize) -> Option<Token<'_>>
     ensures { TokenAt text.now at result }
 {
     let start = after_spaces(text, at);
-    if text.len() <= start {
-        return Token::End;
-    }
-    if text[start] == b'\n' {
-        return Token::End;
+    if text.len() <= start || text[start] == b'\n' {
+        return None;
     }
     let end = token_end(text, start);
-    Token::Here {
-        symbol: symbol_of(text, start, end),
-        start,
+    let word = &text[start..end];
+    Some(Token {
+        symbol: symbol_of(word),
+        word,
         end,
-    }
+    })
 }
 
-fn lesser(x: usize, y: usize) -> usize
-    ensures { result ≡ min x y }
+// Whether two words have the same bytes. The last ones are compared first: many names differ only there.
+#[tactic(auto, using(crate::proofs::Alike::comparing))]
+pub fn same_bytes(a: &[u8], b: &[u8]) -> bool
+    ensures { result ≡ alike a.now b.now }
 {
-    if x < y { x } else { y }
-}
-
-// Whether a part of one text and a part of another, which may reach past its end, have the same bytes. The last ones are compared
-// first: many names differ only there.
-pub fn same_bytes(a: &[u8], start: usize, end: usize, b: &[u8], from: usize, to: usize) -> bool
-    requires { (start < end) × (end ≤ length a.now) }
-    ensures { result ≡ alike (part start end a.now) (part from to b.now) }
-{
-    let last = lesser(to, b.len());
-    if last <= from {
+    if let [.., x] = a
+        && let [.., y] = b
+        && *x != *y
+    {
         return false;
     }
-    if last - from != end - start {
-        return false;
-    }
-    if a[end - 1] != b[last - 1] {
-        return false;
-    }
-    let count = end - start;
-    let mut i = 0;
-    while i < count {
-        if a[start + i] != b[from + i] {
-            return false;
-        }
-        i += 1;
-    }
-    true
+    a == b
 }

@@ -1,24 +1,22 @@
 -- What the program `panelasm` writes for a text (02, L1 and L2): the trim file of its words, or the diagnostic of its refusal.
-use Rattle.std.specs.Prelude.{ℕ, List, [], replicate}
-use Rattle.printing.specs.Text.{in_array}
+use Rattle.std.specs.Prelude.{ℕ, List, replicate, Result, Ok, Err}
 use Rattle.machine.specs.Machine.{reset}
 use Rattle.save.specs.Saved.{SaveReply, saved, save_refused, save_left}
 use Rattle.assembler.specs.Text.{Reply, words, text_refused, assemble_left}
 use Rattle.diagnostic.specs.Diagnostic.{diagnostic_of}
-use Rattle.trimfile.specs.declared.Trim.{Trim}
 
--- the reply, and the destination, which the file stands at the front of
+-- the file's length or the diagnostic, and the destination, which the file stands at the front of
 pub record FileLeft : Type 0 where
-  pub trim : Trim
+  pub trim : Result ℕ (List ℕ)
   pub destination : List ℕ
 
 -- no file, and the diagnostic
-abbrev pub turned_away : List ℕ → ℕ → ℕ → Trim
-turned_away text line number = record { length = 0; diagnostic = in_array (diagnostic_of text line number) }
+abbrev pub turned_away : List ℕ → ℕ → ℕ → Result ℕ (List ℕ)
+turned_away text line number = Err (diagnostic_of text line number)
 
 -- a save has no line: the diagnostic says 0
-abbrev pub saved_by : List ℕ → SaveReply → Trim
-saved_by text (saved n) = record { length = n; diagnostic = in_array [] }
+abbrev pub saved_by : List ℕ → SaveReply → Result ℕ (List ℕ)
+saved_by text (saved n) = Ok n
 saved_by text (save_refused number) = turned_away text 0 number
 
 -- the program is saved with a data memory of zeros, for the board with two memories

@@ -12,8 +12,9 @@ use lib.ListN.{length, get_or}
 use Rattle.word.specs.Word.{pick, flag}
 use Rattle.word.specs.Fields.{opcode, e_of, f_of}
 use Rattle.kinds.specs.Kinds.{kinds, kind_number}
-use Rattle.isa.specs.declared.rows.Entry.{Entry}
-use Rattle.isa.specs.declared.rows.Entry.TheVariants.{Unassigned, Assigned}
+use Rattle.std.specs.Prelude.{Option}
+use Rattle.std.specs.declared.option.Option.TheVariants.{Some, None}
+use Rattle.kinds.specs.declared.Kind.{Kind}
 use Rattle.isa.specs.Sheet.{kind_at}
 use Rattle.machine.specs.Machine.{Machine, takes_line}
 use Rattle.machine.specs.Step.{fetched}
@@ -51,12 +52,12 @@ one_more j = first (eqb j 14) refl
     first true e = subst Of (sym (eqb-true j 14 e)) refl
     first false e = second e (eqb j 15) refl
 
-one_tick : (e : Entry) → pick (is_kind e 14 || is_kind e 15 || is_kind e 16 || is_kind e 17) 4 3 ≡ 3 + flag (is_kind e 14) + flag (is_kind e 15) + flag (is_kind e 16) + flag (is_kind e 17)
-one_tick Unassigned = refl
-one_tick (Assigned k) = one_more (kind_number k)
+one_tick : (e : Option Kind) → pick (is_kind e 14 || is_kind e 15 || is_kind e 16 || is_kind e 17) 4 3 ≡ 3 + flag (is_kind e 14) + flag (is_kind e 15) + flag (is_kind e 16) + flag (is_kind e 17)
+one_tick None = refl
+one_tick (Some k) = one_more (kind_number k)
 
 -- a machine that takes a line does no kind
-no_tick : (t : Bool) (e : Entry) → let is : ℕ → Bool = λ j. not t && is_kind e j in
+no_tick : (t : Bool) (e : Option Kind) → let is : ℕ → Bool = λ j. not t && is_kind e j in
     pick (is 14 || is 15 || is 16 || is 17) 4 3 ≡ 3 + flag (is 14) + flag (is 15) + flag (is 16) + flag (is 17)
 no_tick true e = refl
 no_tick false e = one_tick e

@@ -1,13 +1,12 @@
 -- The counts of a run (02, L5): over its trace, the machines before each step that it took, steps by kind, lines taken (L12), and reads and
 -- writes by register; and its ticks (L9).
-use Rattle.std.specs.Prelude.{ℕ, suc, ◌+◌, Bool, false, ◌||◌, List, [], ◌∷◌, eqb, replicate}
+use Rattle.std.specs.Prelude.{ℕ, suc, ◌+◌, Bool, false, ◌||◌, List, [], ◌∷◌, eqb, replicate, Option}
 use Rattle.word.specs.Fields.{opcode, e_of, f_of}
 use Rattle.word.specs.Word.{pick, flag}
 use Rattle.kinds.specs.declared.Kind.{Kind}
 use Rattle.kinds.specs.declared.Kind.TheVariants.{Ld, St, Ldb, Stb}
 use Rattle.kinds.specs.Kinds.{kind_count, kind_number}
-use Rattle.isa.specs.declared.rows.Entry.{Entry}
-use Rattle.isa.specs.declared.rows.Entry.TheVariants.{Unassigned, Assigned}
+use Rattle.std.specs.declared.option.Option.TheVariants.{Some, None}
 use Rattle.isa.specs.Sheet.{kind_at}
 use Rattle.isa.specs.Masks.{Masks, in_mask, masks_of}
 use Rattle.machine.specs.Machine.{Machine, takes_line}
@@ -18,9 +17,9 @@ use Rattle.usage.specs.declared.Usage.{Usage}
 -- ---- What a machine does next
 
 -- the entry is the kind with number j
-abbrev pub is_kind : Entry → ℕ → Bool
-is_kind (Assigned k) j = eqb (kind_number k) j
-is_kind Unassigned j = false
+abbrev pub is_kind : Option Kind → ℕ → Bool
+is_kind (Some k) j = eqb (kind_number k) j
+is_kind None j = false
 
 abbrev pub word_is : ℕ → ℕ → Bool
 word_is w j = is_kind (kind_at (opcode w) (e_of w) (f_of w)) j

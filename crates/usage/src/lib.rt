@@ -1,11 +1,13 @@
 // The counts of a run: steps by kind, lines taken, and reads and writes by register.
 #![tactic(auto)]
 
-ghost use Rattle.std.specs.Prelude.{◌≡◌, ◌<◌, ◌≤◌, eqb, length, get_or};
-ghost use Rattle.kinds.specs.Kinds.{kind_count};
+ghost use Rattle.std.specs.Prelude.{◌≡◌, ◌+◌, ◌<◌, eqb, length, get_or};
+ghost use Rattle.kinds.specs.Kinds.{kind_count, kind_number};
 ghost use Rattle.isa.specs.Masks.{masks_of};
-ghost use Rattle.usage.specs.Usage.{word_is, added, counted_by, counted, unused};
-ghost use Rattle.usage.specs.Counting.{counters, Below, Countable, either_of, counted_three, Few, ticks_counted};
+ghost use Rattle.usage.specs.Usage.{word_is, counted, unused};
+ghost use Rattle.usage.specs.Counting.{Countable, either_of, nowhere, raised, raised_by, counted_steps, Room, Few, ticks_counted};
+
+use kinds::Kind;
 
 #[repr(C)]
 #[derive(Clone, Copy)]
@@ -16,6 +18,23 @@ pub struct Usage {
     pub writes: [u64; 8],
 }
 
+// n more at k.
+fn add(xs: &mut [u64], k: usize, n: u64)
+    requires { (k < length xs.old) × (get_or xs.old k 0 + n < 18446744073709551616) }
+    ensures { xs.new ≡ raised n (eqb k) xs.old }
+{
+    xs[k] += n;
+}
+
+// A kind's place among the counts.
+#[tactic(auto, using(isa::proofs::Every::listed))]
+fn place(kind: Kind) -> usize
+    ensures { (result ≡ kind_number kind) × (result < kind_count) }
+{
+    usize::from(u8::from(kind))
+}
+
+// Of the methods with n, each counts n steps of a kind.
 impl Usage {
     pub fn none() -> Self
         ensures { result ≡ unused }
@@ -27,139 +46,145 @@ impl Usage {
             writes: [0; 8],
         }
     }
-}
 
-// Where an opcode's f has no kind.
-const NO: u8 = 34;
-
-// Opcode 1 by f: CMPLT, CMPLE, -, CMPEQ, CMPLTU, CMPLEU, -, -.
-const COMPARISONS: [u8; 8] = [8, 9, NO, 10, 11, 12, NO, NO];
-
-// Opcode 11 by f: MUL, MULH, MULHU, -, DIV, DIVU, -, -.
-const MULDIVS: [u8; 8] = [25, 26, 27, NO, 28, 29, NO, NO];
-
-// One more at k.
-fn add(xs: &mut [u64], k: usize)
-    requires { (k < length xs.old) × (get_or xs.old k 0 < 18446744073709551615) }
-    ensures { xs.new ≡ added (eqb k) xs.old }
-{
-    xs[k] += 1;
-}
-
-// A step of kind k that touches Rj.
-fn one(k: usize, j: usize, kinds: &mut [u64; kinds::COUNT], registers: &mut [u64; 8])
-    requires { (k < kind_count) × (j < 8) × Below kinds.old × Below registers.old }
-    ensures { (kinds.new ≡ added (eqb k) kinds.old) × (registers.new ≡ added (eqb j) registers.old) }
-{
-    add(kinds, k);
-    add(registers, j);
-}
-
-// A step of kind k that reads Ra and Rb: one read where the two are one register.
-fn two(k: usize, a: usize, b: usize, kinds: &mut [u64; kinds::COUNT], reads: &mut [u64; 8])
-    requires { (k < kind_count) × (a < 8) × (b < 8) × Below kinds.old × Below reads.old }
-    ensures { (kinds.new ≡ added (eqb k) kinds.old) × (reads.new ≡ added (either_of a b) reads.old) }
-{
-    one(k, a, kinds, reads);
-    if b != a {
-        add(reads, b);
+    // They touch no register.
+    fn touch_none(&mut self, kind: Kind, n: u64)
+        requires { Room n self.old }
+        ensures { self.new ≡ raised_by n (eqb (kind_number kind)) nowhere nowhere self.old }
+    {
+        add(&mut self.kinds, place(kind), n);
     }
-}
 
-// A step of kind k that reads Ra and writes Rd.
-fn ad(
-    k: usize,
-    a: usize,
-    d: usize,
-    kinds: &mut [u64; kinds::COUNT],
-    reads: &mut [u64; 8],
-    writes: &mut [u64; 8],
-)
-    requires k_lt_kind_count { (k < kind_count) × (a < 8) × (d < 8) }
-    requires countable { Countable (counters kinds.old reads.old writes.old) }
-    ensures { counters kinds.new reads.new writes.new ≡ counted_by (eqb k) (eqb a) (eqb d) (counters kinds.old reads.old writes.old) }
-{
-    one(k, a, kinds, reads);
-    add(writes, d);
-}
-
-// A step of kind k that reads Ra and Rb and writes Rd, or none where k is NO.
-fn abd(
-    k: usize,
-    a: usize,
-    b: usize,
-    d: usize,
-    kinds: &mut [u64; kinds::COUNT],
-    reads: &mut [u64; 8],
-    writes: &mut [u64; 8],
-)
-    requires k_le_kind_count { (k ≤ kind_count) × (a < 8) × (b < 8) × (d < 8) }
-    requires countable { Countable (counters kinds.old reads.old writes.old) }
-    ensures { counters kinds.new reads.new writes.new ≡ counted_three k a b d (counters kinds.old reads.old writes.old) }
-{
-    if k != NO as usize {
-        two(k, a, b, kinds, reads);
-        add(writes, d);
+    // They read Ra.
+    fn read_one(&mut self, kind: Kind, a: usize, n: u64)
+        requires { (a < 8) × Room n self.old }
+        ensures { self.new ≡ raised_by n (eqb (kind_number kind)) (eqb a) nowhere self.old }
+    {
+        add(&mut self.kinds, place(kind), n);
+        add(&mut self.reads, a, n);
     }
-}
 
-// One step more, of the word w.
-pub fn tally(w: u16, kinds: &mut [u64; kinds::COUNT], reads: &mut [u64; 8], writes: &mut [u64; 8])
-    requires { Countable (counters kinds.old reads.old writes.old) }
-    ensures { counters kinds.new reads.new writes.new ≡ counted (word_is w) (masks_of w) (counters kinds.old reads.old writes.old) }
-{
-    let a = (w / 512 % 8) as usize;
-    let b = (w / 64 % 8) as usize;
-    let e = (w / 256 % 2) as usize;
-    let d = (w / 8 % 8) as usize;
-    let f = (w % 8) as usize;
-    match w / 4096 {
-        0 => {
-            if f == 3 {
-                ad(3, a, d, kinds, reads, writes)
-            } else {
-                abd(f, a, b, d, kinds, reads, writes)
-            }
+    // They write Rd.
+    fn write_one(&mut self, kind: Kind, d: usize, n: u64)
+        requires { (d < 8) × Room n self.old }
+        ensures { self.new ≡ raised_by n (eqb (kind_number kind)) nowhere (eqb d) self.old }
+    {
+        add(&mut self.kinds, place(kind), n);
+        add(&mut self.writes, d, n);
+    }
+
+    // They read Ra and Rb: one read where the two are one register.
+    fn read_two(&mut self, kind: Kind, a: usize, b: usize, n: u64)
+        requires { (a < 8) × (b < 8) × Room n self.old }
+        ensures { self.new ≡ raised_by n (eqb (kind_number kind)) (either_of a b) nowhere self.old }
+    {
+        add(&mut self.kinds, place(kind), n);
+        add(&mut self.reads, a, n);
+        if b != a {
+            add(&mut self.reads, b, n);
         }
-        1 => abd(COMPARISONS[f] as usize, a, b, d, kinds, reads, writes),
-        2 => ad(13, a, b, kinds, reads, writes),
-        3 => ad(14, a, b, kinds, reads, writes),
-        4 => two(15, a, b, kinds, reads),
-        5 => ad(16, a, b, kinds, reads, writes),
-        6 => two(17, a, b, kinds, reads),
-        7 => ad(18, a, b, kinds, reads, writes),
-        8 => one(19 + e, a, kinds, reads),
-        9 => {
-            one(21 + e, a, kinds, writes);
-            if e == 1 {
-                add(reads, a);
-            }
-        }
-        10 => {
-            if e == 0 {
-                one(23, a, kinds, writes)
-            } else {
-                one(24, a, kinds, reads)
-            }
-        }
-        11 => abd(MULDIVS[f] as usize, a, b, d, kinds, reads, writes),
-        12 => {
-            if f < 3 {
-                add(kinds, 30 + f)
-            } else {
+    }
+
+    // They read Ra and write Rd.
+    fn compute_one(&mut self, kind: Kind, a: usize, d: usize, n: u64)
+        requires { (a < 8) × (d < 8) × Room n self.old }
+        ensures { self.new ≡ raised_by n (eqb (kind_number kind)) (eqb a) (eqb d) self.old }
+    {
+        self.read_one(kind, a, n);
+        add(&mut self.writes, d, n);
+    }
+
+    // They read Ra and Rb and write Rd.
+    fn compute_two(&mut self, kind: Kind, a: usize, b: usize, d: usize, n: u64)
+        requires { (a < 8) × (b < 8) × (d < 8) × Room n self.old }
+        ensures { self.new ≡ raised_by n (eqb (kind_number kind)) (either_of a b) (eqb d) self.old }
+    {
+        self.read_two(kind, a, b, n);
+        add(&mut self.writes, d, n);
+    }
+
+    // n steps more, of the word w. (Inlined, since a run calls it for each of its steps, by an n that is known.)
+    #[inline(always)]
+    pub fn count_steps(&mut self, w: u16, n: u64)
+        requires { Room n self.old }
+        ensures { self.new ≡ counted_steps n w self.old }
+    {
+        let a = (w / 512 % 8) as usize;
+        let b = (w / 64 % 8) as usize;
+        let e = w / 256 % 2;
+        let d = (w / 8 % 8) as usize;
+        let f = w % 8;
+        match w / 4096 {
+            0 => {
                 if f == 3 {
-                    one(33, d, kinds, writes)
+                    self.compute_one(Kind::Not, a, d, n)
+                } else if let Some(kind) = isa::rows::kind_of(w) {
+                    self.compute_two(kind, a, b, d, n)
                 }
             }
+            1 | 11 => {
+                if let Some(kind) = isa::rows::kind_of(w) {
+                    self.compute_two(kind, a, b, d, n)
+                }
+            }
+            2 => self.compute_one(Kind::Addi, a, b, n),
+            3 => self.compute_one(Kind::Ld, a, b, n),
+            4 => self.read_two(Kind::St, a, b, n),
+            5 => self.compute_one(Kind::Ldb, a, b, n),
+            6 => self.read_two(Kind::Stb, a, b, n),
+            7 => self.compute_one(Kind::Jalr, a, b, n),
+            8 => {
+                let kind = if e == 0 { Kind::Bz } else { Kind::Bnz };
+                self.read_one(kind, a, n)
+            }
+            9 => {
+                if e == 0 {
+                    self.write_one(Kind::Movi, a, n)
+                } else {
+                    self.compute_one(Kind::Movhi, a, a, n)
+                }
+            }
+            10 => {
+                if e == 0 {
+                    self.write_one(Kind::In, a, n)
+                } else {
+                    self.read_one(Kind::Out, a, n)
+                }
+            }
+            12 => {
+                if f == 3 {
+                    self.write_one(Kind::Getiid, d, n)
+                } else if let Some(kind) = isa::rows::kind_of(w) {
+                    self.touch_none(kind, n)
+                }
+            }
+            _ => {}
         }
-        _ => {}
     }
-}
 
-// The ticks of so many steps: one more for each LD, ST, LDB and STB.
-pub fn ticks(steps: u32, kinds: &[u64; kinds::COUNT]) -> u64
-    requires { Few kinds.now }
-    ensures { result ≡ ticks_counted steps kinds.now }
-{
-    3 * (steps as u64) + kinds[14] + kinds[15] + kinds[16] + kinds[17]
+    // One step more, of the word w.
+    #[inline(always)]
+    pub fn tally(&mut self, w: u16)
+        requires { Countable self.old }
+        ensures { self.new ≡ counted (word_is w) (masks_of w) self.old }
+    {
+        self.count_steps(w, 1)
+    }
+
+    // How many steps were of a kind.
+    fn steps_of(&self, kind: Kind) -> u64
+        ensures { result ≡ get_or self.now.kinds (kind_number kind) 0 }
+    {
+        self.kinds[place(kind)]
+    }
+
+    // The ticks of so many steps: one more for each LD, ST, LDB and STB.
+    pub fn ticks(&self, steps: u32) -> u64
+        requires { Few self.now.kinds }
+        ensures { result ≡ ticks_counted steps self.now.kinds }
+    {
+        let loads = self.steps_of(Kind::Ld) + self.steps_of(Kind::Ldb);
+        let stores = self.steps_of(Kind::St) + self.steps_of(Kind::Stb);
+        3 * u64::from(steps) + loads + stores
+    }
 }

@@ -1,21 +1,21 @@
 // Arithmetic on 16-bit words: what both engines and the instruction reader share.
 #![tactic(auto)]
 
-ghost use Rattle.std.specs.Prelude.{◌≡◌, ◌*◌, ◌<◌, int_le, int_lt};
+ghost use Rattle.std.specs.Prelude.{◌≡◌, ◌*◌, ◌<◌};
 ghost use Rattle.word.specs.Fields.{N6, N8};
 ghost use Rattle.word.specs.Codes.{below6_but};
-ghost use Rattle.word.specs.Word.{flag, add, subtract, clear0, signed, SE, shifted, amount, sha, shl, operation, comparison};
+ghost use Rattle.word.specs.Word.{add, subtract, clear0, SE, shifted, amount, sha, shl, operation, comparison};
 
 pub fn sum(x: u16, y: u16) -> u16
     ensures { result ≡ add x y }
 {
-    std::num::wrapping_add_u16(x, y)
+    x.wrapping_add(y)
 }
 
 pub fn difference(x: u16, y: u16) -> u16
     ensures { result ≡ subtract x y }
 {
-    std::num::wrapping_sub_u16(x, y)
+    x.wrapping_sub(y)
 }
 
 pub fn clear_bit0(x: u16) -> u16
@@ -44,7 +44,7 @@ pub fn extend8(w: u16) -> u16
 pub fn target(pc: u16, offset: u16) -> u16
     ensures { result ≡ add (add pc 2) (offset * 2) }
 {
-    (((pc as u32) + 2 + 2 * (offset as u32)) % 65536) as u16
+    pc.wrapping_add(2).wrapping_add(offset.wrapping_mul(2))
 }
 
 // Where the branch w at pc goes.
@@ -69,6 +69,7 @@ fn shift(fill: u32, x: u16, y: u16) -> u16
     }
 }
 
+// Right, the places that come free get bit 15 of x.
 pub fn shift_arithmetic(x: u16, y: u16) -> u16
     ensures { result ≡ sha x y }
 {
@@ -81,26 +82,8 @@ pub fn shift_logical(x: u16, y: u16) -> u16
     shift(0, x, y)
 }
 
-// The order of words read as signed is the order of these.
-fn sign_key(x: u16) -> u16
-    ensures { result ≡ add x 32768 }
-{
-    std::num::wrapping_add_u16(x, 32768)
-}
-
-pub fn less_signed(x: u16, y: u16) -> u16
-    ensures { result ≡ flag (int_lt (signed 16 x) (signed 16 y)) }
-{
-    (sign_key(x) < sign_key(y)) as u16
-}
-
-pub fn less_or_equal_signed(x: u16, y: u16) -> u16
-    ensures { result ≡ flag (int_le (signed 16 x) (signed 16 y)) }
-{
-    (sign_key(x) <= sign_key(y)) as u16
-}
-
 // The operations of opcode 0, by f; 0 where f is over 7.
+#[tactic(auto, unfolding(crate::specs::Word::operation))]
 pub fn operate(f: u16, x: u16, y: u16) -> u16
     ensures { result ≡ operation f x y }
 {
@@ -118,12 +101,13 @@ pub fn operate(f: u16, x: u16, y: u16) -> u16
 }
 
 // The comparisons of opcode 1, by f; 0 where f is not one of theirs.
+#[tactic(auto, unfolding(crate::specs::Word::comparison), using(crate::proofs::Signed::cast_is))]
 pub fn compare(f: u16, x: u16, y: u16) -> u16
     ensures { result ≡ comparison f x y }
 {
     match f {
-        0 => less_signed(x, y),
-        1 => less_or_equal_signed(x, y),
+        0 => (x.cast_signed() < y.cast_signed()) as u16,
+        1 => (x.cast_signed() <= y.cast_signed()) as u16,
         3 => (x == y) as u16,
         4 => (x < y) as u16,
         5 => (x <= y) as u16,
@@ -135,5 +119,5 @@ pub fn compare(f: u16, x: u16, y: u16) -> u16
 pub fn is_below_6_but(gap: u16, f: u16) -> bool
     ensures { result ≡ below6_but gap f }
 {
-    if f == gap { false } else { f < 6 }
+    f != gap && f < 6
 }

@@ -1,25 +1,32 @@
--- The loop undoes the entries (`Undoing`); the measure is how many are left.
+-- The loop undoes the entries (`Undoing`), from the last down to `at`.
+use mathlib.Core.Path.{◌≡◌, refl, sym, ◌∙◌}
+use Prim.Native.Nat.{◌+◌, ◌-◌}
 use native.Mathlib.Omega.{arith}
-use borrow.Author.Rules.{rules}
+use Rattle.bus.proofs.Same.{then_bus}
 use Rattle.back.proofs.Turns.{start, room, turn, counted, ends}
 use Rattle.back.proofs.go_back.Goals as goal
 
-pub loop-left-init : goal.loop-left-init
-loop-left-init c = start c.requires
-
-pub offset_bounds-journal-at : goal.offset_bounds-journal-at
-offset_bounds-journal-at c = search (rules, c.loop-left.invariant.within c.loop-left-test.true)
-
-pub bounds-journal-at : goal.bounds-journal-at
-bounds-journal-at c =
-    let v = c.loop-left.invariant in
-    omega (arith, c.loop-left-test.true, v.enough, v.within c.loop-left-test.true)
+pub loop-at-init : goal.loop-at-init
+loop-at-init c =
+    let a = c.args in
+    let l = a.bus.now.lengths in
+    let all : a.start.journaled + a.k - a.start.journaled ≡ a.k = omega arith in
+    (rw all (start record { memory = l.0; inputs = l.1; outputs = l.2; held = c.requires }), record { memory = refl; inputs = refl; outputs = refl })
 
 pub overflow_add-fallen : goal.overflow_add-fallen
-overflow_add-fallen c = record { fits = room c.loop-left.invariant c.loop-left-test.true c.ranges.k.fits c.is_output.result }
+overflow_add-fallen c = record { fits = room c.loop-at.invariant.0 (omega arith) c.ranges.k.fits c.is_output.result }
 
-pub loop-left-preserved : goal.loop-left-preserved
-loop-left-preserved c = turn c.loop-left.invariant c.loop-left-test.true c.undo-state.auto.memory c.undo-state.auto.inputs c.undo-state.auto.outputs c.undo-state.ensures (counted _ c.is_output.ensures)
+pub loop-at-preserved : goal.loop-at-preserved
+loop-at-preserved c =
+    let a = c.args in
+    let less : c.loop-at.at - 1 + a.k - a.start.journaled ≡ c.loop-at.at + a.k - a.start.journaled - 1 = omega arith in
+    let before = c.loop-at.bus.lengths in
+    let after = c.undo-state.new.bus.lengths in (
+      rw less
+          (turn c.loop-at.invariant.0 (omega arith) (after.0 ∙ sym before.0) (after.1 ∙ sym before.1) (after.2 ∙ sym before.2) c.undo-state.ensures.undone
+          (counted _ c.is_output.ensures)),
+      then_bus c.loop-at.invariant.1 c.undo-state.ensures.same,
+    )
 
-pub returns : goal.returns
-returns c = ends c.loop-left.invariant (omega (arith, c.loop-left-test.false)) c.with_journaled.ensures
+pub returns-clause-gone : goal.returns-clause-gone
+returns-clause-gone c = ends c.loop-at.invariant.0 (omega arith) c.with_journaled.ensures

@@ -9,5 +9,5 @@ returns-then-line-eq0 c = no_source _ c.if-line-eq0.true
 
 pub returns : goal.returns
 returns c =
-    source_is _ c.if-line-eq0.false c.line_start-at.ensures
+    source_is _ c.if-line-eq0.false c.line_of.ensures
     (at_most (omega arith) (c.with_word.ensures then c.with_line.ensures then c.with_byte.ensures))

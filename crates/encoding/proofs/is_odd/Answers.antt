@@ -1,12 +1,14 @@
 -- By the field.
-use Prim.Native.Nat.{◌%◌}
-use mathlib.Core.Path.{◌∙◌, ap}
-use lib.Dec.{eqb}
-use Rattle.encoding.proofs.Fields.{odd_target, odd_other}
+use Rattle.std.proofs.Common.{rules}
+use Rattle.std.proofs.lemmas.Grind.{common_steps}
+use native.Mathlib.Omega.{arith}
+use Rattle.encoding.specs.Words.{odd}
 use Rattle.encoding.proofs.is_odd.Goals as goal
 
-pub returns-then-field-eq2 : goal.returns-then-field-eq2
-returns-then-field-eq2 c = ap (λ d. eqb (d % 2) 1) c.distance.ensures ∙ odd_target _ _ c.if-field-eq2.true
+pub returns-in-Target : goal.returns-in-Target
+unfolding odd
+returns-in-Target c = search rules
 
-pub returns : goal.returns
-returns c = odd_other _ _ c.if-field-eq2.false
+pub returns-in-Number : goal.returns-in-Number
+unfolding odd
+returns-in-Number c = grind (arith, common_steps)

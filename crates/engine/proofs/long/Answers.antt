@@ -3,8 +3,8 @@ use borrow.Author.Rules.{rules}
 use Rattle.engine.proofs.Refusals.{counts_long, zeros}
 use Rattle.engine.proofs.long.Goals as goal
 
-pub run-ran-requires : goal.run-ran-requires
-run-ran-requires c = zeros 17408
+pub tallied-ran-requires : goal.tallied-ran-requires
+tallied-ran-requires g c = zeros 17408
 
 pub returns : goal.returns
-returns c = counts_long _ _ c.run-ran.new.counts c.run-ran.result.usage c.run-ran.ensures (search rules) c.fold.ensures
+returns g c = counts_long _ _ c.tallied-ran.new.counts c.tallied-ran.result.usage c.tallied-ran.ensures (search rules) c.fold.ensures

@@ -3,4 +3,4 @@ use Rattle.run.proofs.Uncounted.{uncounted}
 use Rattle.engine.proofs.run_by_control.Goals as goal
 
 pub returns : goal.returns
-returns c = uncounted _ _ c.run-ran.ensures
+returns c = uncounted _ _ c.tallied-ran.ensures

@@ -1,24 +1,19 @@
 -- By the rank of the token at the position.
-use Rattle.std.proofs.Common.{ℕ, ◌≤◌, sym, arith}
-use Rattle.expression.specs.Reading.{rank_by, JoinedBy}
-use Rattle.expression.proofs.After.{no_operator, operator, other_operator}
-use Rattle.expression.proofs.Climb.{no_join, join_is}
+use Rattle.std.proofs.Common.{arith}
+use Rattle.expression.proofs.After.{no_token, no_operator, other_rank}
 use Rattle.expression.proofs.operator_at.Goals as goal
+use Rattle.expression.proofs.operator_at.Goals.{else-low-rank-via-then-low-rank+else-rank-high, else-low-rank-via-else-low-rank}
 
-pub returns-in_default : goal.returns-in_default
-returns-in_default c = (λ k l h e. no_operator _ _ _ c.token_at-t.ensures c.in_default.is k (omega (arith, c.requires)), λ symbol end e. no_join e)
+pub returns-in_err-t : goal.returns-in_err-t
+returns-in_err-t c = rw c.from_residual.ensures (no_token _ _ _ _ c.in_err-t.ensures c.requires)
 
-pub returns-then-rank-low : goal.returns-then-rank-low
-returns-then-rank-low c = (λ k l h e. other_operator _ _ _ c.token_at-t.ensures c.in-Here.is c.rank_of-rank.ensures (λ z. omega (arith, c.if-rank-low.true)), λ symbol end e. no_join e)
-
-pub returns-then-high-rank : goal.returns-then-high-rank
-returns-then-high-rank c = (λ k l h e. other_operator _ _ _ c.token_at-t.ensures c.in-Here.is c.rank_of-rank.ensures (λ z. omega (arith, c.if-high-rank.true)), λ symbol end e. no_join e)
+pub returns-in_err-operator : goal.returns-in_err-operator
+returns-in_err-operator c = rw c.from_residual-in_err-operator.ensures (no_operator _ _ _ c.in_ok-t.ensures _ _ c.in_err-operator.ensures c.requires)
 
 pub returns : goal.returns
 returns c =
-    let a = c.args in (
-      λ k l h e. no_join (sym e),
-      λ symbol end e.
-          join_is (λ (s z : ℕ). JoinedBy a.text.now a.at (rank_by s) s z × (a.low ≤ rank_by s) × (rank_by s ≤ a.high)) e
-          (operator _ _ _ c.token_at-t.ensures c.in-Here.is c.rank_of-rank.ensures c.rank_of-rank.ensures, omega (arith, c.rank_of-rank.ensures, c.if-rank-low.false), omega (arith, c.rank_of-rank.ensures, c.if-high-rank.false)),
-    )
+    other_rank _ _ _ c.in_ok-t.ensures _ c.in_ok-operator.ensures _ _
+    (λ l h. elim c.else-low-rank.branch [
+      | else-low-rank-via-then-low-rank+else-rank-high w ↦ omega (arith, c.rank-rank.ensures, w.if-rank-high.false)
+      | else-low-rank-via-else-low-rank w ↦ omega (arith, c.rank-rank.ensures, w.if-low-rank.false)
+    ])

@@ -11,5 +11,6 @@ fill-requires c = let f = fits _ c.requires in (f.file, f.program, f.memory, f.h
 pub returns : goal.returns
 returns c =
     let f = fits _ c.requires in
-    accepted_left_lem _ _ _ (c.with_range.ensures ∙ ap (with_range c.args.range) c.reset_on.ensures) c.fill.ensures.0 c.fill.ensures.1 (ports_left f.inputs c.zero_ports.ensures)
-    (ports_left f.outputs c.zero_ports-2.ensures)
+    accepted_left_lem _ _ _ (c.with_range.ensures ∙ ap (with_range c.args.range) c.reset_on.ensures) c.fill.ensures.0 c.fill.ensures.1
+    (ports_left f.inputs (c.fill-2.ensures.after (λ y e. e)))
+    (ports_left f.outputs (c.fill-3.ensures.after (λ y e. e)))

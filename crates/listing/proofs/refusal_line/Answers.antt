@@ -5,5 +5,5 @@ use Rattle.listing.proofs.refusal_line.Goals as goal
 pub returns-then-k-eq0 : goal.returns-then-k-eq0
 returns-then-k-eq0 c = first_line_lem _ c.if-k-eq0.true c.refused.ensures
 
-pub returns : goal.returns
-returns c = no_other_line _ c.if-k-eq0.false c.empty.ensures
+pub returns-else-k-eq0 : goal.returns-else-k-eq0
+returns-else-k-eq0 c = no_other_line _ c.if-k-eq0.false

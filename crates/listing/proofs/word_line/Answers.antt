@@ -15,7 +15,7 @@ pub program_part-part-requires : goal.program_part-part-requires
 program_part-part-requires c = (fits _ c.requires).header
 
 pub returns-then-part-k : goal.returns-then-part-k
-returns-then-part-k c = no_word _ c.program_part-part.ensures c.if-part-k.true c.empty.ensures
+returns-then-part-k c = no_word _ c.program_part-part.ensures c.if-part-k.true
 
 pub word_from-word-requires : goal.word_from-word-requires
 word_from-word-requires c = word_inside _ c.program_part-part.ensures (fits _ c.requires) c.if-part-k.false

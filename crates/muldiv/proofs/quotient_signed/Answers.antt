@@ -1,27 +1,19 @@
--- `muldiv::quotient_signed` meets its contract, by the law of the signed quotient.
-use Prim.Native.Nat.{◌/◌}
+-- By the law of the signed quotient.
+use mathlib.Core.Path.{◌∙◌}
 use native.Mathlib.Omega.{arith}
-use borrow.Author.Tests.{eq-eqb, ne_eqb}
-use Rattle.muldiv.proofs.Quotients.{div_is}
+use mir.Syntax.{w16}
+use mir.Val.{of_z}
+use Rattle.muldiv.proofs.Products.{kept}
+use Rattle.muldiv.proofs.Quotients.{div_is, by_zero}
 use Rattle.muldiv.proofs.quotient_signed.Goals as goal
 
-pub returns-then-x-y : goal.returns-then-x-y
-returns-then-x-y c =
-    let a = c.args in
-    rw (
-      c.quotient-q.ensures,
-      c.magnitude-2.ensures,
-      c.magnitude.ensures,
-    )
-    (rw (eq-eqb (a.x / 32768) (a.y / 32768) (omega arith)) at (div_is a.x a.y (omega arith) (omega arith)))
+pub returns-then-y-eq0 : goal.returns-then-y-eq0
+returns-then-y-eq0 c = rw c.if-y-eq0.true (by_zero c.args.x)
 
-pub returns-else-x-y : goal.returns-else-x-y
-returns-else-x-y c =
+pub returns-else-y-eq0 : goal.returns-else-y-eq0
+returns-else-y-eq0 c =
     let a = c.args in
-    rw (
-      c.difference.ensures,
-      c.quotient-q.ensures,
-      c.magnitude-2.ensures,
-      c.magnitude.ensures,
-    )
-    (rw (ne_eqb (a.x / 32768) (a.y / 32768) (omega arith)) at (div_is a.x a.y (omega arith) (omega arith)))
+    c.cast_unsigned.ensures
+    ∙ (λ i. of_z w16 (kept w16 c.wrapping_div-q.result c.wrapping_div-q.type_inv i))
+    ∙ (λ i. of_z w16 (c.wrapping_div-q.ensures i))
+    ∙ div_is a.x a.y _ _ (omega arith) (omega arith) c.cast_signed.ensures c.cast_signed-else-y-eq0.ensures c.cast_signed.type_inv c.cast_signed-else-y-eq0.type_inv

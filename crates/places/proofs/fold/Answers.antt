@@ -1,27 +1,29 @@
--- Place by place, 64 at a time where nothing is counted.
-use mathlib.Core.Path.{refl, ap}
+-- Place by place, a block at a time where nothing is counted.
+use mathlib.Core.Path.{◌≡◌, refl, ap, subst}
+use Prim.Native.Nat.{◌+◌, ◌*◌}
 use native.Mathlib.Omega.{arith}
 use Rattle.places.specs.Places.{with_taken}
-use Rattle.places.proofs.Folding.{fold_starts, fold_skips, fold_room, fold_counts, fold_ends}
+use Rattle.places.proofs.Folding.{Folding, fold_starts, fold_skips, fold_counts, fold_ends}
 use Rattle.places.proofs.fold.Goals as goal
+use Rattle.places.proofs.fold.Goals.{then-not-is_empty+else-loop-place-test, else-not-is_empty}
 
-pub loop-at-init : goal.loop-at-init
-loop-at-init c = fold_starts _ c.requires
+pub loop-block-init : goal.loop-block-init
+loop-block-init c = rw c.none-usage.ensures (fold_starts c.args.counts.now c.requires)
 
-pub loop-at-preserved-then-can_skip : goal.loop-at-preserved-then-can_skip
-loop-at-preserved-then-can_skip c =
-    let h = c.can_skip.ensures c.if-can_skip.true in
-    fold_skips c.loop-at.invariant h.0 h.1
+pub loop-place-preserved : goal.loop-place-preserved
+loop-place-preserved c = fold_counts c.loop-place.invariant (omega (arith, c.type_inv.counts c.loop-place.place)) (omega arith) refl c.count_place.ensures
 
-pub count_place-requires : goal.count_place-requires
-count_place-requires c =
-    record {
-      place_bound = omega (arith, c.loop-at-test.true);
-      room = fold_room c.loop-at.invariant (omega (arith, c.type_inv.counts c.loop-at.at)) (omega (arith, c.loop-at-test.true));
-    }
-
-pub loop-at-preserved : goal.loop-at-preserved
-loop-at-preserved c = fold_counts c.loop-at.invariant (omega (arith, c.type_inv.counts c.loop-at.at)) (omega (arith, c.loop-at-test.true)) refl c.count_place.ensures
+pub loop-block-preserved : goal.loop-block-preserved
+loop-block-preserved c =
+    let counts = c.args.counts.now in
+    let next : c.loop-block.block * 64 + 64 ≡ (c.loop-block.block + 1) * 64 = omega arith in
+    elim c.if-not-is_empty.branch [
+      | then-not-is_empty+else-loop-place-test w ↦
+          let end : w.loop-place.place ≡ (c.loop-block.block + 1) * 64 = omega arith in
+          rw w.usage-is (subst (λ k. Folding counts k w.loop-place.usage) end w.loop-place.invariant)
+      | else-not-is_empty w ↦
+          rw w.usage-is (subst (λ k. Folding counts k c.loop-block.usage) next (fold_skips c.loop-block.invariant (omega arith) (c.is_empty.ensures w.if-not-is_empty.false)))
+    ]
 
 pub returns : goal.returns
-returns c = ap (with_taken c.args.taken) (fold_ends c.loop-at.invariant (omega (arith, c.loop-at-test.false)))
+returns c = ap (with_taken c.args.taken) (fold_ends c.loop-block.invariant (omega (arith, c.loop-block-test.false)))

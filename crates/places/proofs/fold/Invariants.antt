@@ -1,11 +1,10 @@
--- Place by place, 64 at a time where nothing is counted.
-use Prim.Native.Nat.{◌-◌}
-use Rattle.usage.specs.Counting.{counters}
+-- Place by place, a block at a time where nothing is counted.
+use Prim.Native.Nat.{◌*◌}
 use Rattle.places.proofs.Folding.{Folding}
 use Rattle.places.proofs.fold.Given as goal
 
-abbrev pub invariant-loop-at : goal.invariant-loop-at
-invariant-loop-at l = Folding l.counts l.at (counters l.kinds l.reads l.writes)
+abbrev pub invariant-loop-block : goal.invariant-loop-block
+invariant-loop-block l = Folding l.counts (l.block * 64) l.usage
 
-abbrev pub decreases-loop-at : goal.decreases-loop-at
-decreases-loop-at l = 17408 - l.at
+abbrev pub invariant-loop-place : goal.invariant-loop-place
+invariant-loop-place l = Folding l.counts l.place l.usage

@@ -9,6 +9,6 @@ unfolding refused_line
 returns c =
     wrote_held c.empty.ensures
     (c.with_word.ensures
-    then (rw c.number-number.ensures at c.with_decimal.ensures)
+    then (rw c.from-number.ensures at c.with_decimal.ensures)
     then c.with_byte.ensures)
     (omega arith)

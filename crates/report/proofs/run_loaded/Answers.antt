@@ -8,16 +8,16 @@ use Rattle.report.proofs.Runs.{entries_fit, part_fits, stopped_lines_lem, refuse
 use Rattle.report.proofs.run_loaded.Goals as goal
 
 pub slice_bounds-log-end : goal.slice_bounds-log-end
-slice_bounds-log-end c = entries_fit _ _ (uncounted _ _ c.run_by_table-ran.ensures) (ap shown_answer c.in-Stopped.is)
+slice_bounds-log-end c = entries_fit _ _ (uncounted _ _ c.run_by_table-ran.ensures) (ap shown_answer c.in-Ok.is)
 
 pub slice_bounds-stopped-end : goal.slice_bounds-stopped-end
-slice_bounds-stopped-end c = sym (length-take-le _ _ (entries_fit _ _ (uncounted _ _ c.run_by_table-ran.ensures) (ap shown_answer c.in-Stopped.is)))
+slice_bounds-stopped-end c = sym (length-take-le _ _ (entries_fit _ _ (uncounted _ _ c.run_by_table-ran.ensures) (ap shown_answer c.in-Ok.is)))
 
 pub stopped-requires : goal.stopped-requires
-stopped-requires c = part_fits _ _ (entries_fit _ _ (uncounted _ _ c.run_by_table-ran.ensures) (ap shown_answer c.in-Stopped.is)) (search rules)
+stopped-requires c = part_fits _ _ (entries_fit _ _ (uncounted _ _ c.run_by_table-ran.ensures) (ap shown_answer c.in-Ok.is)) (search rules)
 
-pub returns-in-Stopped : goal.returns-in-Stopped
-returns-in-Stopped c = stopped_lines_lem _ _ (uncounted _ _ c.run_by_table-ran.ensures) (ap shown_answer c.in-Stopped.is) c.stopped.ensures
+pub returns-in-Ok : goal.returns-in-Ok
+returns-in-Ok c = stopped_lines_lem _ _ (uncounted _ _ c.run_by_table-ran.ensures) (ap shown_answer c.in-Ok.is) c.stopped.ensures
 
-pub returns-in-Refused : goal.returns-in-Refused
-returns-in-Refused c = refused_lines _ _ (uncounted _ _ c.run_by_table-ran.ensures) (ap shown_answer c.in-Refused.is) c.refused.ensures
+pub returns-in-Err : goal.returns-in-Err
+returns-in-Err c = refused_lines _ _ (uncounted _ _ c.run_by_table-ran.ensures) (ap shown_answer c.in-Err.is) c.refused.ensures

@@ -1,6 +1,5 @@
 -- `rules::arithmetic` meets its contract: the opcode chooses.
 use mathlib.Core.Path.{refl}
-use native.Mathlib.Omega.{arith}
 use Rattle.word.specs.Fields.{f_of}
 use Rattle.word.specs.Word.{operation}
 use Rattle.machine.specs.Step.{d5_3, compute}
@@ -9,13 +8,10 @@ use Rattle.rules.proofs.Choices.{chosen}
 use Rattle.rules.proofs.Effects.{wrote}
 use Rattle.rules.proofs.arithmetic.Goals as goal
 
-pub comparison-requires : goal.comparison-requires
-comparison-requires c = record { opcode = omega arith; advanced = c.requires.begun.advanced }
-
 pub returns-then-w-eq0 : goal.returns-then-w-eq0
 unfolding compute
 returns-then-w-eq0 c =
     λ D.
     let w = c.args.w in
     wrote compute (chosen 0 w c.ranges.w.fits c.if-w-eq0.true) c.requires.begun.advanced
-    (d5_3 w) (λ s D. operation (f_of w) (ra_of w s) (rb_of w s)) (λ m. refl) c.operated.ensures c.done.ensures
+    (d5_3 w) (λ s D. operation (f_of w) (ra_of w s) (rb_of w s)) (λ m. refl) c.operated.ensures refl

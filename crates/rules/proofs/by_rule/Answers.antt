@@ -14,54 +14,54 @@ unfolding addi
 returns-in-2 c =
     let w = c.args.w in
     wrote addi (chosen 2 w c.ranges.w.fits (c.requires.begun.opcode ∙ c.in-2.is)) c.requires.begun.advanced
-    (d8_6 w) (λ s D. sum_of w s) (λ m. refl) c.summed.ensures c.done.ensures
+    (d8_6 w) (λ s D. sum_of w s) (λ m. refl) c.summed.ensures refl
 
 pub returns-in-3 : goal.returns-in-3
 unfolding ld
 returns-in-3 c =
     let w = c.args.w in
     loaded word_at_a' ld (chosen 3 w c.ranges.w.fits (c.requires.begun.opcode ∙ c.in-3.is)) c.requires.tests_lock c.requires.begun.advanced
-    (d8_6 w) (word_of w) (λ m. refl) c.load_word.ensures c.done-in-3.ensures
+    (d8_6 w) (word_of w) (λ m. refl) c.load_word.ensures refl
 
 pub returns-in-4 : goal.returns-in-4
 unfolding st
 returns-in-4 c =
     let w = c.args.w in
     stored word_at_a' st (chosen 4 w c.ranges.w.fits (c.requires.begun.opcode ∙ c.in-4.is)) c.requires.tests_lock c.requires.begun.advanced
-    (λ s D. put_word (clear0 (sum_of w s)) (rb_of w s) D) (λ m. refl) c.store_word.ensures c.done-in-4.ensures
+    (λ s D. put_word (clear0 (sum_of w s)) (rb_of w s) D) (λ m. refl) c.store_word.ensures refl
 
 pub returns-in-5 : goal.returns-in-5
 unfolding ldb
 returns-in-5 c =
     let w = c.args.w in
     loaded byte_at_a ldb (chosen 5 w c.ranges.w.fits (c.requires.begun.opcode ∙ c.in-5.is)) c.requires.tests_lock c.requires.begun.advanced
-    (d8_6 w) (byte_of w) (λ m. refl) c.load_byte.ensures c.done-in-5.ensures
+    (d8_6 w) (byte_of w) (λ m. refl) c.load_byte.ensures refl
 
 pub returns-in-6 : goal.returns-in-6
 unfolding stb
 returns-in-6 c =
     let w = c.args.w in
     stored byte_at_a stb (chosen 6 w c.ranges.w.fits (c.requires.begun.opcode ∙ c.in-6.is)) c.requires.tests_lock c.requires.begun.advanced
-    (λ s D. put_byte (sum_of w s) (rb_of w s) D) (λ m. refl) c.store_byte.ensures c.done-in-6.ensures
+    (λ s D. put_byte (sum_of w s) (rb_of w s) D) (λ m. refl) c.store_byte.ensures refl
 
 pub returns-in-7 : goal.returns-in-7
 unfolding jalr
 returns-in-7 c =
     let w = c.args.w in
     jumped jalr (chosen 7 w c.ranges.w.fits (c.requires.begun.opcode ∙ c.in-7.is)) c.requires.begun.advanced
-    (link_of w) (λ m. refl) c.link.ensures c.done-in-7.ensures
+    (link_of w) (λ m. refl) c.link.ensures refl
 
 pub returns-in-8 : goal.returns-in-8
 returns-in-8 c =
     let w = c.args.w in
     jumped _ (chosen 8 w c.ranges.w.fits (c.requires.begun.opcode ∙ c.in-8.is)) c.requires.begun.advanced
-    (branch_of w) (branches w) c.branch-w.ensures c.done-in-8.ensures
+    (branch_of w) (branches w) c.branch-w.ensures refl
 
 pub returns-in-9 : goal.returns-in-9
 returns-in-9 c =
     let w = c.args.w in
     wrote _ (chosen 9 w c.ranges.w.fits (c.requires.begun.opcode ∙ c.in-9.is)) c.requires.begun.advanced
-    (d11_9 w) (λ s D. move_of w s) (moves w) c.moved.ensures c.done-in-9.ensures
+    (d11_9 w) (λ s D. move_of w s) (moves w) c.moved.ensures refl
 
 pub returns-in-11 : goal.returns-in-11
 returns-in-11 c = c.product.ensures _
@@ -72,4 +72,4 @@ returns-in-12 c = c.interrupt.ensures _
 pub returns-in_default : goal.returns-in_default
 returns-in_default c =
     let w = c.args.w in
-    stopped (past_12 _ w c.ranges.w.fits c.requires.begun.opcode (omega (arith, past_from 2 8 c.args.op c.requires.le_op.0 c.in_default.in_default-own.rest.0.0, c.in_default.in_default-own.rest.0.1, c.in_default.in_default-own.rest.1, c.requires.le_op.1))) c.stopped.ensures
+    stopped (past_12 _ w c.ranges.w.fits c.requires.begun.opcode (omega (arith, past_from 2 8 c.args.op c.requires.le_op.0 c.in_default.in_default-own.rest.0.0, c.in_default.in_default-own.rest.0.1, c.in_default.in_default-own.rest.1, c.requires.le_op.1))) refl

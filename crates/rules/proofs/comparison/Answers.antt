@@ -14,9 +14,9 @@ unfolding compare
 returns-then-is_below_6_but c =
     λ D.
     wrote compare (by_its_f 1 (below6_but 2) _ (rule compare) c.ranges.w.fits c.requires.opcode (sym c.is_below_6_but.ensures ∙ c.if-is_below_6_but.true) refl) c.requires.advanced
-    (d5_3 c.args.w) (λ s D. comparison (f_of c.args.w) (ra_of c.args.w s) (rb_of c.args.w s)) (λ m. refl) c.compared.ensures c.done.ensures
+    (d5_3 c.args.w) (λ s D. comparison (f_of c.args.w) (ra_of c.args.w s) (rb_of c.args.w s)) (λ m. refl) c.compared.ensures refl
 
 pub returns-else-is_below_6_but : goal.returns-else-is_below_6_but
 returns-else-is_below_6_but c =
     λ D.
-    stopped (by_its_f 1 (below6_but 2) _ (rule compare) c.ranges.w.fits c.requires.opcode (sym c.is_below_6_but.ensures ∙ c.if-is_below_6_but.false) refl) c.stopped.ensures
+    stopped (by_its_f 1 (below6_but 2) _ (rule compare) c.ranges.w.fits c.requires.opcode (sym c.is_below_6_but.ensures ∙ c.if-is_below_6_but.false) refl) refl

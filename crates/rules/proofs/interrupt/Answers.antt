@@ -13,9 +13,9 @@ returns-then-w-lt4 c =
     λ D.
     let w = c.args.w in
     jumped interrupt (by_its_f 12 (λ f. ltb f 4) w (rule interrupt) c.ranges.w.fits c.requires.opcode (lt-ltb _ _ c.if-w-lt4.true) refl) c.requires.advanced
-    (λ s next. interrupt_of w next) (interrupts w) c.interrupted.ensures c.done.ensures
+    (λ s next. interrupt_of w next) (interrupts w) c.interrupted.ensures refl
 
 pub returns-else-w-lt4 : goal.returns-else-w-lt4
 returns-else-w-lt4 c =
     λ D.
-    stopped (by_its_f 12 (λ f. ltb f 4) _ (rule interrupt) c.ranges.w.fits c.requires.opcode (le-ltb _ _ c.if-w-lt4.false) refl) c.stopped.ensures
+    stopped (by_its_f 12 (λ f. ltb f 4) _ (rule interrupt) c.ranges.w.fits c.requires.opcode (le-ltb _ _ c.if-w-lt4.false) refl) refl

@@ -13,7 +13,7 @@ pub returns-then-divides_by_zero : goal.returns-then-divides_by_zero
 returns-then-divides_by_zero c =
     λ D.
     divided_by_zero multiply_divide (is_division c.args.w) (by_its_f 11 (below6_but 3) _ _ c.ranges.w.fits c.requires.opcode (sym c.is_below_6_but.ensures ∙ c.if-is_below_6_but.true) refl)
-    (sym c.divides_by_zero.ensures ∙ c.if-divides_by_zero.true) c.stopped.ensures
+    (sym c.divides_by_zero.ensures ∙ c.if-divides_by_zero.true) refl
 
 pub returns-else-divides_by_zero : goal.returns-else-divides_by_zero
 unfolding multiply_divide
@@ -21,9 +21,9 @@ returns-else-divides_by_zero c =
     λ D.
     divided multiply_divide (is_division c.args.w) (by_its_f 11 (below6_but 3) _ _ c.ranges.w.fits c.requires.opcode (sym c.is_below_6_but.ensures ∙ c.if-is_below_6_but.true) refl)
     (sym c.divides_by_zero.ensures ∙ c.if-divides_by_zero.false) c.requires.advanced
-    (d5_3 c.args.w) (λ s D. muldiv (f_of c.args.w) (ra_of c.args.w s) (rb_of c.args.w s)) (λ m. refl) c.multiplied.ensures c.done.ensures
+    (d5_3 c.args.w) (λ s D. muldiv (f_of c.args.w) (ra_of c.args.w s) (rb_of c.args.w s)) (λ m. refl) c.multiplied.ensures refl
 
 pub returns-else-is_below_6_but : goal.returns-else-is_below_6_but
 returns-else-is_below_6_but c =
     λ D.
-    stopped (by_its_f 11 (below6_but 3) _ _ c.ranges.w.fits c.requires.opcode (sym c.is_below_6_but.ensures ∙ c.if-is_below_6_but.false) refl) c.stopped-else-is_below_6_but.ensures
+    stopped (by_its_f 11 (below6_but 3) _ _ c.ranges.w.fits c.requires.opcode (sym c.is_below_6_but.ensures ∙ c.if-is_below_6_but.false) refl) refl

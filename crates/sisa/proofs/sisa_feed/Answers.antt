@@ -5,4 +5,4 @@ use Rattle.sisa.proofs.sisa_feed.Goals as goal
 
 pub returns : goal.returns
 unfolding sisa_feed
-returns c = c.fed.ensures ∙ ap sisa_fed c.feed_by.ensures
+returns c = c.from.ensures ∙ ap sisa_fed c.feed_by.ensures

@@ -6,4 +6,4 @@ use Rattle.sisa.proofs.sisa_raise.Goals as goal
 
 pub returns : goal.returns
 unfolding sisa_raise
-returns c = c.raised.ensures ∙ ap (λ (l : RaiseLeft). sisa_raised l.reply l.state) c.raise-raised.ensures
+returns c = c.from.ensures ∙ ap (λ (l : RaiseLeft). sisa_raised l.reply l.state) c.raise-raised.ensures

@@ -4,4 +4,4 @@ use Rattle.replies.specs.Sisa.{sisa_instruction}
 use Rattle.sisa.proofs.sisa_read.Goals as goal
 
 pub returns : goal.returns
-returns c = c.instruction.ensures ∙ ap sisa_instruction c.read.ensures
+returns c = c.from.ensures ∙ ap sisa_instruction c.read.ensures

@@ -3,4 +3,4 @@ use Rattle.sisa.proofs.Numbers.{save_meets}
 use Rattle.sisa.proofs.sisa_save.Goals as goal
 
 pub returns : goal.returns
-returns c = save_meets _ c.save-saved.ensures c.save.ensures
+returns c = save_meets _ c.save-saved.ensures c.from.ensures

@@ -1,7 +1,7 @@
--- A store at k of one more is `added` at k.
+-- A store at k of n more is `raised` at k.
 use mathlib.Core.Path.{sym}
-use Rattle.usage.proofs.Added.{added_one}
+use Rattle.usage.proofs.Raised.{raised_one}
 use Rattle.usage.proofs.add.Goals as goal
 
 pub returns : goal.returns
-returns c = sym (added_one _ _)
+returns c = sym (raised_one _ _ _)

@@ -1,22 +1,18 @@
--- Where the field is 3, the port and the log are written; elsewhere nothing changes.
-use mathlib.Core.Path.{refl, sym, ◌∙◌}
+-- By the test.
+use mathlib.Core.Path.{refl, sym, ap, ◌∙◌}
 use native.Mathlib.Nat.{div-one}
-use native.Mathlib.Omega.{arith}
+use lib.ListN.{set}
 use Rattle.datapath.proofs.fields.store_port.Goals as goal
 
-pub bounds-log-entries : goal.bounds-log-entries
-bounds-log-entries c = c.requires.1 (sym c.writes_port.ensures ∙ c.if-writes_port.true)
-
-pub offset_bounds-log-entries : goal.offset_bounds-log-entries
-offset_bounds-log-entries c = omega (arith, bounds-log-entries c)
-
-pub overflow_add-result : goal.overflow_add-result
-overflow_add-result c = omega (arith, bounds-log-entries c)
+pub push-requires : goal.push-requires
+push-requires c = c.requires.1 (sym c.writes_port.ensures ∙ c.if-writes_port.true)
 
 pub returns-then-writes_port : goal.returns-then-writes_port
 returns-then-writes_port c =
-    let port = sym c.writes_port.ensures ∙ c.if-writes_port.true in
-    rw (port, div-one, c.write_port.ensures, c.entry_of.ensures) (refl, refl, refl)
+    let p = c.push.ensures in
+    let entry = ap (set c.args.log.now.places.now c.args.log.now.entries) c.entry_of.ensures in
+    rw (sym c.writes_port.ensures ∙ c.if-writes_port.true, div-one)
+    record { outputs = c.write_port.ensures; places = p.places ∙ entry; entries = p.entries; same = p.same }
 
 pub returns-else-writes_port : goal.returns-else-writes_port
-returns-else-writes_port c = rw (sym c.writes_port.ensures ∙ c.if-writes_port.false) (refl, refl, refl)
+returns-else-writes_port c = rw (sym c.writes_port.ensures ∙ c.if-writes_port.false) record { outputs = refl; places = refl; entries = refl; same = record { places = refl; many = refl } }

@@ -1,11 +1,7 @@
--- The number of all the digits is that of the digits left after those read; the measure is how many are left.
-use Rattle.std.proofs.Common.{◌≡◌, ◌-◌}
-use Rattle.token.specs.Scan.{part}
+-- The number of all the digits is that of the digits left after those read.
+use Rattle.std.proofs.Common.{◌≡◌, drop}
 use Rattle.expression.specs.Reading.{number_leaf}
 use Rattle.expression.proofs.literals.number.Given as goal
 
-abbrev pub invariant-loop-i : goal.invariant-loop-i
-invariant-loop-i l = number_leaf l.base 0 (part l.from l.end l.text) ≡ number_leaf l.base l.n (part l.i l.end l.text)
-
-abbrev pub decreases-loop-i : goal.decreases-loop-i
-decreases-loop-i l = l.end - l.i
+abbrev pub invariant-loop-b : goal.invariant-loop-b
+invariant-loop-b l = number_leaf l.base 0 l.digits ≡ number_leaf l.base l.n (drop l.b-index l.digits)

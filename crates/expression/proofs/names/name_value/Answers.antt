@@ -1,16 +1,25 @@
--- The value by the whole table is that by what is left of it; the measure is how much is left.
-use Rattle.std.proofs.Common.{refl, rules}
-use Rattle.expression.proofs.Labels.{none_left, label_found, label_passed}
+-- By the label that was found.
+use Rattle.std.proofs.Common.{sym, ap, ◌∙◌, rules, tests}
+use Rattle.token.specs.Scan.{alike}
+use Rattle.std.proofs.lemmas.Iterator.{YieldsList-from_slice}
+use Rattle.std.proofs.lemmas.Iterator.Search.{find_from_yields_List}
+use Rattle.expression.proofs.Labels.{found_value, value_found}
 use Rattle.expression.proofs.names.name_value.Goals as goal
 
-pub loop-i-init : goal.loop-i-init
-loop-i-init c = (refl, search rules)
+pub returns-in-Some : goal.returns-in-Some
+returns-in-Some c =
+    let w = c.args.word.now in
+    let f =
+    find_from_yields_List (λ l. alike w l.name.now) _ _ c.find.result c.find.ensures.ran (YieldsList-from_slice c.args.names.now (cc))
+    (λ x b q k. search (rules, tests)) in
+    let g = rw c.in-Some.is at f in
+    sym (value_found w c.args.names.now ∙ ap found_value (sym g))
 
-pub returns-then-same_bytes : goal.returns-then-same_bytes
-returns-then-same_bytes c = label_found _ _ _ _ c.loop-i.invariant.0 c.loop-i-test.true c.same_bytes.ensures c.if-same_bytes.true
-
-pub loop-i-preserved : goal.loop-i-preserved
-loop-i-preserved c = (label_passed _ _ _ _ c.loop-i.invariant.0 c.loop-i-test.true c.same_bytes.ensures c.if-same_bytes.false, search rules)
-
-pub returns : goal.returns
-returns c = none_left _ _ _ _ c.loop-i.invariant.0 c.loop-i-test.false
+pub returns-in-None : goal.returns-in-None
+returns-in-None c =
+    let w = c.args.word.now in
+    let f =
+    find_from_yields_List (λ l. alike w l.name.now) _ _ c.find.result c.find.ensures.ran (YieldsList-from_slice c.args.names.now (cc))
+    (λ x b q k. search (rules, tests)) in
+    let g = rw c.in-None.is at f in
+    sym (value_found w c.args.names.now ∙ ap found_value (sym g))

@@ -4,8 +4,8 @@ use Rattle.token.specs.Scan.{tokens_at}
 use Rattle.expression.proofs.Leads.{Leading}
 use Rattle.expression.proofs.prefix.lead_at.Given as goal
 
-abbrev pub invariant-loop-symbol : goal.invariant-loop-symbol
-invariant-loop-symbol l = Leading l.text l.at l.minus l.here
+abbrev pub invariant-loop-negative : goal.invariant-loop-negative
+invariant-loop-negative l = Leading l.text l.at l.negative l.first
 
-abbrev pub decreases-loop-symbol : goal.decreases-loop-symbol
-decreases-loop-symbol l = length (tokens_at l.text l.here)
+abbrev pub decreases-loop-negative : goal.decreases-loop-negative
+decreases-loop-negative l = length (tokens_at l.text l.first.end)

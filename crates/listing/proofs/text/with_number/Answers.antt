@@ -1,30 +1,16 @@
--- By the sign of n.
+-- The digits are std's.
+use mathlib.Core.Path.{◌≡◌, ap, ◌∙◌}
 use native.Mathlib.Omega.{arith}
-use Rattle.isa.proofs.Signs.{negative, natural}
-use Rattle.listing.proofs.Numbers.{negative_text, natural_text}
+use lib.ListN.{length}
+use mir.Facts.{to_z-of_z}
+use Rattle.std.proofs.Common.{◌≤◌}
+use Rattle.std.specs.Fmt.{signed_decimal}
+use Rattle.printing.proofs.Writing.{at_most}
+use Rattle.listing.proofs.Numbers.{text_is, text_short}
 use Rattle.listing.proofs.text.with_number.Goals as goal
-
-pub overflow_cast-before : goal.overflow_cast-before
-overflow_cast-before c =
-    let v = negative c.args.n c.ranges.n c.if-n-lt0.true in
-    rw v.bits (tt, record { fits = omega (arith, v.small) })
-
-pub overflow_add-before : goal.overflow_add-before
-overflow_add-before c =
-    let v = negative c.args.n c.ranges.n c.if-n-lt0.true in
-    rw v.bits (record { fits = omega (arith, v.small) })
-
-pub returns-then-n-lt0 : goal.returns-then-n-lt0
-returns-then-n-lt0 c =
-    let v = negative c.args.n c.ranges.n c.if-n-lt0.true in
-    negative_text v v.bits c.with_byte.ensures c.with_decimal.ensures
-
-pub overflow_cast-n : goal.overflow_cast-n
-overflow_cast-n c =
-    let v = natural c.args.n c.ranges.n c.if-n-lt0.false in
-    rw v.bits (tt, record { fits = omega (arith, v.small) })
 
 pub returns : goal.returns
 returns c =
-    let v = natural c.args.n c.ranges.n c.if-n-lt0.false in
-    natural_text v v.bits c.with_decimal-2.ensures
+    let e : c.as_bytes.result.now ≡ signed_decimal c.args.n = c.as_bytes.ensures.value ∙ c.format.ensures.text ∙ ap signed_decimal (to_z-of_z c.ranges.n) in
+    let short : length (signed_decimal c.args.n) ≤ 21 = omega (arith, text_short c.args.n c.ranges.n) in
+    rw (text_is c.args.n c.ranges.n) (at_most short (rw e at c.with_word.ensures))

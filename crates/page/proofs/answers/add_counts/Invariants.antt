@@ -1,11 +1,6 @@
--- The loop adds place by place (`Added`); the measure is what is left of the counts.
-use Prim.Native.Nat.{◌-◌}
-use lib.ListN.{length}
+-- The loop adds place by place (`Added`).
 use Rattle.page.proofs.Sums.{Added}
 use Rattle.page.proofs.answers.add_counts.Given as goal
 
 abbrev pub invariant-loop-i : goal.invariant-loop-i
 invariant-loop-i l = Added l.initial.counts l.more l.counts l.i
-
-abbrev pub decreases-loop-i : goal.decreases-loop-i
-decreases-loop-i l = length l.initial.counts - l.i

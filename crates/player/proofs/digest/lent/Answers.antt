@@ -1,8 +1,7 @@
 -- Part after part.
-use Rattle.player.proofs.Digests.{lent_digest}
+use Rattle.std.proofs.Common.{rules}
+use Rattle.player.proofs.Digests.{digest_append}
 use Rattle.player.proofs.digest.lent.Goals as goal
 
 pub returns : goal.returns
-returns c =
-    rw (c.places.ensures, c.words-after-2.ensures, c.words-after.ensures, c.bytes-after-2.ensures, c.bytes-after.ensures)
-    (lent_digest _ _ _ _ _ _)
+returns c = simp digest_append (search rules)

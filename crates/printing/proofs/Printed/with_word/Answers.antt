@@ -1,12 +1,6 @@
--- The loop writes a byte for each element (`turn`); the measure is what is left of the word.
-use Rattle.printing.proofs.Writing.{byte, start, turn, whole, bytes}
+-- What fits is appended.
+use Rattle.printing.proofs.Writing.{wrote_word}
 use Rattle.printing.proofs.Printed.with_word.Goals as goal
 
-pub loop-i-init : goal.loop-i-init
-loop-i-init c = start byte 1 _
-
-pub loop-i-preserved : goal.loop-i-preserved
-loop-i-preserved c = turn c.loop-i.invariant c.loop-i-test.true c.with_byte-text.ensures
-
 pub returns : goal.returns
-returns c = bytes (whole c.loop-i.invariant c.loop-i-test.false)
+returns c = rw (← c.self.view_is) (wrote_word (rw c.write.ensures.count at c.write.ensures.bytes))

@@ -1,13 +1,9 @@
--- The loop writes a text for each element (`turn`); the measure is what is left of the log.
+-- The fold writes a line for each entry.
+use Rattle.std.proofs.Common.{rules}
+use Rattle.std.proofs.lemmas.Iterator.{YieldsList-from_slice}
+use Rattle.printing.proofs.Writing.{folded}
 use Rattle.report.specs.Printed.{out_line}
-use Rattle.printing.proofs.Writing.{start, turn, whole}
 use Rattle.report.proofs.lines.with_outs.Goals as goal
 
-pub loop-i-init : goal.loop-i-init
-loop-i-init c = start out_line 51 _
-
-pub loop-i-preserved : goal.loop-i-preserved
-loop-i-preserved c = turn c.loop-i.invariant c.loop-i-test.true c.with_out-written.ensures
-
 pub returns : goal.returns
-returns c = whole c.loop-i.invariant c.loop-i-test.false
+returns c = folded _ out_line 51 (YieldsList-from_slice _ c.iter.ensures.rest) (λ t x r f' k. search rules) c.fold.ensures.ran

@@ -1,9 +1,0 @@
--- The end stays in the input.
-use Rattle.std.proofs.Common.{◌-◌, ◌≤◌, length}
-use Rattle.conformance_texts.proofs.text_end.Given as goal
-
-abbrev pub invariant-loop-i : goal.invariant-loop-i
-invariant-loop-i l = (l.at ≤ l.i) × (l.i ≤ length l.input)
-
-abbrev pub decreases-loop-i : goal.decreases-loop-i
-decreases-loop-i l = length l.input - l.i
