@@ -8,6 +8,7 @@ ghost use Rattle.run.specs.Runs.{journal_if};
 ghost use Rattle.run.specs.Parts.{EndsWith};
 ghost use Rattle.places.specs.Places.{Cleared};
 ghost use Rattle.bus.specs.Lent.{SameBus, SameLog};
+ghost use Rattle.journal.specs.Parts.{IsEntry};
 ghost use Rattle.cycle.specs.Loops.{given_on, CanRun, RunsAccepted, StopsLocked};
 
 use bus::{Bus, Log};
@@ -36,6 +37,14 @@ fn takes_line(waits: bool, state: State) -> bool
     ensures { result ≡ takes_line state }
 {
     if waits { state.takes_line() } else { false }
+}
+
+// The journal's entry of the step of w. (Inlined, as `journal::entry` is.)
+#[inline(always)]
+fn step_entry(w: u16, state: State, bus: &Bus) -> u64
+    ensures { IsEntry w state bus.now.memory.now bus.now.inputs.now bus.now.outputs.now result }
+{
+    journal::entry(w, state, bus.memory, bus.inputs, bus.outputs)
 }
 
 // What a run replies that ends here.
@@ -109,7 +118,7 @@ pub fn run_accepted<E: Engine>(
             }
             let w = bus.fetch(state, program);
             if keeps {
-                entry = journal::entry(w, state, bus);
+                entry = step_entry(w, state, bus);
             }
             match engine.step(w, state, bus, log) {
                 Ok(next) => state = next,

@@ -1,7 +1,7 @@
 // What a step overwrites, as the entry of a journal, and a step taken back by such an entry.
 #![tactic(auto)]
 
-ghost use Rattle.std.specs.Prelude.{◌≡◌, ◌%◌, get_or};
+ghost use Rattle.std.specs.Prelude.{◌≡◌, ◌%◌, get_or, length};
 ghost use Rattle.bus.specs.Lent.{SameBus};
 ghost use Rattle.journal.specs.Journal.{coded, what_in, by_taking, entry_with, is_output};
 ghost use Rattle.journal.specs.declared.What.TheVariants.{Nothing};
@@ -84,31 +84,35 @@ fn address(w: u16, state: State) -> u16
 }
 
 // Of ST.
-fn of_word(w: u16, state: State, bus: &Bus) -> u64
-    ensures { result ≡ entry_with state.pc (word_before w state bus.now.memory.now) }
+fn of_word(w: u16, state: State, memory: &[u8]) -> u64
+    requires { length memory.now ≡ 65536 }
+    ensures { result ≡ entry_with state.pc (word_before w state memory.now) }
 {
     let at = address(w, state);
-    let held = bus.load_word(Address(at));
+    let held = bus::load_word(memory, Address(at));
     coded(state.pc, held, word::clear_bit0(at), What::DataWord, 0)
 }
 
 // Of STB.
-fn of_byte(w: u16, state: State, bus: &Bus) -> u64
-    ensures { result ≡ entry_with state.pc (byte_before w state bus.now.memory.now) }
+fn of_byte(w: u16, state: State, memory: &[u8]) -> u64
+    requires { length memory.now ≡ 65536 }
+    ensures { result ≡ entry_with state.pc (byte_before w state memory.now) }
 {
     let at = address(w, state);
-    coded(state.pc, bus.load_byte(Address(at)), at, What::DataByte, 0)
+    let held = bus::load_byte(memory, Address(at));
+    coded(state.pc, held, at, What::DataByte, 0)
 }
 
 // Of IN: from port 1, the key's data, input 0 is overwritten too.
-fn of_input(w: u16, state: State, bus: &Bus) -> u64
-    ensures { result ≡ entry_with state.pc (input_before w state bus.now.inputs.now) }
+fn of_input(w: u16, state: State, inputs: &[u16]) -> u64
+    requires { length inputs.now ≡ 256 }
+    ensures { result ≡ entry_with state.pc (input_before w state inputs.now) }
 {
     if w % 256 == 1 {
         coded(
             state.pc,
             state.register(w / 512),
-            bus::read_port(bus.inputs, Port(0)),
+            bus::read_port(inputs, Port(0)),
             What::KeyRead,
             (w / 512 % 8) as u8,
         )
@@ -118,14 +122,15 @@ fn of_input(w: u16, state: State, bus: &Bus) -> u64
 }
 
 // Of IN and OUT.
-fn at_port(w: u16, state: State, bus: &Bus) -> u64
-    ensures { result ≡ entry_with state.pc (port_before w state bus.now.inputs.now bus.now.outputs.now) }
+fn at_port(w: u16, state: State, inputs: &[u16], outputs: &[u16]) -> u64
+    requires { (length inputs.now ≡ 256) × (length outputs.now ≡ 256) }
+    ensures { result ≡ entry_with state.pc (port_before w state inputs.now outputs.now) }
 {
     if w / 256 % 2 == 0 {
-        of_input(w, state, bus)
+        of_input(w, state, inputs)
     } else {
         let port = w % 256;
-        let held = bus::read_port(bus.outputs, Port(port as u8));
+        let held = bus::read_port(outputs, Port(port as u8));
         coded(state.pc, held, port, What::Output, 0)
     }
 }
@@ -157,20 +162,21 @@ pub fn line_entry(state: State) -> u64
 
 // The entry of the step of w. (Inlined: a call of it would keep the state of a run in memory, step by step.)
 #[inline(always)]
-pub fn entry(w: u16, state: State, bus: &Bus) -> u64
-    ensures { IsEntry w state bus.now.memory.now bus.now.inputs.now bus.now.outputs.now result }
+pub fn entry(w: u16, state: State, memory: &[u8], inputs: &[u16], outputs: &[u16]) -> u64
+    requires { (length memory.now ≡ 65536) × (length inputs.now ≡ 256) × (length outputs.now ≡ 256) }
+    ensures { IsEntry w state memory.now inputs.now outputs.now result }
 {
     match w / 4096 {
         0 => of_register(state, w / 8),
         1 => of_register(state, w / 8),
         2 => of_register(state, w / 64),
         3 => of_register(state, w / 64),
-        4 => of_word(w, state, bus),
+        4 => of_word(w, state, memory),
         5 => of_register(state, w / 64),
-        6 => of_byte(w, state, bus),
+        6 => of_byte(w, state, memory),
         7 => of_register(state, w / 64),
         9 => of_register(state, w / 512),
-        10 => at_port(w, state, bus),
+        10 => at_port(w, state, inputs, outputs),
         11 => of_register(state, w / 8),
         12 => of_interrupt(w, state),
         _ => coded(state.pc, 0, 0, What::Nothing, 0),

@@ -81,7 +81,7 @@ loop-steps-2-preserved g c =
             | else-counts-ge-PLACES w ↦ counts_at_once _ v.counting w.if-counts-ge-PLACES.false w.counts-is (w.usage-is ∙ w.tally.ensures)
           ])
           (elim c.if-keeps-2.branch [
-            | then-keeps-2 w ↦ λ c P L. w.entry-is ∙ w.entry-entry.ensures P L
+            | then-keeps-2 w ↦ λ c P L. w.entry-is ∙ w.step_entry-entry.ensures P L
             | else-keeps-2 w ↦ λ c. never (sym w.if-keeps-2.false ∙ c)
           ])
           (elim c.if-keeps-3.branch [
