@@ -1,4 +1,4 @@
--- `ranked`: an operand, and operators of several ranks from the tightest on.
+-- `product` and `sum`: what the first of several ranks reads, and then the operators of the others, from the tightest on.
 -- Assumes nothing.
 use Rattle.std.proofs.Common.{◌≡◌, ℕ, zero, suc, ◌+◌, ◌-◌, ◌<◌, ◌≤◌, Bool, true, false, eqb, List, length, sym, refl, ap, ◌∙◌, subst, arith, eqb-true, Some, None}
 use borrow.Author.Tests.{eqb-false}
@@ -48,6 +48,9 @@ climb_parse d j (suc n) ts =
     ∙ ap (climb d (suc (suc j)) n)
     (chain_at d (suc j) (omega arith) ts ∙ ap (λ (k : ℕ). bind (parse d k ts) (follow (parse d (suc j - 1)) (suc j))) e)
 
+climb_from : (d j k : ℕ) → j ≤ k → (ts : List Token) → parse d k ts ≡ climb d (suc j) (k - j) (parse d j ts)
+climb_from d j k h ts = let e : k ≡ j + (k - j) = omega arith in ap (λ (x : ℕ). parse d x ts) e ∙ climb_parse d j (k - j) ts
+
 climb_refused : (d low n : ℕ) → climb d low n refused ≡ refused
 unfolding climb bind
 climb_refused d low zero = refl
@@ -76,40 +79,42 @@ climb_skip d low (suc n) t r to m e h f =
 
 -- ---- The loop
 
--- with what was read so far, after which operators of the ranks from low to k may follow
-pub record Climbing (mean : Token → Value) (s : List ℕ) (d k low : ℕ) (ts : List Token) (a : Parsed) : Type 0 where
+-- with what was read so far, of rank `first` to begin with, after which operators of the ranks from low to k may follow
+pub record Climbing (mean : Token → Value) (s : List ℕ) (d first k low : ℕ) (ts : List Token) (a : Parsed) : Type 0 where
   pub tree : Tree
   pub above : ℕ
-  pub least : 1 ≤ low
+  pub least : first < low
   pub ranks : low + above ≡ suc k
   pub same : parse d k ts ≡ climb d low above (read tree (tokens_at s a.next))
   pub value : value_of mean tree ≡ a.value
 
-module _ (mean : Token → Value) (s : List ℕ) (d k : ℕ) (ts : List Token) where
-  pub starts : {a : Parsed} → told s (Some a) ≡ mapped (value_of mean) (parse d 0 ts) → Climbing mean s d k 1 ts a
+module _ (mean : Token → Value) (s : List ℕ) (d first k : ℕ) (h : first ≤ k) (ts : List Token) where
+  pub starts : {a : Parsed} → told s (Some a) ≡ mapped (value_of mean) (parse d first ts) → Climbing mean s d first k (suc first) ts a
   unfolding told
   starts {a} e =
-      let (t, p, q) = from_read (value_of mean) (parse d 0 ts) (sym e) in
-      let z : k ≡ 0 + k = omega arith in
+      let (t, p, q) = from_read (value_of mean) (parse d first ts) (sym e) in
       record {
         tree = t;
-        above = k;
+        above = k - first;
         least = omega arith;
         ranks = omega arith;
-        same = ap (λ (x : ℕ). parse d x ts) z ∙ climb_parse d 0 k ts ∙ ap (climb d 1 k) p;
+        same = climb_from d first k h ts ∙ ap (climb d (suc first) (k - first)) p;
         value = q;
       }
 
-  -- no operand
-  pub starts_not : told s None ≡ mapped (value_of mean) (parse d 0 ts) → told s None ≡ mapped (value_of mean) (parse d k ts)
+  -- nothing of rank `first`
+  pub starts_not : told s None ≡ mapped (value_of mean) (parse d first ts) → told s None ≡ mapped (value_of mean) (parse d k ts)
   unfolding told mapped
   starts_not e =
-      let z : k ≡ 0 + k = omega arith in
-      let p = from_refused (value_of mean) (parse d 0 ts) (sym e) in
-      let q : parse d k ts ≡ refused = ap (λ (x : ℕ). parse d x ts) z ∙ climb_parse d 0 k ts ∙ ap (climb d 1 k) p ∙ climb_refused d 1 k in
+      let p = from_refused (value_of mean) (parse d first ts) (sym e) in
+      let q : parse d k ts ≡ refused = climb_from d first k h ts ∙ ap (climb d (suc first) (k - first)) p ∙ climb_refused d (suc first) (k - first) in
       rw q
 
-module _ {mean : Token → Value} {s : List ℕ} {d k low : ℕ} {ts : List Token} {a : Parsed} (i : Climbing mean s d k low ts a) where
+-- where operators of one rank were asked for
+pub one_rank : {s : List ℕ} {at k : ℕ} {j : Join} → Between s at k k (Some j) → k ≡ rank_of (shown_operator j.operator)
+one_rank h = omega (arith, h.1, h.2)
+
+module _ {mean : Token → Value} {s : List ℕ} {d first k low : ℕ} {ts : List Token} {a : Parsed} (i : Climbing mean s d first k low ts a) where
   pub climb_stops : Between s a.next low k None → told s (Some a) ≡ mapped (value_of mean) (parse d k ts)
   unfolding told climb mapped
   climb_stops h =
@@ -145,7 +150,7 @@ module _ {mean : Token → Value} {s : List ℕ} {d k low : ℕ} {ts : List Toke
     climb_refuses e = rw (here, from_refused (value_of mean) _ (sym e), climb_refused d (suc q) (k - q))
 
     module _ (b : Parsed) (e : told s (Some b) ≡ mapped (value_of mean) (parse d (q - 1) (tokens_at s j.end))) where
-      pub climbs : {r : Parsed} → r.value ≡ operated (shown_operator j.operator) a.value b.value → r.next ≡ b.next → Climbing mean s d k q ts r
+      pub climbs : {r : Parsed} → r.value ≡ operated (shown_operator j.operator) a.value b.value → r.next ≡ b.next → Climbing mean s d first k q ts r
       unfolding told climb bind value_of
       climbs {r} f g =
           let (y, p, w) = from_read (value_of mean) (parse d (q - 1) (tokens_at s j.end)) (sym e) in
@@ -167,5 +172,5 @@ module _ {mean : Token → Value} {s : List ℕ} {d k low : ℕ} {ts : List Toke
           subst (Within (length (tokens_at s j.end))) p (within_parse d (q - 1) (tokens_at s j.end)) in
           rw h.0.split (omega arith)
 
--- the steps of `ranked`
+-- the steps of `product` and `sum`
 pub ruleset climb_steps = (starts, starts_not, climbs)

@@ -1,10 +1,17 @@
 // The operators, modulo 65,536.
-ghost use Rattle.std.specs.Prelude.{◌≡◌};
+ghost use Rattle.std.specs.Prelude.{◌≡◌, ◌*◌, ◌%◌};
 ghost use Rattle.expression.specs.Operands.{rank_of, operated_of, operated, negated};
 ghost use Rattle.expression.specs.Reading.{shown_operator, OperatorOf};
 
 use crate::Value;
 use token::Symbol;
+
+// The product fits 32 bits.
+fn product16(x: u16, y: u16) -> u16
+    ensures { result ≡ x * y % 65536 }
+{
+    ((x as u32) * (y as u32) % 65536) as u16
+}
 
 #[derive(Clone, Copy)]
 pub enum Operator {
@@ -50,7 +57,7 @@ impl Operator {
         ensures { result ≡ operated_of (shown_operator self) x y }
     {
         match self {
-            Self::Times => x.wrapping_mul(y),
+            Self::Times => product16(x, y),
             Self::Plus => x.wrapping_add(y),
             Self::Minus => x.wrapping_sub(y),
             Self::Shift => x.checked_shl(u32::from(y)).unwrap_or(0),

@@ -65,8 +65,9 @@ fn leaf(text: &[u8], names: &[Label], t: Token) -> Option<Parsed>
     Some(Parsed { value, next: t.end })
 }
 
-// The operator at a position, if its rank is one from low to high.
+// The operator at a position, if its rank is one from low to high. (Inlined, as `product` is: a line of products took half as long again.)
 #[tactic(auto, using(crate::proofs::After::operator))]
+#[inline(always)]
 fn operator_at(text: &[u8], at: usize, low: usize, high: usize) -> Option<Join>
     requires { 1 ≤ low }
     ensures { Between text.now at low high result }
@@ -98,7 +99,7 @@ fn signed(negative: bool, p: Parsed) -> Parsed
 }
 
 // An operand, or minus signs before one. Parentheses may nest to `depth`.
-#[cycle(operand_ranked)]
+#[cycle(operand_product_sum)]
 #[tactic(auto, using(crate::proofs::Begun::beginnings))]
 fn operand(text: &[u8], names: &[Label], at: usize, depth: usize) -> Option<Parsed>
     ensures { Answers text.now names.now at depth 0 result }
@@ -106,24 +107,45 @@ fn operand(text: &[u8], names: &[Label], at: usize, depth: usize) -> Option<Pars
     let lead = prefix::lead_at(text, at)?;
     let first = lead.first;
     if first.symbol.is(b'(') {
-        let inner = ranked(text, names, first.end, 5, depth.checked_sub(1)?)?;
+        let inner = sum(text, names, first.end, 5, depth.checked_sub(1)?)?;
         return Some(signed(lead.negative, closed(text, inner)?));
     }
     Some(signed(lead.negative, leaf(text, names, first)?))
 }
 
-// Operands and the operators of the ranks 1 to `rank`, at most 5. After one of rank `low` no tighter one comes.
-#[cycle(operand_ranked)]
+// Operands and `*`.
+#[cycle(operand_product_sum)]
 #[tactic(auto, using(crate::proofs::Climb::climb_steps))]
-fn ranked(text: &[u8], names: &[Label], at: usize, rank: usize, depth: usize) -> Option<Parsed>
-    requires { rank ≤ 5 }
-    ensures { Answers text.now names.now at depth rank result }
+#[inline(always)]
+fn product(text: &[u8], names: &[Label], at: usize, depth: usize) -> Option<Parsed>
+    ensures { Answers text.now names.now at depth 1 result }
 {
     let mut total = operand(text, names, at, depth)?;
-    let mut low = 1;
+    while let Some(join) = operator_at(text, total.next, 1, 1) {
+        let right = operand(text, names, join.end, depth)?;
+        total = Parsed {
+            value: join.operator.operated(total.value, right.value),
+            next: right.next,
+        };
+    }
+    Some(total)
+}
+
+// Products and the operators of the ranks 2 to `rank`, at most 5. After one of rank `low` no tighter one comes.
+#[cycle(operand_product_sum)]
+#[tactic(auto, using(crate::proofs::Climb::climb_steps))]
+fn sum(text: &[u8], names: &[Label], at: usize, rank: usize, depth: usize) -> Option<Parsed>
+    requires { (1 ≤ rank) × (rank ≤ 5) }
+    ensures { Answers text.now names.now at depth rank result }
+{
+    let mut total = product(text, names, at, depth)?;
+    if rank == 1 {
+        return Some(total);
+    }
+    let mut low = 2;
     while let Some(join) = operator_at(text, total.next, low, rank) {
         low = join.operator.rank();
-        let right = ranked(text, names, join.end, low - 1, depth)?;
+        let right = sum(text, names, join.end, low - 1, depth)?;
         total = Parsed {
             value: join.operator.operated(total.value, right.value),
             next: right.next,
@@ -136,5 +158,5 @@ fn ranked(text: &[u8], names: &[Label], at: usize, rank: usize, depth: usize) ->
 pub fn value_at(text: &[u8], names: &[Label], at: usize) -> Option<Parsed>
     ensures { Answers text.now names.now at 16 5 result }
 {
-    ranked(text, names, at, 5, 16)
+    sum(text, names, at, 5, 16)
 }
