@@ -9,7 +9,7 @@ use Rattle.token.specs.Ascii.{byte}
 unfoldable pub digit : ℕ → ℕ
 digit d = pick (ltb d 10) (byte "0" + d) (byte "A" + (d - 10))
 
--- n in decimal, in at most so many digits: one, or those of n / 10 and then the last. n + 1 digits are always enough (`same`
+-- n in decimal, in at most so many digits: one, or those of n / 10 and then the last. n + 1 digits are always enough (`decimal_is`
 -- of proofs/Decimal.antt).
 unfoldable pub digits : ℕ → ℕ → List ℕ
 digits zero n = []

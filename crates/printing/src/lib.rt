@@ -6,26 +6,32 @@ ghost use Rattle.std.specs.Prelude.{[], ◌∷◌, ◌≡◌, ◌<◌, length};
 ghost use Rattle.printing.specs.Text.{digit, decimal, hex4};
 ghost use Rattle.printing.specs.Writing.{Wrote};
 
-use arrayvec::ArrayVec;
 use itoa::Buffer;
-use std::io::Write;
 use std::marker::Model;
 
 // More than the longest text of this repository has.
 pub const CAPACITY: usize = 4096;
 
-// A text; a clause sees the list of its bytes.
-#[derive(Clone, Drop)]
+// A text; a clause sees the list of its bytes. They stand before count, zeros after them.
+#[derive(Clone, Copy)]
 pub struct Printed {
-    bytes: ArrayVec<u8, CAPACITY>,
+    bytes: [u8; CAPACITY],
+    count: usize,
 }
 
 impl Model for Printed {
-    ghost use Rattle.std.specs.Prelude.{ℕ, List};
+    ghost use Rattle.std.specs.Prelude.{ℕ, List, ◌≡◌, ◌≤◌, ◌++◌, ◌-◌, length, take, replicate};
+    ghost use Rattle.std.proofs.Common.{sym, ap, ◌∙◌};
 
     ghost Value = { List ℕ };
 
-    ghost view = { λ text. text.bytes.items };
+    ghost view = { λ text. take text.count text.bytes };
+
+    ghost invariant = { λ text. (text.count ≤ 4096) × (length (take text.count text.bytes) ≡ text.count) × (text.bytes ≡ take text.count text.bytes ++ replicate (4096 - text.count) 0) };
+
+    ghost inverse = { λ bytes. record { bytes = bytes ++ replicate (4096 - length bytes) 0; count = length bytes } };
+
+    ghost inverse_ok = { λ text h. ap (λ n. record { bytes = take text.count text.bytes ++ replicate (4096 - n) 0; count = n }) h.1 ∙ ap (λ l. record { bytes = l; count = text.count }) (sym h.2) };
 }
 
 // A digit in a base of at most 16, capitals.
@@ -40,21 +46,27 @@ impl Printed {
     pub fn empty() -> Self
         ensures { result ≡ [] }
     {
-        let bytes = ArrayVec::new();
-        Printed { bytes }
+        Printed {
+            bytes: [0; CAPACITY],
+            count: 0,
+        }
     }
 
     pub fn as_bytes(&self) -> &[u8]
         ensures { result.now ≡ self.now }
     {
-        &self.bytes
+        let end = self.count;
+        &self.bytes[..end]
     }
 
     pub fn with_word(mut self, word: &[u8]) -> Self
         ensures { Wrote (length word.now) word.now self result }
     {
-        // It writes what fits, and never fails.
-        let _ = self.bytes.write(word);
+        let at = self.count;
+        let fits = word.len().min(CAPACITY - at);
+        let end = at + fits;
+        self.bytes[at..end].copy_from_slice(&word[..fits]);
+        self.count = end;
         self
     }
 
