@@ -173,7 +173,7 @@ fn place(file: &[u8], part: Part, target: &mut [u8])
     ensures { target.new ≡ take part.count (drop part.offset file.now) ++ replicate (length target.old - part.count) 0 }
 {
     let end = part.offset + part.count;
-    target[..part.count].copy_from_slice(&file[part.offset..end]);
+    block::copy(&file[part.offset..end], &mut target[..part.count]);
     target[part.count..].fill(0);
 }
 

@@ -106,7 +106,7 @@ fn put_at(source: &[u8], count: usize, target: &mut [u8], at: usize)
     requires { (count ≤ length source.now) × (at + count ≤ length target.old) }
     ensures { target.new ≡ take at target.old ++ take count source.now ++ drop (at + count) target.old }
 {
-    target[at..at + count].copy_from_slice(&source[..count]);
+    block::copy(&source[..count], &mut target[at..at + count]);
 }
 
 // A byte of data memory, zero where it is locked.
