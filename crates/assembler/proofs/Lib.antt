@@ -5,4 +5,5 @@ pub mod Scanning
 pub mod Writing
 pub mod Giving
 pub mod Lines
+pub mod Numbering
 pub mod Replying

@@ -24,6 +24,7 @@ use Rattle.assembler.specs.Text.{Place, start, lines, readings, text_lines, admi
 use Rattle.encoding.specs.Words.{Judged, bad, nothing, gives}
 use Rattle.assembler.specs.Passes.{lines_from, finish, finish_by, Scanned, Fine, WrittenBy, AssembledBy, shown_assembly}
 use Rattle.assembler.proofs.LineEnds.{first_and_more}
+use Rattle.assembler.proofs.Numbering.{Numbered, turned_away_numbered}
 
 -- ---- In a long text a line is turned away
 
@@ -69,6 +70,9 @@ module _ (long : Bool) (text : List ℕ) where
 
     refused_reply : {f : Rejected} → r.reply ≡ Err f → reply_from 1 0 come_to ≡ text_refused f.line (refusal_number f.refusal)
     refused_reply e = sym reply ∙ ap (finish_by r.line []) e
+
+    pub numbered : {f : Rejected} → r.reply ≡ Err f → Numbered (refusal_number f.refusal)
+    numbered e = turned_away_numbered names all start 1 0 _ _ (refused_reply e)
 
     words_reply : {n : ℕ} → r.reply ≡ Ok n → reply_from 1 0 come_to ≡ words n
     unfolding reply_from

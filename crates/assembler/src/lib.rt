@@ -22,7 +22,8 @@ pub const PROGRAM_BYTES: usize = 65536;
 // A text has at most so many bytes; of a longer one the line with the next byte is turned away.
 pub const TEXT_BYTES: usize = 65536;
 
-// The part of a text that is read.
+// The part of a text that is read. (Not inlined: a call that is refused for its lengths would pay for this frame.)
+#[inline(never)]
 fn assembled(text: &[u8], long: bool, program: &mut [u8]) -> Result<u32, Rejected>
     requires { (length text.now ≤ 65536) × (length program.old ≡ 65536) }
     ensures { AssembledBy long text.now program.old program.new result }
@@ -35,10 +36,10 @@ fn assembled(text: &[u8], long: bool, program: &mut [u8]) -> Result<u32, Rejecte
     let mut again = [blank; passes::NAMES];
     let first = passes::pass(text, &[], &mut table, &mut [], long);
     let mut kept = [0; PROGRAM_BYTES];
-    kept.copy_from_slice(program);
+    block::copy(program, &mut kept);
     let second = passes::pass(text, &table[0..first.labels], &mut again, program, long);
     if second.reply.is_err() {
-        program.copy_from_slice(&kept);
+        block::copy(&kept, program);
     }
     second.reply
 }

@@ -1,4 +1,5 @@
 pub mod Every
 pub mod Numbers
 pub mod Lines
+pub mod PartMasks
 pub mod Signs
