@@ -101,7 +101,9 @@ fn long<E: Engine>(
     }
 }
 
-// A run that counts its steps, at once or by place, with a journal where it keeps one.
+// A run that counts its steps, at once or by place, with a journal where it keeps one. (Inlined, as `run` is: each call of a function
+// between the export and the loop hands the reply on once more, a fifth of what a call of one step takes.)
+#[inline(always)]
 fn counted<E: Engine>(
     engine: &E,
     state: State,
@@ -116,30 +118,28 @@ fn counted<E: Engine>(
 ) -> Counted
     ensures { RunsWith (E.stepper engine.now) state program memory inputs outputs budget log (journal_if «keeps» journal.old) (journal_if «keeps» journal.new) result }
 {
-    let ran = if budget < LONG {
-        let mut counts = [0u32; 0];
-        tallied(
-            engine,
-            state,
-            program,
-            memory,
-            inputs,
-            outputs,
-            budget,
-            log,
-            keeps,
-            journal,
-            &mut counts,
-        )
-    } else {
-        long(
+    if LONG <= budget {
+        return run::with_ticks(long(
             engine, state, program, memory, inputs, outputs, budget, log, keeps, journal,
-        )
-    };
-    run::with_ticks(ran)
+        ));
+    }
+    run::with_ticks(tallied(
+        engine,
+        state,
+        program,
+        memory,
+        inputs,
+        outputs,
+        budget,
+        log,
+        keeps,
+        journal,
+        &mut [],
+    ))
 }
 
 // A run by an engine.
+#[inline(always)]
 pub fn run<E: Engine>(
     engine: &E,
     state: State,
@@ -152,7 +152,7 @@ pub fn run<E: Engine>(
 ) -> Counted
     ensures { RunsCounted (E.stepper engine.now) state program memory inputs outputs budget log result }
 {
-    let mut journal = [0u64; 0];
+    let keeps = false;
     counted(
         engine,
         state,
@@ -162,12 +162,13 @@ pub fn run<E: Engine>(
         outputs,
         budget,
         log,
-        false,
-        &mut journal,
+        keeps,
+        &mut [],
     )
 }
 
 // A run by the rules.
+#[inline(always)]
 pub fn run_by_rules(
     state: State,
     program: &[u8],
@@ -183,6 +184,7 @@ pub fn run_by_rules(
 }
 
 // A run by the control table.
+#[inline(always)]
 pub fn run_by_table(
     state: State,
     program: &[u8],
@@ -194,13 +196,22 @@ pub fn run_by_table(
 ) -> Counted
     ensures { RunsCounted by_the_table state program memory inputs outputs budget log result }
 {
-    let table = Table {
-        words: control_table(),
-    };
-    run(&table, state, program, memory, inputs, outputs, budget, log)
+    run(
+        &Table {
+            words: control_table(),
+        },
+        state,
+        program,
+        memory,
+        inputs,
+        outputs,
+        budget,
+        log,
+    )
 }
 
 // A run by the rules with a journal.
+#[inline(always)]
 pub fn run_by_rules_with_journal(
     state: State,
     program: &[u8],
@@ -219,6 +230,7 @@ pub fn run_by_rules_with_journal(
 }
 
 // A run by the control table with a journal.
+#[inline(always)]
 pub fn run_by_table_with_journal(
     state: State,
     program: &[u8],
@@ -231,11 +243,19 @@ pub fn run_by_table_with_journal(
 ) -> Counted
     ensures { RunsJournaled by_the_table state program memory inputs outputs budget log journal result }
 {
-    let table = Table {
-        words: control_table(),
-    };
     counted(
-        &table, state, program, memory, inputs, outputs, budget, log, true, journal,
+        &Table {
+            words: control_table(),
+        },
+        state,
+        program,
+        memory,
+        inputs,
+        outputs,
+        budget,
+        log,
+        true,
+        journal,
     )
 }
 

@@ -110,7 +110,8 @@ fn two_rounds<E: Engine>(
     }
 }
 
-// A page by an engine: its refusals, then its two rounds.
+// A page by an engine: its refusals, then its two rounds. (Not inlined, so that a refused page does not pay for what an accepted one needs.)
+#[inline(never)]
 fn page<E: Engine>(
     engine: &E,
     trims: Trims,

@@ -16,7 +16,7 @@ use Rattle.expression.specs.declared.Value.{Value}
 use Rattle.expression.specs.Operands.{is_name}
 use Rattle.expression.specs.Reading.{Out}
 use Rattle.statement.specs.declared.operands.Taken.{Taken}
-use Rattle.statement.specs.Syntax.{Parts, table, of_row, line}
+use Rattle.statement.specs.Syntax.{Parts, table, no_statement, of_row, line}
 use Rattle.statement.specs.Reading.{outside, reads, row_of, read_items, finished, statement_of, line_by}
 use Rattle.statement.specs.Table.{items_of, cell, RowIs}
 use Rattle.statement.specs.Parts.{shown_parts, blank_value, told_parts}
@@ -57,8 +57,8 @@ module _ (expression : List Token → Out Value) (s : List ℕ) (l : List Token)
 -- ---- Lines
 
 module _ (expression : List Token → Out Value) (p : Parts Value) {ts : List Token} where
-  pub no_token : ts ≡ [] → statement_of expression p [] ts ≡ line_by expression p ts
-  unfolding line_by
+  pub no_token : ts ≡ [] → reads (line [] no_statement) ≡ line_by expression p ts
+  unfolding line_by statement_of
   no_token e = rw e
 
 module _ (expression : List Token → Out Value) (p : Parts Value) {s : List ℕ} {at : ℕ} {t : Found} (h : At s at t) where

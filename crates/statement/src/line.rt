@@ -55,12 +55,15 @@ fn statement_at<'a>(
 }
 
 // The line that begins at a position.
-#[tactic(auto, using(crate::proofs::Statements::line_steps), unfolding(crate::specs::Parts::shown_line))]
+#[tactic(auto, using(crate::proofs::Statements::line_steps), unfolding(crate::specs::Parts::shown_line, crate::specs::Parts::shown_content))]
 pub fn line_at<'a>(text: &'a [u8], names: &[Label], at: usize) -> Option<Content<'a>>
     ensures { shown_line result ≡ line_by (expression_of names.now) blank_value (tokens_at text.now at) }
 {
     let Some(first) = token::token_at(text, at) else {
-        return statement_at(text, names, at, None);
+        return Some(Content {
+            label: None,
+            statement: None,
+        });
     };
     let Some(second) = token::token_at(text, first.end) else {
         return statement_at(text, names, at, None);
